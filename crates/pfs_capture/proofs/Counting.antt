@@ -6,9 +6,11 @@ use Rattle.std.specs.Prelude.{Result, cond, ◌&&◌}
 use Rattle.pfs_capture_packets.specs.declared.packets.Reason.{Reason}
 use Rattle.pfs_capture_packets.specs.declared.packets.Reason.TheVariants as reason
 use Rattle.pfs_capture.specs.Accounts.{directions_with, evidence_counted, frame_counted}
-use Rattle.pfs_capture.specs.Traces.{Judged, account_of, directions_of, found_by, is_contradicted, is_found_by, is_late_record, is_none_for, is_record, left_out, records_with, same_evidence}
+use Rattle.pfs_capture.specs.Runs.{Judged}
+use Rattle.pfs_capture.specs.Traces.{account_of, directions_of, found_by, is_contradicted, is_found_by, is_late_record, is_none_for, is_record, left_out, records_with, same_evidence}
 use Rattle.pfs_capture.specs.declared.accounts.Account.{Account}
 use Rattle.pfs_capture.specs.declared.directions.Directions.{Directions}
+use Rattle.pfs_capture.specs.declared.instants.Instant.{Instant}
 use Rattle.pfs_capture.specs.declared.sorting.Evidence.{Evidence}
 use Rattle.pfs_capture.specs.declared.sorting.Evidence.TheVariants as evidence
 use Rattle.pfs_capture.specs.declared.sorting.Found.{Found}
@@ -86,40 +88,40 @@ directions-same js j r is =
     (count-same (λ x. is_contradicted x.outcome) js j (ap (λ (o : Result Found Reason). cond (is_contradicted o) 1 0) is))
 
 -- the account of one frame more is its frame counted
-pub account-more : (js : List Judged) (second : ℕ) (is_late : Bool) (outcome : Result Found Reason)
-    → frame_counted (account_of js) is_late outcome ≡ account_of (js ++ record { second = second; is_late = is_late; outcome = outcome } ∷ [])
-account-more js second is_late (Ok found) =
-    let j : Judged = record { second = second; is_late = is_late; outcome = Ok found } in
+pub account-more : (js : List Judged) (instant : Instant) (is_late : Bool) (outcome : Result Found Reason)
+    → frame_counted (account_of js) is_late outcome ≡ account_of (js ++ record { instant = instant; is_late = is_late; outcome = outcome } ∷ [])
+account-more js instant is_late (Ok found) =
+    let j : Judged = record { instant = instant; is_late = is_late; outcome = Ok found } in
     same_account _ _ _ _ _ _ _ _ _ _ (account_of (js ++ j ∷ [])) (length-more js j) (count-more (λ x. is_record x.outcome) js j 1 refl)
     (left reason.LinkType js j refl) (left reason.NotIp js j refl) (left reason.LaterFragment js j refl) (left reason.Cut js j refl) (left reason.TooShort js j refl) (left reason.NeitherWay js j refl)
     (late-more js j refl) (directions-more js j found refl)
-account-more js second is_late (Err reason.LinkType) =
-    let j : Judged = record { second = second; is_late = is_late; outcome = Err reason.LinkType } in
+account-more js instant is_late (Err reason.LinkType) =
+    let j : Judged = record { instant = instant; is_late = is_late; outcome = Err reason.LinkType } in
     same_account _ _ _ _ _ _ _ _ _ _ (account_of (js ++ j ∷ [])) (length-more js j) (count-same (λ x. is_record x.outcome) js j refl)
     (one-left reason.LinkType js j refl) (left reason.NotIp js j refl) (left reason.LaterFragment js j refl) (left reason.Cut js j refl) (left reason.TooShort js j refl) (left reason.NeitherWay js j refl)
     (late-same js j refl) (directions-same js j reason.LinkType refl)
-account-more js second is_late (Err reason.NotIp) =
-    let j : Judged = record { second = second; is_late = is_late; outcome = Err reason.NotIp } in
+account-more js instant is_late (Err reason.NotIp) =
+    let j : Judged = record { instant = instant; is_late = is_late; outcome = Err reason.NotIp } in
     same_account _ _ _ _ _ _ _ _ _ _ (account_of (js ++ j ∷ [])) (length-more js j) (count-same (λ x. is_record x.outcome) js j refl)
     (left reason.LinkType js j refl) (one-left reason.NotIp js j refl) (left reason.LaterFragment js j refl) (left reason.Cut js j refl) (left reason.TooShort js j refl) (left reason.NeitherWay js j refl)
     (late-same js j refl) (directions-same js j reason.NotIp refl)
-account-more js second is_late (Err reason.LaterFragment) =
-    let j : Judged = record { second = second; is_late = is_late; outcome = Err reason.LaterFragment } in
+account-more js instant is_late (Err reason.LaterFragment) =
+    let j : Judged = record { instant = instant; is_late = is_late; outcome = Err reason.LaterFragment } in
     same_account _ _ _ _ _ _ _ _ _ _ (account_of (js ++ j ∷ [])) (length-more js j) (count-same (λ x. is_record x.outcome) js j refl)
     (left reason.LinkType js j refl) (left reason.NotIp js j refl) (one-left reason.LaterFragment js j refl) (left reason.Cut js j refl) (left reason.TooShort js j refl) (left reason.NeitherWay js j refl)
     (late-same js j refl) (directions-same js j reason.LaterFragment refl)
-account-more js second is_late (Err reason.Cut) =
-    let j : Judged = record { second = second; is_late = is_late; outcome = Err reason.Cut } in
+account-more js instant is_late (Err reason.Cut) =
+    let j : Judged = record { instant = instant; is_late = is_late; outcome = Err reason.Cut } in
     same_account _ _ _ _ _ _ _ _ _ _ (account_of (js ++ j ∷ [])) (length-more js j) (count-same (λ x. is_record x.outcome) js j refl)
     (left reason.LinkType js j refl) (left reason.NotIp js j refl) (left reason.LaterFragment js j refl) (one-left reason.Cut js j refl) (left reason.TooShort js j refl) (left reason.NeitherWay js j refl)
     (late-same js j refl) (directions-same js j reason.Cut refl)
-account-more js second is_late (Err reason.TooShort) =
-    let j : Judged = record { second = second; is_late = is_late; outcome = Err reason.TooShort } in
+account-more js instant is_late (Err reason.TooShort) =
+    let j : Judged = record { instant = instant; is_late = is_late; outcome = Err reason.TooShort } in
     same_account _ _ _ _ _ _ _ _ _ _ (account_of (js ++ j ∷ [])) (length-more js j) (count-same (λ x. is_record x.outcome) js j refl)
     (left reason.LinkType js j refl) (left reason.NotIp js j refl) (left reason.LaterFragment js j refl) (left reason.Cut js j refl) (one-left reason.TooShort js j refl) (left reason.NeitherWay js j refl)
     (late-same js j refl) (directions-same js j reason.TooShort refl)
-account-more js second is_late (Err reason.NeitherWay) =
-    let j : Judged = record { second = second; is_late = is_late; outcome = Err reason.NeitherWay } in
+account-more js instant is_late (Err reason.NeitherWay) =
+    let j : Judged = record { instant = instant; is_late = is_late; outcome = Err reason.NeitherWay } in
     same_account _ _ _ _ _ _ _ _ _ _ (account_of (js ++ j ∷ [])) (length-more js j) (count-same (λ x. is_record x.outcome) js j refl)
     (left reason.LinkType js j refl) (left reason.NotIp js j refl) (left reason.LaterFragment js j refl) (left reason.Cut js j refl) (left reason.TooShort js j refl) (one-left reason.NeitherWay js j refl)
     (late-same js j refl) (directions-same js j reason.NeitherWay refl)

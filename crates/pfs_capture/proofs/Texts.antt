@@ -4,12 +4,13 @@ use Rattle.std.specs.Prelude.{codes}
 use Rattle.std.specs.List.{count_by}
 use Rattle.std.proofs.lemmas.List.{flat_map_more}
 use Rattle.pfs_trace.specs.Columns.{header_text}
-use Rattle.pfs_capture.specs.Traces.{Judged, answer_text, answers_from, answers_text, frame_text, is_record, records_with, trace_text}
+use Rattle.pfs_capture.specs.Runs.{Judged}
+use Rattle.pfs_capture.specs.Traces.{answer_text, answers_from, answers_text, frame_text, is_record, records_with, trace_text}
 use Rattle.pfs_capture.proofs.Counting.{records_after, records_counted}
 
 -- a row more
-pub trace-more : (js : List Judged) (j : Judged) → trace_text (js ++ j ∷ []) ≡ trace_text js ++ frame_text j.second j.outcome
-trace-more js j = sym (flat_map_more (λ (x : Judged). frame_text x.second x.outcome) header_text js j)
+pub trace-more : (js : List Judged) (j : Judged) → trace_text (js ++ j ∷ []) ≡ trace_text js ++ frame_text j.instant.second j.outcome
+trace-more js j = sym (flat_map_more (λ (x : Judged). frame_text x.instant.second x.outcome) header_text js j)
 
 pub answers-none : (n : ℕ) → answers_from n [] ≡ []
 unfolding answers_from

@@ -14,14 +14,15 @@ use Rattle.pfs_capture.specs.declared.faults.TraceStop.TheVariants as stop
 abbrev pub frame_bytes : Frame → List ℕ → List ℕ
 frame_bytes frame held = take frame.count (drop frame.from held)
 
--- a frame of a capture: the type of its link, when it was seen, and its bytes
+-- a frame of a capture: the type of its link, when it was seen, the name of its interface if its block tells one, and its bytes
 pub record Seen : Type 0 where
   pub link : ℕ
   pub moment : Moment
+  pub name : Option (List ℕ)
   pub octets : List ℕ
 
 abbrev pub seen_of : Frame → List ℕ → Seen
-seen_of frame held = record { link = frame.link; moment = frame.moment; octets = frame_bytes frame held }
+seen_of frame held = record { link = frame.link; moment = frame.moment; name = frame.name; octets = frame_bytes frame held }
 
 -- the frames of a capture up to its end, or up to the fault that stops it
 abbrev pub Frames : Type 0

@@ -1,7 +1,12 @@
 pub mod Accounts
+pub mod Aheads
 pub mod Captures
 pub mod Faults
+pub mod Instants
+pub mod Merging
 pub mod Points
+pub mod Readers
+pub mod Runs
 pub mod Sorting
 pub mod Traces
 pub mod Turns

@@ -1,6 +1,7 @@
 -- Where a capture was taken, and which addresses are behind that interface. (own)
-use Rattle.std.specs.Prelude.{ℕ, Bool, not, List}
+use Rattle.std.specs.Prelude.{ℕ, Bool, not, List, [], ◌∷◌, Option, Some, None, if◌then◌else◌, option_and_then}
 use Rattle.std.specs.List.{list_any}
+use Rattle.std.specs.Str.{bytes_eq}
 use Rattle.pfs_addr_values.specs.Prefixes.{Network, covers}
 use Rattle.pfs_addr_values.specs.declared.addresses.Addr.{Addr}
 use Rattle.pfs_capture_packets.specs.declared.ways.Mac.{Mac}
@@ -26,3 +27,13 @@ is_on_side InFront is_in = not is_in
 -- whether an address is behind the interface: it is in the networks there, or in none of those in front
 abbrev pub is_behind : Point → Addr → Bool
 is_behind point addr = is_on_side point.side (is_in_networks point.networks addr)
+
+-- the first interface of this name
+abbrev pub point_named : List ℕ → List Point → Option Point
+point_named name [] = None
+point_named name (p ∷ ps) = if bytes_eq p.ifname name then Some p else point_named name ps
+
+-- the interface of a frame, among those of its capture: the only one, or the first of the name that the frame's block tells
+abbrev pub point_of : List Point → Option (List ℕ) → Option Point
+point_of (p ∷ []) name = Some p
+point_of points name = option_and_then (λ n. point_named n points) name

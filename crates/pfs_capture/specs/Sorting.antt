@@ -1,5 +1,5 @@
 -- The packet of a frame and its way, or why the frame is no record.
-use Rattle.std.specs.Prelude.{ℕ, ◌≡◌, ◌==◌, ◌&&◌, not, Bool, true, false, List, length, Option, Some, None, Result, Ok, if◌then◌else◌, ok_or, option_map}
+use Rattle.std.specs.Prelude.{ℕ, ◌≡◌, ◌==◌, ◌&&◌, not, Bool, true, false, List, length, Option, Some, None, Result, Ok, if◌then◌else◌, ok_or, option_and_then, option_map}
 use Rattle.std.specs.Option.{option_map_or}
 use Rattle.pfs_addr_values.specs.Addresses.{same_family}
 use Rattle.pfs_addr_values.specs.Names.{is_name}
@@ -11,7 +11,7 @@ use Rattle.pfs_capture_packets.specs.Ways.{cooked_dir, ethernet_dir}
 use Rattle.pfs_capture_packets.specs.declared.packets.IpPacket.{IpPacket}
 use Rattle.pfs_capture_packets.specs.declared.packets.Reason.{Reason}
 use Rattle.pfs_capture_packets.specs.declared.packets.Reason.TheVariants as reason
-use Rattle.pfs_capture.specs.Points.{Point, is_behind}
+use Rattle.pfs_capture.specs.Points.{Point, is_behind, point_of}
 use Rattle.pfs_capture.specs.declared.sorting.Evidence.TheVariants as evidence
 use Rattle.pfs_capture.specs.declared.sorting.Found.{Found}
 use Rattle.pfs_capture.specs.declared.sorting.Heading.{Heading}
@@ -57,16 +57,22 @@ heading_from Silent networks = option_map (λ dir. record { dir = dir; by = evid
 abbrev pub logged_way : List ℕ → Option Way
 logged_way frame = option_map (λ l. record { heading = record { dir = l.dir; by = evidence.Log; is_contradicted = false }; ifname = l.ifname }) (logged_of frame)
 
--- the way of a frame's packet and its interface: a log of packets has them itself
-abbrev pub way_of : Point → ℕ → List ℕ → IpPacket → Option Way
-way_of point link_type frame packet =
+-- the way of a frame's packet at an interface
+abbrev pub way_at : Point → ℕ → List ℕ → IpPacket → Option Way
+way_at point link_type frame packet =
+    option_map (λ heading. record { heading = heading; ifname = point.ifname }) (heading_from (by_link point link_type frame) (networks_dir point packet))
+
+-- the way of a frame's packet and its interface: a log of packets has them itself, and a frame that is of none of the capture's
+-- interfaces goes neither way
+abbrev pub way_of : List Point → Option (List ℕ) → ℕ → List ℕ → IpPacket → Option Way
+way_of points name link_type frame packet =
     if is_log link_type then logged_way frame
-    else option_map (λ heading. record { heading = heading; ifname = point.ifname }) (heading_from (by_link point link_type frame) (networks_dir point packet))
+    else option_and_then (λ point. way_at point link_type frame packet) (point_of points name)
 
 -- the packet of a frame, its way and what pf answered, or the one reason why it is no record
-abbrev pub found_in_frame : Point → ℕ → List ℕ → Result Found Reason
-found_in_frame point link_type frame =
-    then_read (packet_of link_type frame) (λ packet. then_read (ok_or (way_of point link_type frame packet) reason.NeitherWay) (λ way. Ok (record { way = way; packet = packet; answer = answer_in link_type frame })))
+abbrev pub found_in_frame : List Point → Option (List ℕ) → ℕ → List ℕ → Result Found Reason
+found_in_frame points name link_type frame =
+    then_read (packet_of link_type frame) (λ packet. then_read (ok_or (way_of points name link_type frame packet) reason.NeitherWay) (λ way. Ok (record { way = way; packet = packet; answer = answer_in link_type frame })))
 
 -- a packet whose ends are of one family, on an interface with a name, as a row has it
 abbrev pub IsFound : Found → Type 0

@@ -1,14 +1,11 @@
--- The trace of a capture, and the account of its frames. (own)
-use Rattle.std.specs.Prelude.{ℕ, ◌≡◌, ◌⊎◌, ◌+◌, ◌++◌, ◌&&◌, Bool, true, false, List, [], ◌∷◌, codes, flat_map, length, take, max, nat_lt, Option, Some, None, Result, Ok, Err, if◌then◌else◌}
+-- The trace of captures, and the account of their frames. (own)
+use Rattle.std.specs.Prelude.{ℕ, ◌≡◌, ◌⊎◌, ◌+◌, ◌++◌, ◌&&◌, Bool, true, false, List, [], ◌∷◌, codes, flat_map, length, take, Option, Some, None, Result, Ok, Err, ⊤}
 use Rattle.std.specs.Bool.{MatchBool}
 use Rattle.std.specs.List.{count_by}
 use Rattle.std.specs.Option.{option_map_or}
 use Rattle.pfs_capture_files.specs.Faults.{is_outside}
-use Rattle.pfs_capture_files.specs.Forms.{IsWithinStart}
+use Rattle.pfs_capture_files.specs.Forms.{IsWithinStart, start_of}
 use Rattle.pfs_capture_files.specs.declared.faults.FileFault.{FileFault}
-use Rattle.pfs_capture_files.specs.declared.forms.Form.{Form}
-use Rattle.pfs_capture_files.specs.declared.frames.Moment.{Moment}
-use Rattle.pfs_capture_files.specs.declared.frames.Moment.TheVariants.{At, Untold, Outside}
 use Rattle.pfs_capture_packets.specs.declared.packets.Reason.{Reason}
 use Rattle.pfs_capture_packets.specs.declared.packets.Reason.TheVariants as reason
 use Rattle.pfs_capture_answers.specs.Answers.{answer_row}
@@ -17,9 +14,8 @@ use Rattle.pfs_trace.specs.Columns.{header_text}
 use Rattle.pfs_trace.specs.Rows.{packet_row}
 use Rattle.pfs_trace.specs.declared.rows.Row.{Row}
 use Rattle.pfs_capture.specs.Accounts.{no_frames}
-use Rattle.pfs_capture.specs.Captures.{Frames, Seen, frames_from, most_items}
-use Rattle.pfs_capture.specs.Points.{Point}
-use Rattle.pfs_capture.specs.Sorting.{found_in_frame}
+use Rattle.pfs_capture.specs.Merging.{Given, captures_run, first_fault}
+use Rattle.pfs_capture.specs.Runs.{Judged, Run}
 use Rattle.pfs_capture.specs.declared.accounts.Account.{Account}
 use Rattle.pfs_capture.specs.declared.directions.Directions.{Directions}
 use Rattle.pfs_capture.specs.declared.faults.TraceStop.{TraceStop}
@@ -27,50 +23,6 @@ use Rattle.pfs_capture.specs.declared.faults.TraceStop.TheVariants as stop
 use Rattle.pfs_capture.specs.declared.sorting.Evidence.{Evidence}
 use Rattle.pfs_capture.specs.declared.sorting.Evidence.TheVariants as evidence
 use Rattle.pfs_capture.specs.declared.sorting.Found.{Found}
-
--- the second of a frame after one of this second: its own, but none before that
-abbrev pub second_after : ℕ → Moment → Result ℕ TraceStop
-second_after last (At second) = if nat_lt 4294967295 second then Err stop.Moment else Ok (max second last)
-second_after last Untold = Ok last
-second_after last Outside = Err stop.Moment
-
--- whether a frame was seen before this second, by its own moment
-abbrev pub is_before : Moment → ℕ → Bool
-is_before (At own) second = nat_lt own second
-is_before Untold second = false
-is_before Outside second = false
-
--- a frame in its second, whether it was seen before that, and whether it is a record or why it is none
-pub record Judged : Type 0 where
-  pub second : ℕ
-  pub is_late : Bool
-  pub outcome : Result Found Reason
-
--- a frame of a capture in this second
-abbrev pub judged_at : Point → Seen → ℕ → Judged
-judged_at point f second = record { second = second; is_late = is_before f.moment second; outcome = found_in_frame point f.link f.octets }
-
--- the frames of a capture in their seconds, and what stops the trace before the capture's end, if anything does
-abbrev pub Run : Type 0
-Run = List Judged × Option TraceStop
-
--- a frame in its second, and then those after it; or the fault of its moment
-abbrev pub at_second : Result ℕ TraceStop → (ℕ → Judged) → (ℕ → Run) → Run
-at_second (Ok second) judged more = (judged second ∷ (more second).0, (more second).1)
-at_second (Err f) judged more = ([], Some f)
-
--- these frames after one of this second
-unfoldable pub judged_from : Point → ℕ → List Seen → Option TraceStop → Run
-judged_from point last [] end = ([], end)
-judged_from point last (f ∷ fs) end =
-    at_second (second_after last f.moment) (λ second. judged_at point f second) (λ second. judged_from point second fs end)
-
-abbrev pub judged_frames : Point → ℕ → Frames → Run
-judged_frames point last frames = judged_from point last frames.0 frames.1
-
--- all frames of a capture that begins in this form, after its first bytes
-abbrev pub capture_run : Point → Form → List ℕ → Run
-capture_run point form xs = judged_frames point 0 (frames_from most_items form xs)
 
 -- ---- the texts
 
@@ -90,7 +42,7 @@ answer_text number (Err r) = []
 
 -- the trace: its header, and the rows of the frames that are records, in order
 abbrev pub trace_text : List Judged → List ℕ
-trace_text frames = header_text ++ flat_map (λ j. frame_text j.second j.outcome) frames
+trace_text frames = header_text ++ flat_map (λ j. frame_text j.instant.second j.outcome) frames
 
 -- how many records there are with one frame more
 abbrev pub records_with : ℕ → Result Found Reason → ℕ
@@ -216,15 +168,19 @@ TellsRun run trace answers account (Err stop.Memory) = TellsFirst run trace answ
 abbrev pub TellsNothing : List ℕ → List ℕ → Account → Type 0
 TellsNothing trace answers account = (trace ≡ []) × (answers ≡ []) × (account ≡ no_frames)
 
--- a read of how the capture begins failed, or memory was refused for it
-abbrev pub FailsToStart : Result Unit TraceStop → Type 0
-FailsToStart result = (f : FileFault) × (is_outside f ≡ true) × (result ≡ Err (stop.File f))
+-- the call ends with the fault of the first capture that does not begin; or a read of how one begins failed, or memory was refused for it
+abbrev pub EndsAtStart : Option FileFault → Result Unit TraceStop → Type 0
+EndsAtStart first result = (f : FileFault) × (result ≡ Err (stop.File f)) × (is_outside f ≡ false → first ≡ Some f)
 
--- What is written of a capture, by how it begins, what of it is unread afterwards, and how the call ends. Nothing is written of one
--- that begins only where no byte behind its beginning was read.
-abbrev pub TellsCapture : Point → Result (Form × List ℕ) FileFault → Option (List ℕ) → List ℕ → List ℕ → Account → Result Unit TraceStop → Type 0
-TellsCapture point (Ok begun) left trace answers account result =
-    TellsRun (capture_run point begun.0 begun.1) trace answers account result
-    ⊎ (TellsNothing trace answers account × FailsToStart result × IsWithinStart (Ok begun) left)
-TellsCapture point (Err f) left trace answers account result =
-    TellsNothing trace answers account × ((result ≡ Err (stop.File f)) ⊎ FailsToStart result)
+-- no byte behind its beginning was read of each capture that begins, by what of it is unread
+abbrev pub AreWithinStarts : List Given → List (Option (List ℕ)) → Type 0
+AreWithinStarts [] lefts = ⊤
+AreWithinStarts (g ∷ gs) [] = ⊥
+AreWithinStarts (g ∷ gs) (left ∷ lefts) = IsWithinStart (start_of g.octets) left × AreWithinStarts gs lefts
+
+-- What is written of captures, by what of each is unread afterwards, and how the call ends. Nothing is written where one of them does not
+-- begin; and of such that all begin only where no byte behind their beginnings was read.
+abbrev pub TellsCaptures : List Given → List (Option (List ℕ)) → List ℕ → List ℕ → Account → Result Unit TraceStop → Type 0
+TellsCaptures gs lefts trace answers account result =
+    ((first_fault gs ≡ None) × TellsRun (captures_run gs) trace answers account result)
+    ⊎ (TellsNothing trace answers account × EndsAtStart (first_fault gs) result × AreWithinStarts gs lefts)

@@ -2,9 +2,9 @@
 
 ghost use Rattle.std.specs.Prelude.{◌≡◌, IfOk, IfSome, true};
 ghost use Rattle.pfs_addr_values.specs.Names.{is_name};
-ghost use Rattle.pfs_capture.specs.Sorting.{IsFound, by_link, by_mac, contradicts, found_in_frame, heading_from, logged_way, networks_dir, way_between, way_of};
+ghost use Rattle.pfs_capture.specs.Sorting.{IsFound, by_link, by_mac, contradicts, found_in_frame, heading_from, logged_way, networks_dir, way_at, way_between, way_of};
 
-use crate::points::CapturePoint;
+use crate::points::{CapturePoint, point_of};
 use pfs_addr_values::{Dir, IfName};
 use pfs_capture_packets::{
     Answer, IpPacket, Reason, is_log, read_answer, read_cooked_dir, read_ethernet_dir, read_log,
@@ -69,13 +69,19 @@ pub struct Found {
 /// The packet of a frame of this link type with its way, or the one reason for which it is no record. A log of packets has the
 /// way itself, and a Linux cooked capture the direction. Of an Ethernet frame the interface's own addresses tell it, where
 /// they are given. Else what goes from the front of the interface to behind it comes in, and what goes the other way goes out.
-pub fn sort(point: &CapturePoint, link_type: u16, frame: &[u8]) -> Result<Found, Reason>
-    requires { is_name 15 point.now.ifname ≡ true }
-    ensures is { result ≡ found_in_frame point.now link_type frame.now }
+/// `name` is the interface that the frame's block tells: of several interfaces the frame is at that of this name, or else goes
+/// neither way.
+pub fn sort(
+    points: &[CapturePoint],
+    name: Option<IfName>,
+    link_type: u16,
+    frame: &[u8],
+) -> Result<Found, Reason>
+    ensures is { result ≡ found_in_frame points.now name link_type frame.now }
     ensures row { IfOk result IsFound }
 {
     let packet = read_packet(link_type, frame)?;
-    let way = way_of(point, link_type, frame, &packet).ok_or(Reason::NeitherWay)?;
+    let way = way_of(points, name, link_type, frame, &packet).ok_or(Reason::NeitherWay)?;
     Ok(Found {
         way,
         packet,
@@ -83,14 +89,27 @@ pub fn sort(point: &CapturePoint, link_type: u16, frame: &[u8]) -> Result<Found,
     })
 }
 
-fn way_of(point: &CapturePoint, link_type: u16, frame: &[u8], packet: &IpPacket) -> Option<Way>
-    requires { is_name 15 point.now.ifname ≡ true }
-    ensures is { result ≡ way_of point.now link_type frame.now packet.now }
+fn way_of(
+    points: &[CapturePoint],
+    name: Option<IfName>,
+    link_type: u16,
+    frame: &[u8],
+    packet: &IpPacket,
+) -> Option<Way>
+    ensures is { result ≡ way_of points.now name link_type frame.now packet.now }
     ensures name { IfSome result (λ w. is_name 15 w.ifname ≡ true) }
 {
     if is_log(link_type) {
         return logged_way(frame);
     }
+    way_at(point_of(points, name)?, link_type, frame, packet)
+}
+
+/// The way of a packet at an interface.
+fn way_at(point: &CapturePoint, link_type: u16, frame: &[u8], packet: &IpPacket) -> Option<Way>
+    ensures is { result ≡ way_at point.now link_type frame.now packet.now }
+    ensures name { IfSome result (λ w. is_name 15 w.ifname ≡ true) }
+{
     let heading = heading_from(
         by_link(point, link_type, frame),
         networks_dir(point, packet),

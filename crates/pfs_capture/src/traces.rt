@@ -1,40 +1,34 @@
-//! The trace of a capture, row by row, and in another file what pf answered.
+//! The trace of captures, row by row, and in another file what pf answered.
 
-ghost use Rattle.std.specs.Prelude.{◌≡◌, ◌⊎◌, ◌<◌, ◌≤◌, ◌^◌, ◌+◌, ◌++◌, ℕ, List, Some, Err, IfErr, IfOk, OnOk, true};
+ghost use Rattle.std.specs.Prelude.{◌≡◌, ◌⊎◌, ◌<◌, ◌≤◌, ◌^◌, ◌+◌, ◌++◌, ℕ, List, Err, IfErr, IfOk, OnOk, length, slice_get, slice_set};
 ghost use Rattle.std.specs.Io.KnownBytes.{Appends};
-ghost use Rattle.pfs_addr_values.specs.Names.{is_name};
-ghost use Rattle.pfs_capture_files.specs.Faults.{HasFailed};
-ghost use Rattle.pfs_capture_files.specs.Forms.{start_of};
 ghost use Rattle.pfs_capture_files.specs.declared.faults.FileFault.TheVariants as fault;
-ghost use Rattle.pfs_streams.specs.Feeds.{read_failures, unread};
+ghost use Rattle.pfs_streams.specs.Feeds.{unread};
 ghost use Rattle.pfs_streams.specs.Sinks.{bytes_held, write_failures};
-ghost use Rattle.pfs_capture.specs.Accounts.{AddsUp, no_frames};
+ghost use Rattle.pfs_capture.specs.Accounts.{AddsUp};
 ghost use Rattle.pfs_capture.specs.Captures.{frame_bytes, seen_of};
+ghost use Rattle.pfs_capture.specs.Merging.{Given};
+ghost use Rattle.pfs_capture.specs.Readers.{AreGiven, SomeFailed, failures_of, lefts_of};
+ghost use Rattle.pfs_capture.specs.Runs.{judged_at};
 ghost use Rattle.pfs_capture.specs.Sorting.{IsFound, found_in_frame};
-ghost use Rattle.pfs_capture.specs.Traces.{TellsCapture, answer_text, frame_text, is_before, second_after};
+ghost use Rattle.pfs_capture.specs.Traces.{TellsCaptures, answer_text, frame_text};
+ghost use Rattle.pfs_capture.specs.declared.captures.Capture.{Capture};
 ghost use Rattle.pfs_capture.specs.Turns.{Sends, TakesFrame, frame_taken};
 
 use crate::accounts::Account;
+use crate::captures::{Capture, MOST_ITEMS, Next};
 use crate::faults::TraceStop;
+use crate::instants::is_before;
+use crate::merging::{Place, ask_all, begin_all, earliest};
 use crate::points::CapturePoint;
 use crate::sorting::{Found, sort};
 use pfs_capture_answers::{ANSWER_HEADER, push_answer};
-use pfs_capture_files::{Frame, Item, Moment, read_item, read_start};
+use pfs_capture_files::Frame;
 use pfs_capture_packets::Reason;
-use pfs_streams::{Feed, Sink, write_whole};
+use pfs_streams::{Sink, write_whole};
 use pfs_trace::{HEADER, Row, push_row};
 use std::alloc::Global;
 use std::io::{Read, Write};
-
-/// The most items that are read of a capture.
-const MOST_ITEMS: u64 = 1_099_511_627_776;
-
-/// The account of the frames so far, and the second of the last one.
-#[derive(Clone, Copy)]
-pub struct Tally {
-    pub last: u64,
-    pub account: Account,
-}
 
 /// The texts of one frame: its row in the trace, and what pf answered. Each is empty where there is none.
 #[derive(Drop)]
@@ -43,75 +37,56 @@ pub struct Lines {
     pub answer: Vec<u8>,
 }
 
-/// Writes the trace of a capture: its header, and a row for each frame that holds a packet which comes in or goes out.
-/// Each row is written before the next frame is read. `told` gets what pf answered: a header, and a row for each record
-/// that is of a log of pflog(4). `account` counts the frames from 0 on, also where the trace ends before the capture.
+/// Writes the trace of captures: its header, and a row for each frame that holds a packet which comes in or goes out.
+/// Of captures of which nothing was read the frames are taken in the order of their moments, those of one moment in the
+/// order of the captures. Each row is written before more of its capture is read. `answers` gets what pf answered: a header,
+/// and a row for each record that is of a log of pflog(4). `account` counts the frames from 0 on, also where the trace
+/// ends before the captures.
 ///
 /// Which way a packet goes is told by the log or the Linux cooked capture itself, by the addresses that the interface has on
-/// its link, or by the networks on one side of it (`sort`). A frame that was seen before the one in front of it
-/// has that one's second, and is counted as late if it is a record. `TraceStop` says why the trace is not whole. Of a
-/// faulty capture all is written up to its fault; where a read or a write fails or memory is refused, only its first
-/// part is written. A failed read or write is reported only where the reader or that writer failed. It takes memory
-/// for one block of the capture, and for two rows.
+/// its link, or by the networks on one side of it (`sort`). A frame that was seen before the one in front of it in its
+/// capture has that one's moment, and is counted as late if it is a record of an earlier second. `TraceStop` says why the
+/// trace is not whole. Of a faulty capture, all is written that comes before its fault is reached: before the frame is taken
+/// that follows the last one in front of the fault. Where a read or a write fails or memory is refused, only the first part is
+/// written. A failed read or write is reported only where a reader or that writer failed. It takes memory for one block of each
+/// capture, and for two rows.
 pub fn write_trace<R: Read, W: Write, T: Write>(
     alloc: Global,
-    point: &CapturePoint,
-    reader: &mut Feed<R>,
+    captures: &mut [Capture<R>],
     out: &mut Sink<W>,
-    told: &mut Sink<T>,
+    answers: &mut Sink<T>,
     account: &mut Account,
 ) -> Result<(), TraceStop>
-    requires { is_name 15 point.now.ifname ≡ true }
     ensures sum { AddsUp account.new }
-    ensures tells { (xs : List ℕ) → unread R.remaining reader.old ≡ Some xs →
+    ensures tells { (gs : List Given) → AreGiven (unread R.remaining) captures.old gs →
         ((t : List ℕ) × (u : List ℕ) × Appends (bytes_held W.contents out.old) (bytes_held W.contents out.new) t
-        × Appends (bytes_held T.contents told.old) (bytes_held T.contents told.new) u
-        × TellsCapture point.now (start_of xs) (unread R.remaining reader.new) t u account.new result) }
+        × Appends (bytes_held T.contents answers.old) (bytes_held T.contents answers.new) u
+        × TellsCaptures gs (lefts_of (unread R.remaining) captures.new) t u account.new result) }
 
     // No failure is reported of a reader or a writer that did not have it.
-    ensures read { result ≡ Err (TraceStop.File fault.Read) → HasFailed reader.new }
+    ensures read { result ≡ Err (TraceStop.File fault.Read) → SomeFailed captures.new }
     ensures write { result ≡ Err TraceStop.Write → 0 < write_failures out.new }
-    ensures told { result ≡ Err TraceStop.Told → 0 < write_failures told.new }
+    ensures told { result ≡ Err TraceStop.Told → 0 < write_failures answers.new }
 
     // Whatever failed is named, so nothing failed before it.
-    ensures first_read { (result ≡ Err (TraceStop.File fault.Read)) ⊎ (read_failures reader.new ≡ read_failures reader.old) }
+    ensures first_read { (result ≡ Err (TraceStop.File fault.Read)) ⊎ (failures_of captures.new ≡ failures_of captures.old) }
     ensures first_write { (result ≡ Err TraceStop.Write) ⊎ (write_failures out.new ≡ write_failures out.old) }
-    ensures first_told { (result ≡ Err TraceStop.Told) ⊎ (write_failures told.new ≡ write_failures told.old) }
+    ensures first_told { (result ≡ Err TraceStop.Told) ⊎ (write_failures answers.new ≡ write_failures answers.old) }
 {
     *account = Account::new();
-    let mut held = Vec::new(alloc);
     let mut lines = Lines::new(alloc);
-    let mut form = match read_start(alloc, reader, &mut held) {
-        Ok(form) => form,
-        Err(fault) => return Err(TraceStop::File(fault)),
-    };
-    send(out, told, HEADER, ANSWER_HEADER)?;
-    let mut tally = Tally::new();
+    begin_all(captures, alloc)?;
+    send(out, answers, HEADER, ANSWER_HEADER)?;
     for _turn in 0..MOST_ITEMS {
-        let frame = match read_item(reader, &mut held, &mut form) {
-            Ok(Item::End) => return Ok(()),
-            Ok(Item::Other) => continue,
-            Ok(Item::Frame(frame)) => frame,
-            Err(fault) => return Err(TraceStop::File(fault)),
+        ask_all(captures, alloc)?;
+        let place = match earliest(captures) {
+            Some(place) => place,
+            None => return Ok(()),
         };
-        tally = take_frame(point, tally, frame, &held, &mut lines)?;
-        *account = tally.account;
-        send(out, told, &lines.row, &lines.answer)?;
+        *account = take_next(captures, place, *account, &mut lines)?;
+        send(out, answers, &lines.row, &lines.answer)?;
     }
     Err(TraceStop::TooMany)
-}
-
-impl Tally {
-    /// The tally of no frame.
-    fn new() -> Tally
-        ensures is { result ≡ record { last = 0; account = no_frames } }
-        ensures sum { AddsUp result.account }
-    {
-        Tally {
-            last: 0,
-            account: Account::new(),
-        }
-    }
 }
 
 impl Lines {
@@ -126,57 +101,75 @@ impl Lines {
 /// Writes a row of the trace, and then one of the answers.
 fn send<W: Write, T: Write>(
     out: &mut Sink<W>,
-    told: &mut Sink<T>,
+    answers: &mut Sink<T>,
     row: &[u8],
     answer: &[u8],
 ) -> Result<(), TraceStop>
     ensures sends { (t : List ℕ) × (u : List ℕ) × Appends (bytes_held W.contents out.old) (bytes_held W.contents out.new) t
-        × Appends (bytes_held T.contents told.old) (bytes_held T.contents told.new) u
+        × Appends (bytes_held T.contents answers.old) (bytes_held T.contents answers.new) u
         × Sends row.now answer.now t u result }
     ensures write { result ≡ Err TraceStop.Write → 0 < write_failures out.new }
-    ensures told { result ≡ Err TraceStop.Told → 0 < write_failures told.new }
+    ensures told { result ≡ Err TraceStop.Told → 0 < write_failures answers.new }
     ensures first_write { (result ≡ Err TraceStop.Write) ⊎ (write_failures out.new ≡ write_failures out.old) }
-    ensures first_told { (result ≡ Err TraceStop.Told) ⊎ (write_failures told.new ≡ write_failures told.old) }
+    ensures first_told { (result ≡ Err TraceStop.Told) ⊎ (write_failures answers.new ≡ write_failures answers.old) }
 {
     match write_whole(out, row) {
         Ok(()) => {}
         Err(_) => return Err(TraceStop::Write),
     }
-    match write_whole(told, answer) {
+    match write_whole(answers, answer) {
         Ok(()) => Ok(()),
         Err(_) => Err(TraceStop::Told),
     }
 }
 
-/// The tally of one frame more, whose texts are in the lines.
-fn take_frame(
-    point: &CapturePoint,
-    tally: Tally,
-    frame: Frame,
-    held: &[u8],
+/// The account of one frame more, whose texts are in the lines. It is the next one of its capture, which is then asked for another.
+fn take_next<R>(
+    captures: &mut [Capture<R>],
+    place: Place,
+    account: Account,
     lines: &mut Lines,
-) -> Result<Tally, TraceStop>
-    requires few { tally.account.frames < 2 ^ 63 }
-    requires sum { AddsUp tally.account }
-    requires last { tally.last ≤ 4294967295 }
-    requires name { is_name 15 point.now.ifname ≡ true }
-    ensures takes { TakesFrame (frame_taken point.now tally (seen_of frame held.now)) result lines.new.row.items lines.new.answer.items }
-    ensures sum { IfOk result (λ t. AddsUp t.account) }
-    ensures one { IfOk result (λ t. (t.account.frames ≡ tally.account.frames + 1) × (t.last ≤ 4294967295)) }
-    ensures fails { IfErr result (λ f. (f ≡ TraceStop.Memory) ⊎ (f ≡ TraceStop.Moment)) }
+) -> Result<Account, TraceStop>
+    requires few { account.frames < 2 ^ 63 }
+    requires sum { AddsUp account }
+    requires within { place.index < length captures.old }
+    ensures takes { (c : Capture R) → slice_get captures.old place.index ≡ Some c →
+        TakesFrame (frame_taken account (judged_at c.points.items (seen_of place.frame c.held.items) c.last)) result lines.new.row.items lines.new.answer.items }
+    ensures asks { (c : Capture R) → slice_get captures.old place.index ≡ Some c →
+        captures.new ≡ slice_set captures.old place.index (record c { next = Next.Unasked }) }
+    ensures same { failures_of captures.new ≡ failures_of captures.old }
+    ensures sum { IfOk result AddsUp }
+    ensures one { IfOk result (λ a. a.frames ≡ account.frames + 1) }
+    ensures fails { IfErr result (λ f. f ≡ TraceStop.Memory) }
+{
+    let capture = &mut captures[place.index];
+    capture.next = Next::Unasked;
+    take_frame(capture, place.frame, account, lines)
+}
+
+/// The account of one frame more of a capture, whose texts are in the lines.
+fn take_frame<R>(
+    capture: &Capture<R>,
+    frame: Frame,
+    account: Account,
+    lines: &mut Lines,
+) -> Result<Account, TraceStop>
+    requires few { account.frames < 2 ^ 63 }
+    requires sum { AddsUp account }
+    ensures takes { TakesFrame (frame_taken account (judged_at capture.now.points.items (seen_of frame capture.now.held.items) capture.now.last))
+        result lines.new.row.items lines.new.answer.items }
+    ensures sum { IfOk result AddsUp }
+    ensures one { IfOk result (λ a. a.frames ≡ account.frames + 1) }
+    ensures fails { IfErr result (λ f. f ≡ TraceStop.Memory) }
 {
     lines.row.clear();
     lines.answer.clear();
-    let second = second_after(tally.last, frame.moment)?;
-    let outcome = outcome_of(point, frame, held);
+    let second = u64::from(capture.last.second);
+    let moment = frame.moment;
+    let outcome = outcome_of(capture, frame);
     write_row(&outcome, second, &mut lines.row)?;
-    write_answer(&outcome, tally.account, &mut lines.answer)?;
-    Ok(Tally {
-        last: second,
-        account: tally
-            .account
-            .with(&outcome, is_before(frame.moment, second)),
-    })
+    write_answer(&outcome, account, &mut lines.answer)?;
+    Ok(account.with(&outcome, is_before(moment, second)))
 }
 
 /// Writes the row of a frame's packet into the line, if it has one.
@@ -227,37 +220,23 @@ fn write_answer(
     }
 }
 
-/// The second of a frame, after one of this second.
-fn second_after(last: u64, moment: Moment) -> Result<u64, TraceStop>
-    requires { last ≤ 4294967295 }
-    ensures is { result ≡ second_after last moment }
-    ensures few { IfOk result (λ s. s ≤ 4294967295) }
-    ensures fails { IfErr result (λ f. f ≡ TraceStop.Moment) }
-{
-    match moment {
-        Moment::At(second) if second > 4_294_967_295 => Err(TraceStop::Moment),
-        Moment::At(second) => Ok(second.max(last)),
-        Moment::Untold => Ok(last),
-        Moment::Outside => Err(TraceStop::Moment),
-    }
-}
-
-/// Whether a frame was seen before this second.
-fn is_before(moment: Moment, second: u64) -> bool
-    ensures { result ≡ is_before moment second }
-{
-    match moment {
-        Moment::At(own) => own < second,
-        Moment::Untold | Moment::Outside => false,
-    }
-}
-
 /// The packet of a frame in what was read, with its way, or why it is no record.
-fn outcome_of(point: &CapturePoint, frame: Frame, held: &[u8]) -> Result<Found, Reason>
-    requires { is_name 15 point.now.ifname ≡ true }
-    ensures is { result ≡ found_in_frame point.now frame.link (frame_bytes frame held.now) }
+fn outcome_of<R>(capture: &Capture<R>, frame: Frame) -> Result<Found, Reason>
+    ensures is { result ≡ found_in_frame capture.now.points.items frame.name frame.link (frame_bytes frame capture.now.held.items) }
+    ensures row { IfOk result IsFound }
+{
+    outcome_in(&capture.points, frame, &capture.held)
+}
+
+fn outcome_in(points: &[CapturePoint], frame: Frame, held: &[u8]) -> Result<Found, Reason>
+    ensures is { result ≡ found_in_frame points.now frame.name frame.link (frame_bytes frame held.now) }
     ensures row { IfOk result IsFound }
 {
     let rest = &held[frame.from.min(held.len())..];
-    sort(point, frame.link, &rest[..frame.count.min(rest.len())])
+    sort(
+        points,
+        frame.name,
+        frame.link,
+        &rest[..frame.count.min(rest.len())],
+    )
 }

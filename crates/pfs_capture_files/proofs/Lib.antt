@@ -4,3 +4,4 @@ pub mod FormLaws
 pub mod StartLaws
 mod Chunks
 pub mod Octets
+mod Worked

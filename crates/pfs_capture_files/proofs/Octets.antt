@@ -13,6 +13,7 @@ use Rattle.pfs_capture_files.specs.declared.faults.FileFault.{FileFault}
 use Rattle.pfs_capture_files.specs.declared.forms.Form.{Form}
 use Rattle.pfs_capture_files.specs.declared.forms.Form.TheVariants as form
 use Rattle.pfs_capture_files.specs.declared.classic.Lengths.{Lengths}
+use Rattle.pfs_capture_files.specs.declared.classic.Precision.{Precision}
 use Rattle.pfs_capture_files.specs.declared.forms.Start.{Start}
 use Rattle.pfs_capture_files.specs.declared.forms.Start.TheVariants as start
 use Rattle.pfs_capture_files.specs.declared.orders.Order.{Order}
@@ -90,9 +91,9 @@ turn-bytes (form.Blocks k) xs t h e = block-bytes k xs t h e
 
 -- ---- the beginning of a file
 
-begun-classic : (order : Order) (lengths : Lengths) (xs : List ℕ) (r : Form × List ℕ) → AreBytes xs → classic_start order lengths xs ≡ Ok r → AreBytes r.1
-begun-classic order lengths xs r h e =
-    known (classic_form order lengths (take 12 xs)) _ r (λ f g. let same : (f, drop 12 xs) ≡ r = cc in subst (λ (p : Form × List ℕ). AreBytes p.1) same (bytes-drop 12 xs h)) e
+begun-classic : (order : Order) (precision : Precision) (lengths : Lengths) (xs : List ℕ) (r : Form × List ℕ) → AreBytes xs → classic_start order precision lengths xs ≡ Ok r → AreBytes r.1
+begun-classic order precision lengths xs r h e =
+    known (classic_form order precision lengths (take 12 xs)) _ r (λ f g. let same : (f, drop 12 xs) ≡ r = cc in subst (λ (p : Form × List ℕ). AreBytes p.1) same (bytes-drop 12 xs h)) e
 
 begun-blocks : (first xs : List ℕ) (r : Form × List ℕ) → AreBytes xs → blocks_start first xs ≡ Ok r → AreBytes r.1
 begun-blocks first xs r h e =
@@ -110,5 +111,5 @@ pub begun-bytes : (xs : List ℕ) (r : Form × List ℕ) → AreBytes xs → sta
 begun-bytes xs r h e = known (what_begins (take 12 xs)) _ r (λ s f. by s f) e
   where
     by : (s : Start) → start_at s xs ≡ Ok r → AreBytes r.1
-    by (start.Classic order lengths) f = begun-classic order lengths (drop 12 xs) r (bytes-drop 12 xs h) f
+    by (start.Classic order precision lengths) f = begun-classic order precision lengths (drop 12 xs) r (bytes-drop 12 xs h) f
     by start.Blocks f = begun-blocks (take 12 xs) (drop 12 xs) r (bytes-drop 12 xs h) f

@@ -1,5 +1,5 @@
 -- Where so few bytes of a capture are read that its beginning needs no fewer, none behind that is read.
-use Rattle.std.proofs.Common.{ℕ, ◌≡◌, ◌≤◌, Bool, true, false, List, [], length, length-drop, take, drop, Option, Some, Ok, Err, refl, sym, ap, subst, arith, nat_lt}
+use Rattle.std.proofs.Common.{ℕ, ◌≡◌, ◌≤◌, Bool, true, false, List, [], length, length-drop, take, drop, Option, Some, Ok, Err, refl, sym, subst, arith, nat_lt}
 use Rattle.std.specs.Prelude.{Result, if◌then◌else◌}
 use Rattle.pfs_capture_files.specs.Blocks.{block_head, body_item}
 use Rattle.pfs_capture_files.specs.Forms.{IsWithinStart, Turn, blocks_start, classic_form, classic_start, rest_turn, start_at, start_of, what_begins}
@@ -7,6 +7,7 @@ use Rattle.pfs_capture_files.specs.Interfaces.{then_known}
 use Rattle.pfs_capture_files.specs.Known.{Known}
 use Rattle.pfs_capture_files.specs.declared.blocks.BlockHead.{BlockHead}
 use Rattle.pfs_capture_files.specs.declared.classic.Lengths.{Lengths}
+use Rattle.pfs_capture_files.specs.declared.classic.Precision.{Precision}
 use Rattle.pfs_capture_files.specs.declared.faults.FileFault.{FileFault}
 use Rattle.pfs_capture_files.specs.declared.faults.FileFault.TheVariants as fault
 use Rattle.pfs_capture_files.specs.declared.forms.Form.{Form}
@@ -20,8 +21,8 @@ use Rattle.pfs_capture_files.specs.declared.orders.Order.TheVariants.{Big}
 fewer : (xs : List ℕ) (k m : ℕ) → k ≤ m → length (drop m xs) ≤ length (drop k xs)
 fewer xs k m h = omega (arith, length-drop k xs, length-drop m xs)
 
-pub classic_within : (order : Order) (lengths : Lengths) (xs : List ℕ) (left : Option (List ℕ)) (k : ℕ) → k ≤ 12 → left ≡ Some (drop k xs) → IsWithinStart (classic_start order lengths xs) left
-classic_within order lengths xs left k few e = go (classic_form order lengths (take 12 xs))
+pub classic_within : (order : Order) (precision : Precision) (lengths : Lengths) (xs : List ℕ) (left : Option (List ℕ)) (k : ℕ) → k ≤ 12 → left ≡ Some (drop k xs) → IsWithinStart (classic_start order precision lengths xs) left
+classic_within order precision lengths xs left k few e = go (classic_form order precision lengths (take 12 xs))
   where
     go : (r : Result Form FileFault) → IsWithinStart (then_known r (λ f. Ok (f, drop 12 xs))) left
     go (Ok f) = (drop k xs, e, fewer xs k 12 few)
@@ -66,8 +67,8 @@ pub start_within : (xs : List ℕ) (left : Option (List ℕ)) (k : ℕ) → k �
 start_within xs left k few e = go (what_begins (take 12 xs))
   where
     go : (r : Result Start FileFault) → IsWithinStart (then_known r (λ s. start_at s xs)) left
-    go (Ok (start.Classic order lengths)) =
-        longer (classic_start order lengths (drop 12 xs)) (drop 12 xs) (drop k xs) left (classic_within order lengths (drop 12 xs) (Some (drop 12 xs)) 0 (omega arith) refl) (fewer xs k 12 few) e
+    go (Ok (start.Classic order precision lengths)) =
+        longer (classic_start order precision lengths (drop 12 xs)) (drop 12 xs) (drop k xs) left (classic_within order precision lengths (drop 12 xs) (Some (drop 12 xs)) 0 (omega arith) refl) (fewer xs k 12 few) e
     go (Ok start.Blocks) =
         longer (blocks_start (take 12 xs) (drop 12 xs)) (drop 12 xs) (drop k xs) left (blocks_unread (take 12 xs) (drop 12 xs) (Some (drop 12 xs)) refl) (fewer xs k 12 few) e
     go (Err g) = tt

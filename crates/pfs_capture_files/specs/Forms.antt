@@ -1,10 +1,12 @@
 -- The two forms of capture files, item by item (pcap, sections 4 and 5; pcapng, sections 3.1 and 4.1).
-use Rattle.std.specs.Prelude.{ℕ, ⊤, ◌≡◌, ◌≤◌, ◌/◌, ◌%◌, ◌==◌, ◌||◌, false, List, [], length, take, drop, nat_lt, Option, Some, Result, Ok, Err, if◌then◌else◌}
+use Rattle.std.specs.Prelude.{ℕ, ⊤, ◌≡◌, ◌≤◌, ◌/◌, ◌%◌, ◌==◌, false, List, [], length, take, drop, nat_lt, Option, Some, Result, Ok, Err, if◌then◌else◌}
 use Rattle.pfs_capture_files.specs.declared.orders.Order.{Order}
 use Rattle.pfs_capture_files.specs.declared.orders.Order.TheVariants.{Big, Little}
 use Rattle.pfs_capture_files.specs.declared.blocks.BlockHead.{BlockHead}
 use Rattle.pfs_capture_files.specs.declared.classic.FileHeader.{FileHeader}
 use Rattle.pfs_capture_files.specs.declared.classic.Lengths.{Lengths}
+use Rattle.pfs_capture_files.specs.declared.classic.Precision.{Precision}
+use Rattle.pfs_capture_files.specs.declared.classic.Precision.TheVariants.{Microseconds, Nanoseconds}
 use Rattle.pfs_capture_files.specs.declared.frames.Frame.{Frame}
 use Rattle.pfs_capture_files.specs.declared.frames.Item.{Item}
 use Rattle.pfs_capture_files.specs.declared.frames.Item.TheVariants as item
@@ -22,17 +24,20 @@ use Rattle.pfs_capture_files.specs.Blocks.{block_head, body_item}
 use Rattle.pfs_capture_files.specs.Faults.{is_outside}
 
 -- how a pcap file begins by its version, whose numbers follow its first (pcap, section 4)
-abbrev pub start_of_version : Order → List ℕ → Result Start FileFault
-start_of_version order head = then_known (lengths_of (u16_in order head 4) (u16_in order head 6)) (λ lengths. Ok (start.Classic order lengths))
+abbrev pub start_of_version : Order → Precision → List ℕ → Result Start FileFault
+start_of_version order precision head =
+    then_known (lengths_of (u16_in order head 4) (u16_in order head 6)) (λ lengths. Ok (start.Classic order precision lengths))
 
 -- what a file begins with: pcap in either byte order, of microseconds or of nanoseconds (pcap, section 4), a section's block (pcapng,
 -- section 4.1), or gzip's mark (RFC 1952, section 2.3.1)
 abbrev pub start_of_magic : ℕ → List ℕ → Result Start FileFault
 start_of_magic magic head =
-    if (magic == 0xa1b2c3d4) || (magic == 0xa1b23c4d) then start_of_version Big head
-    else (if (magic == 0xd4c3b2a1) || (magic == 0x4d3cb2a1) then start_of_version Little head
+    if magic == 0xa1b2c3d4 then start_of_version Big Microseconds head
+    else (if magic == 0xa1b23c4d then start_of_version Big Nanoseconds head
+    else (if magic == 0xd4c3b2a1 then start_of_version Little Microseconds head
+    else (if magic == 0x4d3cb2a1 then start_of_version Little Nanoseconds head
     else (if magic == 0x0a0d0d0a then Ok start.Blocks
-    else (if magic / 65536 == 0x1f8b then Err fault.Gzip else Err fault.NotCapture)))
+    else (if magic / 65536 == 0x1f8b then Err fault.Gzip else Err fault.NotCapture)))))
 
 -- what a file is by its first twelve bytes
 abbrev pub what_begins : List ℕ → Result Start FileFault
@@ -83,14 +88,14 @@ ReadsItem turn (Ok found) after held left =
 ReadsItem turn (Err f) after held left = is_outside f ≡ false → turn ≡ Err f
 
 -- a pcap file's header ends with the link's type, in the lower half of its last number (pcap, section 4)
-abbrev pub classic_form : Order → Lengths → List ℕ → Result Form FileFault
-classic_form order lengths rest =
+abbrev pub classic_form : Order → Precision → Lengths → List ℕ → Result Form FileFault
+classic_form order precision lengths rest =
     if nat_lt (length rest) 12 then Err fault.Cut
-    else Ok (form.Classic (record { order = order; lengths = lengths; link = u32_in order rest 8 % 65536 }))
+    else Ok (form.Classic (record { order = order; precision = precision; lengths = lengths; link = u32_in order rest 8 % 65536 }))
 
 -- how a pcap file goes on after its first twelve bytes, and what is left
-abbrev pub classic_start : Order → Lengths → List ℕ → Result (Form × List ℕ) FileFault
-classic_start order lengths xs = then_known (classic_form order lengths (take 12 xs)) (λ f. Ok (f, drop 12 xs))
+abbrev pub classic_start : Order → Precision → Lengths → List ℕ → Result (Form × List ℕ) FileFault
+classic_start order precision lengths xs = then_known (classic_form order precision lengths (take 12 xs)) (λ f. Ok (f, drop 12 xs))
 
 -- how a pcapng file begins by its first twelve bytes and what follows, and what is left
 abbrev pub blocks_start : List ℕ → List ℕ → Result (Form × List ℕ) FileFault
@@ -99,7 +104,7 @@ blocks_start first xs =
 
 -- how a file goes on after its first twelve bytes
 abbrev pub start_at : Start → List ℕ → Result (Form × List ℕ) FileFault
-start_at (start.Classic order lengths) xs = classic_start order lengths (drop 12 xs)
+start_at (start.Classic order precision lengths) xs = classic_start order precision lengths (drop 12 xs)
 start_at start.Blocks xs = blocks_start (take 12 xs) (drop 12 xs)
 
 -- how a capture begins: its form, and what is left

@@ -1,6 +1,8 @@
 -- The interfaces of a section (pcapng, section 4.2).
-use Rattle.std.specs.Prelude.{ℕ, ◌-◌, ◌^◌, ◌&&◌, List, length, nat_le, nat_lt, Result, Ok, Err, if◌then◌else◌, slice_index}
-use Rattle.std.specs.Option.{option_map_or}
+use Rattle.std.specs.Prelude.{ℕ, ◌≡◌, ◌-◌, ◌^◌, ◌==◌, ◌&&◌, true, List, length, take, drop, nat_le, nat_lt, Option, IfSome, Result, Ok, Err, if◌then◌else◌, slice_index}
+use Rattle.std.specs.List.{position}
+use Rattle.std.specs.Option.{option_and_then, option_map_or, unwrap_or}
+use Rattle.pfs_addr_values.specs.Names.{is_name, name_of}
 use Rattle.pfs_capture_files.specs.declared.orders.Order.{Order}
 use Rattle.pfs_capture_files.specs.declared.interfaces.Interface.{Interface}
 use Rattle.pfs_capture_files.specs.declared.faults.FileFault.{FileFault}
@@ -21,14 +23,32 @@ units_of byte =
 
 -- the option if_tsresol has the code 9 and one byte; without it a second has a million units
 abbrev pub units_told : Order → List ℕ → Result ℕ FileFault
-units_told order body = option_map_or (λ at. units_of (slice_index body at)) (find_option (length body) order body (record { code = 9; size = 1 }) 4) (Ok 1000000)
+units_told order body = option_map_or (λ place. units_of (slice_index body place.at)) (find_option (length body) order body (record { code = 9; least = 1; most = 1 }) 4) (Ok 1000000)
 
 -- the option if_tsoffset has the code 14 and eight bytes
 abbrev pub offset_of : Order → List ℕ → ℕ
-offset_of order body = option_map_or (λ at. u64_in order body at) (find_option (length body) order body (record { code = 14; size = 8 }) 4) 0
+offset_of order body = option_map_or (λ place. u64_in order body place.at) (find_option (length body) order body (record { code = 14; least = 8; most = 8 }) 4) 0
+
+-- a name ends before the first zero of its option, or with it
+abbrev pub name_length : List ℕ → ℕ
+name_length value = unwrap_or (position (λ b. b == 0) value) (length value)
+
+-- the name of an interface that an option's value is, if it is one (own: the name is one of pf's, of at most 15 bytes)
+abbrev pub name_in : List ℕ → Option (List ℕ)
+name_in value = name_of 15 (take (name_length value) value)
+
+-- the option if_name has the code 2 and any number of bytes
+abbrev pub name_told : Order → List ℕ → Option (List ℕ)
+name_told order body =
+    option_and_then (λ place. name_in (take place.size (drop place.at body)))
+    (find_option (length body) order body (record { code = 2; least = 0; most = 65535 }) 4)
+
+-- a name is one that an interface can have, where there is one
+abbrev pub IsNamed : Option (List ℕ) → Type 0
+IsNamed name = IfSome name (λ text. is_name 15 text ≡ true)
 
 -- an interface, by its link type and what follows: the most bytes that are kept of a frame, and options
 abbrev pub interface_of : Order → ℕ → List ℕ → Result Interface FileFault
 interface_of order link body =
     if nat_lt (length body) 4 then Err fault.Block
-    else then_known (units_told order body) (λ units. Ok (record { link = link; kept = u32_in order body 0; units = units; offset = offset_of order body }))
+    else then_known (units_told order body) (λ units. Ok (record { link = link; name = name_told order body; kept = u32_in order body 0; units = units; offset = offset_of order body }))

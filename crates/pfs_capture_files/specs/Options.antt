@@ -1,34 +1,43 @@
 -- The options of a block: a code, a length, and a value that is filled up to a word of four bytes (pcapng, section 3.5).
-use Rattle.std.specs.Prelude.{ℕ, zero, suc, ⊤, ◌≤◌, ◌+◌, ◌*◌, ◌/◌, ◌==◌, ◌&&◌, List, length, nat_le, Option, Some, None, if◌then◌else◌}
+use Rattle.std.specs.Prelude.{ℕ, zero, suc, ⊤, Bool, ◌≤◌, ◌+◌, ◌*◌, ◌/◌, ◌==◌, ◌&&◌, List, length, nat_le, Option, Some, None, if◌then◌else◌}
 use Rattle.pfs_capture_files.specs.declared.orders.Order.{Order}
+use Rattle.pfs_capture_files.specs.declared.options.Place.{Place}
 use Rattle.pfs_capture_files.specs.declared.options.Wanted.{Wanted}
 use Rattle.pfs_capture_files.specs.declared.options.Look.{Look}
 use Rattle.pfs_capture_files.specs.declared.options.Look.TheVariants.{On, Found, Nowhere}
 use Rattle.pfs_capture_files.specs.Orders.{u16_in}
+
+-- whether a value of so many bytes is wanted
+abbrev pub takes_size : Wanted → ℕ → Bool
+takes_size wanted size = nat_le wanted.least size && nat_le size wanted.most
 
 -- where a look goes from an option: the code 0 ends them
 abbrev pub option_step : Order → List ℕ → Wanted → ℕ → Look
 option_step order body wanted at =
     if nat_le (at + 4) (length body)
     then (if u16_in order body at == 0 then Nowhere
-    else (if (u16_in order body at == wanted.code) && (u16_in order body (at + 2) == wanted.size) && nat_le (at + 4 + u16_in order body (at + 2)) (length body)
-    then Found (at + 4)
+    else (if (u16_in order body at == wanted.code) && takes_size wanted (u16_in order body (at + 2)) && nat_le (at + 4 + u16_in order body (at + 2)) (length body)
+    then Found (record { at = at + 4; size = u16_in order body (at + 2) })
     else On (at + 4 + (u16_in order body (at + 2) + 3) / 4 * 4)))
     else Nowhere
 
 -- what follows where a look goes on, and what it has come to
-abbrev pub at_look : Look → (ℕ → Option ℕ) → Option ℕ
+abbrev pub at_look : Look → (ℕ → Option Place) → Option Place
 at_look (On next) on = on next
-at_look (Found value) on = Some value
+at_look (Found place) on = Some place
 at_look Nowhere on = None
 
--- where the value begins of the first option that is wanted, of at most so many
-unfoldable pub find_option : ℕ → Order → List ℕ → Wanted → ℕ → Option ℕ
+-- where the value is of the first option that is wanted, of at most so many
+unfoldable pub find_option : ℕ → Order → List ℕ → Wanted → ℕ → Option Place
 find_option zero order body wanted at = None
 find_option (suc n) order body wanted at = at_look (option_step order body wanted at) (λ next. find_option n order body wanted next)
 
--- what is found is so long that its value fits
+-- a value within so many bytes, which has at least so many
+abbrev pub IsWithin : ℕ → ℕ → Place → Type 0
+IsWithin whole least place = (least ≤ place.size) × (place.at + place.size ≤ whole)
+
+-- what is found is within so many bytes, and has at least so many
 abbrev pub FitsIn : ℕ → ℕ → Look → Type 0
-FitsIn most size (On next) = ⊤
-FitsIn most size (Found value) = value + size ≤ most
-FitsIn most size Nowhere = ⊤
+FitsIn whole least (On next) = ⊤
+FitsIn whole least (Found place) = IsWithin whole least place
+FitsIn whole least Nowhere = ⊤

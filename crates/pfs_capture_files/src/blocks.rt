@@ -3,6 +3,8 @@
 ghost use Rattle.std.specs.Prelude.{◌≡◌, ◌≢◌, ◌-◌, ◌≤◌, [], false, Err, IfErr, IfOk, length};
 ghost use Rattle.pfs_capture_files.specs.Blocks.{TakesItem, with_interface, block_head, body_item, held_in, described_at, is_version, order_of_block, order_of_magic, packet_on, with_section};
 ghost use Rattle.pfs_capture_files.specs.Faults.{is_outside};
+ghost use Rattle.pfs_capture_files.specs.Frames.{IsItem};
+ghost use Rattle.pfs_capture_files.specs.Interfaces.{IsNamed, interface_of, then_known};
 
 use crate::faults::FileFault;
 use crate::frames::{Item, enhanced_frame, simple_frame};
@@ -25,11 +27,13 @@ pub struct Section {
 }
 
 impl Model for Section {
-    ghost use Rattle.pfs_capture_files.specs.Known.{Known};
+    ghost use Rattle.pfs_capture_files.specs.Known.{AreNamed, Known};
 
     ghost Value = { Known };
 
     ghost view = { λ s. record { order = s.order; interfaces = s.interfaces.items } };
+
+    ghost invariant = { λ s. AreNamed s.interfaces.items };
 }
 
 /// How a block begins.
@@ -119,15 +123,13 @@ impl Section {
     /// may be known. It takes memory for an interface alone.
     pub fn take(&mut self, head: BlockHead, rest: &[u8]) -> Result<Item, FileFault>
         ensures is { TakesItem (body_item self.old head rest.now) result self.new }
+        ensures frame { IfOk result IsItem }
         ensures free { result ≡ Err FileFault.Memory → head.kind ≡ 1 }
         ensures read { result ≢ Err FileFault.Read }
     {
         match head.kind {
             SECTION => self.begin(head.order, &rest[..front(rest)]),
-            1 => {
-                let interface = interface_of(head.order, head.half, &rest[..front(rest)])?;
-                self.add(interface)
-            }
+            1 => self.describe(head.order, head.half, &rest[..front(rest)]),
             _ => self.held(head, rest),
         }
     }
@@ -135,6 +137,7 @@ impl Section {
     /// Begins a section, by its byte order and what its block holds after that: its version, and how long it is.
     fn begin(&mut self, order: Order, body: &[u8]) -> Result<Item, FileFault>
         ensures is { TakesItem (with_section order body.now) result self.new }
+        ensures frame { IfOk result IsItem }
         ensures of_file { IfErr result (λ f. is_outside f ≡ false) }
     {
         if body.len() < 12 {
@@ -148,14 +151,28 @@ impl Section {
         Ok(Item::Other)
     }
 
-    fn add(&mut self, interface: Interface) -> Result<Item, FileFault>
-        ensures is { TakesItem (with_interface self.old interface) result self.new }
+    /// Adds the interface of this link type that a block describes.
+    fn describe(&mut self, order: Order, link: u16, body: &[u8]) -> Result<Item, FileFault>
+        ensures is { TakesItem (then_known (interface_of order link body.now) (λ i. with_interface self.old i)) result self.new }
+        ensures frame { IfOk result IsItem }
+        ensures read { result ≢ Err FileFault.Read }
+    {
+        match interface_of(order, link, body) {
+            Ok(interface) => self.add(&interface),
+            Err(fault) => Err(fault),
+        }
+    }
+
+    fn add(&mut self, interface: &Interface) -> Result<Item, FileFault>
+        requires { IsNamed interface.now.name }
+        ensures is { TakesItem (with_interface self.old interface.now) result self.new }
+        ensures frame { IfOk result IsItem }
         ensures read { result ≢ Err FileFault.Read }
     {
         if self.interfaces.len() >= MOST_INTERFACES {
             return Err(FileFault::Interfaces);
         }
-        match self.interfaces.push(interface) {
+        match self.interfaces.push(*interface) {
             Ok(()) => Ok(Item::Other),
             Err(_) => Err(FileFault::Memory),
         }
@@ -164,6 +181,7 @@ impl Section {
     /// What a block holds that changes nothing of its section.
     fn held(&self, head: BlockHead, rest: &[u8]) -> Result<Item, FileFault>
         ensures is { result ≡ held_in self.now head rest.now }
+        ensures frame { IfOk result IsItem }
         ensures of_file { IfErr result (λ f. is_outside f ≡ false) }
     {
         let body = &rest[..front(rest)];
@@ -182,6 +200,7 @@ impl Section {
     /// The frame of a packet block with its moment, on the interface of this number.
     fn packet(&self, order: Order, number: usize, body: &[u8]) -> Result<Item, FileFault>
         ensures is { result ≡ packet_on self.now order number body.now }
+        ensures frame { IfOk result IsItem }
         ensures of_file { IfErr result (λ f. is_outside f ≡ false) }
     {
         let interface = self.interface(number)?;
@@ -192,6 +211,7 @@ impl Section {
     /// The interface of this number, from 0.
     fn interface(&self, number: usize) -> Result<Interface, FileFault>
         ensures is { result ≡ described_at self.now number }
+        ensures name { IfOk result (λ i. IsNamed i.name) }
         ensures of_file { IfErr result (λ f. is_outside f ≡ false) }
     {
         match self.interfaces.get(number) {

@@ -1,8 +1,9 @@
 //! The header of a pcap file, and its records.
 
-ghost use Rattle.std.specs.Prelude.{◌≡◌, ◌≤◌, false, IfErr, IfOk, length};
+ghost use Rattle.std.specs.Prelude.{◌≡◌, ◌<◌, ◌≤◌, false, IfErr, IfOk, length};
 ghost use Rattle.pfs_capture_files.specs.Faults.{is_outside};
-ghost use Rattle.pfs_capture_files.specs.Classic.{kept_in, lengths_of, record_frame};
+ghost use Rattle.pfs_capture_files.specs.Classic.{kept_in, lengths_of, nanosecond_in, record_frame};
+ghost use Rattle.pfs_capture_files.specs.Frames.{IsFrame};
 
 use crate::faults::FileFault;
 use crate::frames::{Frame, MOST_OF_FRAME, Moment};
@@ -19,11 +20,22 @@ pub enum Lengths {
     KeptLess,
 }
 
+/// In what a record counts the time that is past its second.
+#[derive(Clone, Copy)]
+pub enum Precision {
+    /// In millionths of a second.
+    Microseconds,
+    /// In billionths.
+    Nanoseconds,
+}
+
 /// What the header of a pcap file says of its records.
 #[derive(Clone, Copy)]
 pub struct FileHeader {
     /// The byte order of their numbers.
     pub order: Order,
+    /// In what they count the time that is past their second.
+    pub precision: Precision,
     /// Which of their lengths is that of the bytes kept.
     pub lengths: Lengths,
     /// The type of their link.
@@ -44,10 +56,13 @@ pub fn lengths_of(major: u16, minor: u16) -> Result<Lengths, FileFault>
     }
 }
 
-/// The frame that a record's header describes, whose bytes follow it.
+/// The frame that a record's header describes, whose bytes follow it. Its moment is in the second that the header says, also
+/// where what is past that is a second or more in a faulty file: then it is the second's last nanosecond. It returns
+/// `FileFault::Cut` for a header that is cut, and `FileFault::TooLong` for a frame of more than 262,144 bytes. (pcap, section 5)
 pub fn record_frame(header: FileHeader, head: &[u8]) -> Result<Frame, FileFault>
     ensures is { result ≡ record_frame header head.now }
     ensures few { IfOk result (λ f. f.count ≤ 262144) }
+    ensures frame { IfOk result IsFrame }
     ensures of_file { IfErr result (λ f. is_outside f ≡ false) }
 {
     if head.len() < 16 {
@@ -59,10 +74,28 @@ pub fn record_frame(header: FileHeader, head: &[u8]) -> Result<Frame, FileFault>
     }
     Ok(Frame {
         link: header.link,
-        moment: Moment::At(u64::from(read_u32(header.order, head, 0))),
+        name: None,
+        moment: Moment::At {
+            second: u64::from(read_u32(header.order, head, 0)),
+            nanosecond: nanosecond_in(header, head),
+        },
         from: 0,
         count: count as usize,
     })
+}
+
+/// How many nanoseconds after its second began the moment of a record is.
+fn nanosecond_in(header: FileHeader, head: &[u8]) -> u32
+    requires { 16 ≤ length head.now }
+    ensures is { result ≡ nanosecond_in header head.now }
+    ensures fraction { result < 1000000000 }
+{
+    let units = u64::from(read_u32(header.order, head, 4));
+    let nanoseconds = match header.precision {
+        Precision::Microseconds => units * 1_000,
+        Precision::Nanoseconds => units,
+    };
+    nanoseconds.min(999_999_999) as u32
 }
 
 /// How many bytes of its frame a record keeps.

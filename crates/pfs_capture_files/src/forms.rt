@@ -1,14 +1,15 @@
 //! The two forms of capture files.
 
-ghost use Rattle.std.specs.Prelude.{◌≡◌, ◌⊎◌, ◌<◌, ◌≤◌, false, ℕ, List, Some, Err, IfErr, OnErr, drop, length};
+ghost use Rattle.std.specs.Prelude.{◌≡◌, ◌⊎◌, ◌<◌, ◌≤◌, false, ℕ, List, Some, Err, IfErr, IfOk, OnErr, drop, length};
 ghost use Rattle.std.specs.Vec.{vec_capacity};
 ghost use Rattle.pfs_streams.specs.Feeds.{read_failures, unread};
 ghost use Rattle.pfs_capture_files.specs.declared.forms.Form.TheVariants as form;
 ghost use Rattle.pfs_capture_files.specs.Faults.{HasFailed, is_outside};
+ghost use Rattle.pfs_capture_files.specs.Frames.{IsFrame, IsItem};
 ghost use Rattle.pfs_capture_files.specs.Forms.{Begins, IsWithinStart, ReadsItem, block_turn, blocks_start, classic_form, classic_start, frame_turn, record_turn, rest_turn, start_of, start_of_magic, start_of_version, turn_of, what_begins};
 
 use crate::blocks::{BlockHead, SECTION, Section, block_head};
-use crate::classic::{FileHeader, Lengths, lengths_of, record_frame};
+use crate::classic::{FileHeader, Lengths, Precision, lengths_of, record_frame};
 use crate::faults::FileFault;
 use crate::filling::fill;
 use crate::frames::{Frame, Item};
@@ -29,7 +30,7 @@ pub enum Form {
 /// What a file is by its first bytes.
 #[derive(Clone, Copy)]
 enum Start {
-    Classic(Order, Lengths),
+    Classic(Order, Precision, Lengths),
     Blocks,
 }
 
@@ -51,7 +52,9 @@ pub fn read_start<R: Read>(
 {
     fill(reader, buffer, 12)?;
     match what_begins(buffer)? {
-        Start::Classic(order, lengths) => start_classic(reader, buffer, order, lengths),
+        Start::Classic(order, precision, lengths) => {
+            start_classic(reader, buffer, order, precision, lengths)
+        }
         Start::Blocks => start_blocks(alloc, reader, buffer),
     }
 }
@@ -69,6 +72,7 @@ pub fn read_item<R: Read>(
     form: &mut Form,
 ) -> Result<Item, FileFault>
     ensures is { (xs : List ℕ) → unread R.remaining reader.old ≡ Some xs → ReadsItem (turn_of form.old xs) result form.new buffer.new.items (unread R.remaining reader.new) }
+    ensures frame { IfOk result IsItem }
     ensures read { result ≡ Err FileFault.Read → HasFailed reader.new }
     ensures sound { (result ≡ Err FileFault.Read) ⊎ (read_failures reader.new ≡ read_failures reader.old) }
 {
@@ -98,8 +102,10 @@ fn start_of_magic(magic: u32, head: &[u8]) -> Result<Start, FileFault>
     ensures of_file { IfErr result (λ f. is_outside f ≡ false) }
 {
     match magic {
-        0xa1b2_c3d4 | 0xa1b2_3c4d => start_of_version(Order::Big, head),
-        0xd4c3_b2a1 | 0x4d3c_b2a1 => start_of_version(Order::Little, head),
+        0xa1b2_c3d4 => start_of_version(Order::Big, Precision::Microseconds, head),
+        0xa1b2_3c4d => start_of_version(Order::Big, Precision::Nanoseconds, head),
+        0xd4c3_b2a1 => start_of_version(Order::Little, Precision::Microseconds, head),
+        0x4d3c_b2a1 => start_of_version(Order::Little, Precision::Nanoseconds, head),
         SECTION => Ok(Start::Blocks),
         _ if magic / 65_536 == 0x1f8b => Err(FileFault::Gzip),
         _ => Err(FileFault::NotCapture),
@@ -107,13 +113,13 @@ fn start_of_magic(magic: u32, head: &[u8]) -> Result<Start, FileFault>
 }
 
 /// How a pcap file begins by its version, which follows its first number.
-fn start_of_version(order: Order, head: &[u8]) -> Result<Start, FileFault>
+fn start_of_version(order: Order, precision: Precision, head: &[u8]) -> Result<Start, FileFault>
     requires { 12 ≤ length head.now }
-    ensures is { result ≡ start_of_version order head.now }
+    ensures is { result ≡ start_of_version order precision head.now }
     ensures of_file { IfErr result (λ f. is_outside f ≡ false) }
 {
     let lengths = lengths_of(read_u16(order, head, 4), read_u16(order, head, 6))?;
-    Ok(Start::Classic(order, lengths))
+    Ok(Start::Classic(order, precision, lengths))
 }
 
 /// Reads the second half of a pcap file's header.
@@ -121,19 +127,25 @@ fn start_classic<R: Read>(
     reader: &mut Feed<R>,
     buffer: &mut Vec<u8>,
     order: Order,
+    precision: Precision,
     lengths: Lengths,
 ) -> Result<Form, FileFault>
-    ensures is { (xs : List ℕ) → unread R.remaining reader.old ≡ Some xs → Begins (classic_start order lengths xs) result (unread R.remaining reader.new) }
-    ensures within { OnErr result ((xs : List ℕ) → unread R.remaining reader.old ≡ Some xs → IsWithinStart (classic_start order lengths xs) (unread R.remaining reader.new)) }
+    ensures is { (xs : List ℕ) → unread R.remaining reader.old ≡ Some xs → Begins (classic_start order precision lengths xs) result (unread R.remaining reader.new) }
+    ensures within { OnErr result ((xs : List ℕ) → unread R.remaining reader.old ≡ Some xs → IsWithinStart (classic_start order precision lengths xs) (unread R.remaining reader.new)) }
     ensures read { result ≡ Err FileFault.Read → HasFailed reader.new }
     ensures sound { (result ≡ Err FileFault.Read) ⊎ (read_failures reader.new ≡ read_failures reader.old) }
 {
     fill(reader, buffer, 12)?;
-    classic_form(order, lengths, buffer)
+    classic_form(order, precision, lengths, buffer)
 }
 
-fn classic_form(order: Order, lengths: Lengths, rest: &[u8]) -> Result<Form, FileFault>
-    ensures is { result ≡ classic_form order lengths rest.now }
+fn classic_form(
+    order: Order,
+    precision: Precision,
+    lengths: Lengths,
+    rest: &[u8],
+) -> Result<Form, FileFault>
+    ensures is { result ≡ classic_form order precision lengths rest.now }
     ensures of_file { IfErr result (λ f. is_outside f ≡ false) }
 {
     if rest.len() < 12 {
@@ -142,6 +154,7 @@ fn classic_form(order: Order, lengths: Lengths, rest: &[u8]) -> Result<Form, Fil
     let link = read_u32(order, rest, 8) % 65_536;
     Ok(Form::Classic(FileHeader {
         order,
+        precision,
         lengths,
         link: link as u16,
     }))
@@ -171,6 +184,7 @@ fn next_record<R: Read>(
     header: FileHeader,
 ) -> Result<Item, FileFault>
     ensures is { (xs : List ℕ) → unread R.remaining reader.old ≡ Some xs → ReadsItem (record_turn header xs) result (form.Classic header) buffer.new.items (unread R.remaining reader.new) }
+    ensures frame { IfOk result IsItem }
     ensures read { result ≡ Err FileFault.Read → HasFailed reader.new }
     ensures sound { (result ≡ Err FileFault.Read) ⊎ (read_failures reader.new ≡ read_failures reader.old) }
 {
@@ -189,8 +203,10 @@ fn read_frame<R: Read>(
     header: FileHeader,
     frame: Frame,
 ) -> Result<Item, FileFault>
-    requires { frame.count ≤ 524288 }
+    requires few { frame.count ≤ 524288 }
+    requires frame { IsFrame frame }
     ensures is { (xs : List ℕ) → unread R.remaining reader.old ≡ Some xs → ReadsItem (frame_turn header frame xs) result (form.Classic header) buffer.new.items (unread R.remaining reader.new) }
+    ensures frame { IfOk result IsItem }
     ensures read { result ≡ Err FileFault.Read → HasFailed reader.new }
     ensures sound { (result ≡ Err FileFault.Read) ⊎ (read_failures reader.new ≡ read_failures reader.old) }
 {
@@ -208,6 +224,7 @@ fn next_block<R: Read>(
     section: &mut Section,
 ) -> Result<Item, FileFault>
     ensures is { (xs : List ℕ) → unread R.remaining reader.old ≡ Some xs → ReadsItem (block_turn section.old xs) result (form.Blocks section.new) buffer.new.items (unread R.remaining reader.new) }
+    ensures frame { IfOk result IsItem }
     ensures read { result ≡ Err FileFault.Read → HasFailed reader.new }
     ensures sound { (result ≡ Err FileFault.Read) ⊎ (read_failures reader.new ≡ read_failures reader.old) }
 {
@@ -228,6 +245,7 @@ fn read_rest<R: Read>(
 ) -> Result<Item, FileFault>
     requires { head.count ≤ 524288 }
     ensures is { (xs : List ℕ) → unread R.remaining reader.old ≡ Some xs → ReadsItem (rest_turn section.old head xs) result (form.Blocks section.new) buffer.new.items (unread R.remaining reader.new) }
+    ensures frame { IfOk result IsItem }
     ensures few { (xs : List ℕ) → unread R.remaining reader.old ≡ Some xs → (k : ℕ) × (k ≤ head.count) × (unread R.remaining reader.new ≡ Some (drop k xs)) }
     ensures read { result ≡ Err FileFault.Read → HasFailed reader.new }
     ensures sound { (result ≡ Err FileFault.Read) ⊎ (read_failures reader.new ≡ read_failures reader.old) }

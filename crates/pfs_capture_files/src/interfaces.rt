@@ -1,18 +1,21 @@
 //! The interfaces of a section.
 
-ghost use Rattle.std.specs.Prelude.{◌≡◌, ◌+◌, ◌<◌, ◌≤◌, ◌^◌, false, IfErr, length};
+ghost use Rattle.std.specs.Prelude.{◌≡◌, ◌+◌, ◌<◌, ◌≤◌, ◌==◌, ◌^◌, false, IfErr, IfOk, IfSome, length, position};
 ghost use Rattle.pfs_capture_files.specs.Faults.{is_outside};
-ghost use Rattle.pfs_capture_files.specs.Interfaces.{interface_of, offset_of, units_of, units_told};
+ghost use Rattle.pfs_capture_files.specs.Interfaces.{IsNamed, interface_of, name_in, name_length, name_told, offset_of, units_of, units_told};
 
 use crate::faults::FileFault;
 use crate::options::{Wanted, find_option};
 use crate::orders::{Order, read_u32, read_u64};
+use pfs_addr_values::{IfName, parse_ifname};
 
 /// An interface of a section, as its block describes it.
 #[derive(Clone, Copy)]
 pub struct Interface {
     /// The type of its link.
     pub link: u16,
+    /// Its name, where the block says one that an interface of pf can have.
+    pub name: Option<IfName>,
     /// The most bytes of a frame that were kept, 0 for any number.
     pub kept: u32,
     /// How many units of its moments a second has.
@@ -24,20 +27,65 @@ pub struct Interface {
 /// The interface of this link type that a block describes, of which this is what follows the link type, without its last length.
 pub fn interface_of(order: Order, link: u16, body: &[u8]) -> Result<Interface, FileFault>
     ensures is { result ≡ interface_of order link body.now }
+    ensures name { IfOk result (λ i. IsNamed i.name) }
     ensures of_file { IfErr result (λ f. is_outside f ≡ false) }
 {
     if body.len() < 4 {
         return Err(FileFault::Block);
     }
     let units = units_told(order, body)?;
+    let name = name_told(order, body);
     let kept = read_u32(order, body, 0);
     let offset = offset_of(order, body);
     Ok(Interface {
         link,
+        name,
         kept,
         units,
         offset,
     })
+}
+
+/// The name, where an option says one that an interface of pf can have.
+fn name_told(order: Order, body: &[u8]) -> Option<IfName>
+    ensures is { result ≡ name_told order body.now }
+    ensures name { IsNamed result }
+{
+    let wanted = Wanted {
+        code: 2,
+        least: 0,
+        most: 65_535,
+    };
+    match find_option(order, body, wanted, 4) {
+        Some(place) => name_in(&body[place.at..place.at + place.size]),
+        None => None,
+    }
+}
+
+/// The name that an option's value is, if it is one. Some writers end it by zeros.
+fn name_in(value: &[u8]) -> Option<IfName>
+    ensures is { result ≡ name_in value.now }
+    ensures name { IsNamed result }
+{
+    parse_ifname(&value[..name_length(value)])
+}
+
+/// How many bytes are in front of a value's first zero, or all of them.
+fn name_length(value: &[u8]) -> usize
+    ensures is { result ≡ name_length value.now }
+    ensures within { result ≤ length value.now }
+{
+    match zero_in(value) {
+        Some(length) => length,
+        None => value.len(),
+    }
+}
+
+fn zero_in(value: &[u8]) -> Option<usize>
+    ensures is { result ≡ position (λ b. b == 0) value.now }
+    ensures within { IfSome result (λ n. n < length value.now) }
+{
+    value.iter().position(|byte| *byte == 0)
 }
 
 /// How many units a second has: a million where no option says it.
@@ -45,9 +93,13 @@ fn units_told(order: Order, body: &[u8]) -> Result<u64, FileFault>
     ensures is { result ≡ units_told order body.now }
     ensures of_file { IfErr result (λ f. is_outside f ≡ false) }
 {
-    let wanted = Wanted { code: 9, size: 1 };
+    let wanted = Wanted {
+        code: 9,
+        least: 1,
+        most: 1,
+    };
     match find_option(order, body, wanted, 4) {
-        Some(at) => units_of(body[at]),
+        Some(place) => units_of(body[place.at]),
         None => Ok(1_000_000),
     }
 }
@@ -71,9 +123,13 @@ fn units_of(byte: u8) -> Result<u64, FileFault>
 fn offset_of(order: Order, body: &[u8]) -> u64
     ensures { result ≡ offset_of order body.now }
 {
-    let wanted = Wanted { code: 14, size: 8 };
+    let wanted = Wanted {
+        code: 14,
+        least: 8,
+        most: 8,
+    };
     match find_option(order, body, wanted, 4) {
-        Some(at) => read_u64(order, body, at),
+        Some(place) => read_u64(order, body, place.at),
         None => 0,
     }
 }

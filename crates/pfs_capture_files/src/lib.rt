@@ -13,7 +13,7 @@ mod options;
 mod orders;
 
 pub use blocks::Section;
-pub use classic::{FileHeader, Lengths};
+pub use classic::{FileHeader, Lengths, Precision};
 pub use faults::FileFault;
 pub use forms::{Form, read_item, read_start};
 pub use frames::{Frame, Item, Moment};

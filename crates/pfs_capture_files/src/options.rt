@@ -1,14 +1,27 @@
 //! The options of a block.
 
 ghost use Rattle.std.specs.Prelude.{◌≡◌, ◌+◌, ◌≤◌, IfSome, length};
-ghost use Rattle.pfs_capture_files.specs.Options.{FitsIn, find_option, option_step};
+ghost use Rattle.pfs_capture_files.specs.Options.{FitsIn, IsWithin, find_option, option_step, takes_size};
 
 use crate::orders::{Order, read_u16};
 
 /// What is looked for: an option of this code, whose value has so many bytes.
 #[derive(Clone, Copy)]
 pub struct Wanted {
+    /// The code.
     pub code: u16,
+    /// The fewest bytes.
+    pub least: usize,
+    /// The most.
+    pub most: usize,
+}
+
+/// Where a value is.
+#[derive(Clone, Copy)]
+pub struct Place {
+    /// Where it begins.
+    pub at: usize,
+    /// How many bytes it has.
     pub size: usize,
 }
 
@@ -17,22 +30,31 @@ pub struct Wanted {
 pub enum Look {
     /// On to the next, which begins here.
     On(usize),
-    /// Nowhere: this one is looked for, and its value begins here.
-    Found(usize),
+    /// Nowhere: this one is looked for, and its value is here.
+    Found(Place),
     /// Nowhere: there is none more.
     Nowhere,
 }
 
-/// Where the value begins of the first option that is wanted, of those that begin at this place.
-pub fn find_option(order: Order, body: &[u8], wanted: Wanted, first: usize) -> Option<usize>
+impl Wanted {
+    /// Whether a value of so many bytes is wanted.
+    fn takes(self, size: usize) -> bool
+        ensures { result ≡ takes_size self size }
+    {
+        self.least <= size && size <= self.most
+    }
+}
+
+/// Where the value is of the first option that is wanted, of those that begin at this place.
+pub fn find_option(order: Order, body: &[u8], wanted: Wanted, first: usize) -> Option<Place>
     ensures is { result ≡ find_option (length body.now) order body.now wanted first }
-    ensures within { IfSome result (λ at. at + wanted.size ≤ length body.now) }
+    ensures within { IfSome result (λ place. IsWithin (length body.now) wanted.least place) }
 {
     let mut at = first;
     for _turn in 0..body.len() {
         match option_step(order, body, wanted, at) {
             Look::On(next) => at = next,
-            Look::Found(value) => return Some(value),
+            Look::Found(place) => return Some(place),
             Look::Nowhere => return None,
         }
     }
@@ -42,7 +64,7 @@ pub fn find_option(order: Order, body: &[u8], wanted: Wanted, first: usize) -> O
 /// Where the look goes from the option that begins here.
 fn option_step(order: Order, body: &[u8], wanted: Wanted, at: usize) -> Look
     ensures is { result ≡ option_step order body.now wanted at }
-    ensures within { FitsIn (length body.now) wanted.size result }
+    ensures within { FitsIn (length body.now) wanted.least result }
 {
     if body.len() < 4 || at > body.len() - 4 {
         return Look::Nowhere;
@@ -52,8 +74,8 @@ fn option_step(order: Order, body: &[u8], wanted: Wanted, at: usize) -> Look
     if code == 0 {
         return Look::Nowhere;
     }
-    if code == wanted.code && size == wanted.size && size <= body.len() - 4 - at {
-        return Look::Found(at + 4);
+    if code == wanted.code && wanted.takes(size) && size <= body.len() - 4 - at {
+        return Look::Found(Place { at: at + 4, size });
     }
     Look::On(at + 4 + (size + 3) / 4 * 4)
 }

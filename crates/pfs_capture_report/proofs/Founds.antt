@@ -1,7 +1,9 @@
 -- What is found in a frame of bytes is a row that can be read.
-use Rattle.std.proofs.Common.{length-drop, length-take, ◌≡◌, ◌≤◌, ◌<◌, ◌+◌, ◌*◌, ◌/◌, ◌%◌, ℕ, Bool, true, false, not, ◌||◌, ◌==◌, List, length, take, drop, Option, Some, None, refl, sym, subst, arith, eq-eqb, if◌then◌else◌, nat_le, nat_lt, ◌∙◌}
+use Rattle.std.proofs.Common.{length-drop, length-take, [], ◌∷◌, ◌≡◌, ◌≤◌, ◌<◌, ◌+◌, ◌*◌, ◌/◌, ◌%◌, ℕ, Bool, true, false, not, ◌||◌, ◌==◌, List, length, take, drop, Option, Some, None, refl, sym, subst, arith, eq-eqb, if◌then◌else◌, nat_le, nat_lt, ◌∙◌}
 use Rattle.std.specs.Prelude.{Err, Ok, Result, ok_or, option_map, slice_index}
-use Rattle.std.specs.Option.{option_map_or}
+use Rattle.std.specs.List.{AllByRecursion}
+use Rattle.std.specs.Option.{option_and_then, option_map_or}
+use Rattle.std.specs.Str.{bytes_eq}
 use Rattle.std.proofs.lemmas.Bool.{false≢true}
 use Rattle.std.proofs.lemmas.Bool.Decides.{nat_tests}
 use Rattle.std.proofs.lemmas.Nat.{mod_below}
@@ -26,8 +28,8 @@ use Rattle.pfs_capture_packets.specs.declared.packets.Reason.TheVariants as reas
 use Rattle.pfs_capture.specs.declared.sorting.Evidence.TheVariants as evidence
 use Rattle.pfs_capture_packets.specs.declared.walks.Layer.{Layer}
 use Rattle.pfs_capture_packets.specs.declared.walks.Place.{Place}
-use Rattle.pfs_capture.specs.Points.{Point}
-use Rattle.pfs_capture.specs.Sorting.{by_link, found_in_frame, heading_from, logged_way, networks_dir, way_of}
+use Rattle.pfs_capture.specs.Points.{Point, point_named, point_of}
+use Rattle.pfs_capture.specs.Sorting.{by_link, found_in_frame, heading_from, logged_way, networks_dir, way_at, way_of}
 use Rattle.pfs_capture.specs.Traces.{row_from}
 use Rattle.pfs_capture.specs.declared.sorting.Found.{Found}
 use Rattle.pfs_capture.specs.declared.sorting.Heading.{Heading}
@@ -176,8 +178,30 @@ logged-named frame l e = whole (nat_le (0 + log_header) (length frame)) e
     whole true f = way (logged_dir_at (slice_index frame 60)) f
     whole false f = cc
 
-way-named : (point : Point) (link_type : ℕ) (frame : List ℕ) (p : IpPacket) (w : Way) → is_name 15 point.ifname ≡ true → way_of point link_type frame p ≡ Some w → is_name 15 w.ifname ≡ true
-way-named point link_type frame p w name e = by (is_log link_type) e
+-- interfaces with names
+abbrev pub AreNamed : List Point → Type 0
+AreNamed points = AllByRecursion (λ (p : Point). is_name 15 p.ifname ≡ true) points
+
+point-named : (points : List Point) (name : List ℕ) (p : Point) → AreNamed points → point_named name points ≡ Some p → is_name 15 p.ifname ≡ true
+point-named [] name p names e = cc
+point-named (q ∷ qs) name p names e = by (bytes_eq q.ifname name) e (λ f. point-named qs name p names.1 f)
+  where
+    by : (b : Bool) → (if b then Some q else point_named name qs) ≡ Some p → (point_named name qs ≡ Some p → is_name 15 p.ifname ≡ true) → is_name 15 p.ifname ≡ true
+    by true f more = let same : q ≡ p = cc f in subst (λ (x : Point). is_name 15 x.ifname ≡ true) same names.0
+    by false f more = more f
+
+named-of : (points : List Point) (name : Option (List ℕ)) (p : Point) → AreNamed points → option_and_then (λ n. point_named n points) name ≡ Some p → is_name 15 p.ifname ≡ true
+named-of points None p names e = cc
+named-of points (Some n) p names e = point-named points n p names e
+
+point-of-named : (points : List Point) (name : Option (List ℕ)) (p : Point) → AreNamed points → point_of points name ≡ Some p → is_name 15 p.ifname ≡ true
+point-of-named [] name p names e = named-of [] name p names e
+point-of-named (q ∷ []) name p names e = let same : q ≡ p = cc e in subst (λ (x : Point). is_name 15 x.ifname ≡ true) same names.0
+point-of-named (q ∷ r ∷ rs) name p names e = named-of (q ∷ r ∷ rs) name p names e
+
+way-named : (points : List Point) (name : Option (List ℕ)) (link_type : ℕ) (frame : List ℕ) (p : IpPacket) (w : Way) → AreNamed points → way_of points name link_type frame p ≡ Some w
+    → is_name 15 w.ifname ≡ true
+way-named points name link_type frame p w names e = by (is_log link_type) e
   where
     log : (o : Option Logged) → logged_of frame ≡ o → option_map (λ l. let way : Way = record { heading = record { dir = l.dir; by = evidence.Log; is_contradicted = false }; ifname = l.ifname } in way) o ≡ Some w
         → is_name 15 w.ifname ≡ true
@@ -186,25 +210,28 @@ way-named point link_type frame p w name e = by (is_log link_type) e
         let same : record { heading = record { dir = l.dir; by = evidence.Log; is_contradicted = false }; ifname = l.ifname } ≡ w = cc in
         subst (λ (x : Way). is_name 15 x.ifname ≡ true) same (logged-named frame l t)
 
-    point-way : (o : Option Heading) → option_map (λ heading. let way : Way = record { heading = heading; ifname = point.ifname } in way) o ≡ Some w → is_name 15 w.ifname ≡ true
-    point-way None f = cc
-    point-way (Some heading) f =
+    point-way : (point : Point) (o : Option Heading) → is_name 15 point.ifname ≡ true → option_map (λ heading. let way : Way = record { heading = heading; ifname = point.ifname } in way) o ≡ Some w → is_name 15 w.ifname ≡ true
+    point-way point None own f = cc
+    point-way point (Some heading) own f =
         let same : record { heading = heading; ifname = point.ifname } ≡ w = cc in
-        subst (λ (x : Way). is_name 15 x.ifname ≡ true) same name
+        subst (λ (x : Way). is_name 15 x.ifname ≡ true) same own
 
-    by : (b : Bool) → (if b then logged_way frame else option_map (λ heading. record { heading = heading; ifname = point.ifname }) (heading_from (by_link point link_type frame) (networks_dir point p))) ≡ Some w
-        → is_name 15 w.ifname ≡ true
+    at-point : (o : Option Point) → point_of points name ≡ o → option_and_then (λ point. way_at point link_type frame p) o ≡ Some w → is_name 15 w.ifname ≡ true
+    at-point None t f = cc
+    at-point (Some point) t f = point-way point (heading_from (by_link point link_type frame) (networks_dir point p)) (point-of-named points name point names t) f
+
+    by : (b : Bool) → (if b then logged_way frame else option_and_then (λ point. way_at point link_type frame p) (point_of points name)) ≡ Some w → is_name 15 w.ifname ≡ true
     by true f = log (logged_of frame) refl f
-    by false f = point-way (heading_from (by_link point link_type frame) (networks_dir point p)) f
+    by false f = at-point (point_of points name) refl f
 
 -- ---- so the row can be read
 
-pub found-readable : (point : Point) (link_type : ℕ) (frame : List ℕ) (second : ℕ) (f : Found) → is_name 15 point.ifname ≡ true → AreBytes frame → second ≤ 4294967295
-    → found_in_frame point link_type frame ≡ Ok f → IsReadable (row_from second f)
-found-readable point link_type frame second f name h late e =
-    read-of (packet_of link_type frame) _ f (λ packet is g. way packet is (way_of point link_type frame packet) refl g) e
+pub found-readable : (points : List Point) (name : Option (List ℕ)) (link_type : ℕ) (frame : List ℕ) (second : ℕ) (f : Found) → AreNamed points → AreBytes frame → second ≤ 4294967295
+    → found_in_frame points name link_type frame ≡ Ok f → IsReadable (row_from second f)
+found-readable points name link_type frame second f names h late e =
+    read-of (packet_of link_type frame) _ f (λ packet is g. way packet is (way_of points name link_type frame packet) refl g) e
   where
-    way : (packet : IpPacket) → packet_of link_type frame ≡ Ok packet → (o : Option Way) → way_of point link_type frame packet ≡ o
+    way : (packet : IpPacket) → packet_of link_type frame ≡ Ok packet → (o : Option Way) → way_of points name link_type frame packet ≡ o
         → then_read (ok_or o reason.NeitherWay) (λ w. let found : Found = record { way = w; packet = packet; answer = answer_in link_type frame } in Ok found) ≡ Ok f
         → IsReadable (row_from second f)
     way packet is None t g = cc
@@ -214,7 +241,7 @@ found-readable point link_type frame second f name h late e =
         subst (λ (x : Found). IsReadable (row_from second x)) same (record {
           family = whole.family;
           second = late;
-          name = way-named point link_type frame packet w name t;
+          name = way-named points name link_type frame packet w names t;
           said = carried-said packet.carried whole.carried;
           source = whole.source;
           destination = whole.destination;

@@ -1,10 +1,9 @@
-//! The program: it opens the capture that its words name, writes the trace of it, and to another file what pf answered.
+//! The program: it opens the captures that its words name, writes their trace, and to another file what pf answered.
 //! It reports the account of its frames on standard error, and ends with the status of what stopped it.
 
 #![tactic(auto)]
 
-ghost use Rattle.std.specs.Prelude.{◌≡◌, IfOk, true};
-ghost use Rattle.pfs_addr_values.specs.Names.{is_name};
+ghost use Rattle.std.specs.Prelude.{◌<◌, ◌≤◌, length};
 ghost use Rattle.pfs_streams.specs.Sinks.{OwesNoFlush};
 
 use clap::error::ErrorKind;
@@ -12,12 +11,13 @@ use clap::{Arg, ArgAction, ArgMatches, Command, Error};
 use pfs_addr::parse_prefix;
 use pfs_addr_values::{Prefix, parse_ifname};
 use pfs_capture::{
-    Account, CapturePoint, Feed, Mac, Side, Sink, TraceStop, parse_mac, status, write_trace,
+    Account, Capture, CapturePoint, Feed, FileFault, Mac, Side, Sink, TraceStop, parse_mac, status,
+    write_trace,
 };
 use std::alloc::{AllocError, Global};
 use std::env;
 use std::fs::{self, File};
-use std::io::{self, BufReader, BufWriter, Read, Write};
+use std::io::{self, BufReader, BufWriter, Read, StdinLock, Write};
 use std::process::ExitCode;
 
 /// What `--version` prints after the program's name.
@@ -26,9 +26,11 @@ const VERSION: &str = "0.1.0";
 /// The most reads of a capture, more than a run can make.
 const READS: u64 = u64::MAX;
 
-/// What is wrong with the words.
-#[derive(Clone, Copy)]
-enum Wrong {
+/// Why the words are refused.
+#[derive(Drop)]
+enum Refusal {
+    /// `clap` does not understand them, or has told what they ask for.
+    Clap(Error),
     /// They ask for nothing that can be done, for this reason.
     Mistake(&'static str),
     /// Memory was refused for what they ask.
@@ -47,9 +49,17 @@ fn run(rt: &HostRuntime) -> u8 {
     let Ok(names) = names(rt, &words) else {
         return tell_stop(rt, &TraceStop::Memory, 0);
     };
-    match matches(rt.alloc(), names.as_slice()) {
-        Ok(found) => trace_found(rt, &found),
-        Err(refusal) => tell_refusal(rt, &refusal),
+    match groups_of(rt, names.as_slice()) {
+        Ok(groups) => trace_groups(rt, groups.as_slice()),
+        Err(_) => tell_stop(rt, &TraceStop::Memory, 0),
+    }
+}
+
+/// Writes the trace that groups of words ask for; the status.
+fn trace_groups(rt: &HostRuntime, groups: &[Vec<&str>]) -> u8 {
+    match asked_by(rt, groups) {
+        Ok(asked) => trace_asked(rt, asked),
+        Err(refusal) => tell_refused(rt, &refusal),
     }
 }
 
@@ -63,6 +73,85 @@ fn names<'a>(rt: &HostRuntime, words: &'a [String]) -> Result<Vec<&'a str>, Allo
     words.iter().map(|word| word.as_str()).collect(rt.alloc())
 }
 
+/// The words of each group, behind the program's name: a group begins at each `--interface` but the first.
+fn groups_of<'a>(rt: &HostRuntime, words: &[&'a str]) -> Result<Vec<Vec<&'a str>>, AllocError> {
+    let mut groups = Vec::new(rt.alloc());
+    let Some((name, mut rest)) = words.split_first() else {
+        return Ok(groups);
+    };
+    for _word in words {
+        let (group, behind) = rest.split_at(group_len(rest));
+        let mut own = Vec::new(rt.alloc());
+        own.push(*name)?;
+        own.extend_from_slice(group)?;
+        groups.push(own)?;
+        if behind.is_empty() {
+            break;
+        }
+        rest = behind;
+    }
+    Ok(groups)
+}
+
+/// How many words the first group has: it ends before the second `--interface`.
+fn group_len(words: &[&str]) -> usize
+    ensures { result ≤ length words.now }
+{
+    let mut is_named = false;
+    for (index, word) in words.iter().enumerate() {
+        if *word == "--" {
+            return words.len();
+        }
+        if *word == "--interface" || word.starts_with("--interface=") {
+            if is_named {
+                return index;
+            }
+            is_named = true;
+        }
+    }
+    words.len()
+}
+
+/// What the words of a group ask for.
+#[derive(Drop)]
+struct Asked<'a> {
+    /// The interface.
+    point: CapturePoint,
+    /// The capture's file, if one is named.
+    capture: Option<&'a str>,
+    /// The file for what pf answered, if one is wanted.
+    told: Option<&'a str>,
+    /// Whether each row is to be seen before more of the captures is read.
+    by_lines: bool,
+}
+
+fn asked_by<'a>(
+    rt: &HostRuntime,
+    groups: &'a [Vec<&str>],
+) -> Result<Vec<Asked<'a>>, Refusal> {
+    let mut all = Vec::new(rt.alloc());
+    for words in groups {
+        let asked = asked_of(rt, words.as_slice())?;
+        if all.push(asked).is_err() {
+            return Err(Refusal::Memory);
+        }
+    }
+    Ok(all)
+}
+
+fn asked_of<'a>(rt: &HostRuntime, words: &'a [&'a str]) -> Result<Asked<'a>, Refusal> {
+    let found = match matches(rt.alloc(), words) {
+        Ok(found) => found,
+        Err(error) => return Err(Refusal::Clap(error)),
+    };
+    Ok(Asked {
+        point: point(rt, &found)?,
+        capture: found.get_str("CAPTURE"),
+        told: found.get_str("told"),
+        by_lines: found.get_flag("line-buffered"),
+    })
+}
+
 fn matches<'a>(alloc: Global, words: &'a [&'a str]) -> Result<ArgMatches<'a>, Error> {
     program(alloc)?.try_get_matches_from(words)
 }
@@ -72,7 +161,7 @@ fn program<'a>(alloc: Global) -> Result<Command<'a>, AllocError> {
     let command = Command::new(alloc, "pfstrace")
         .version(VERSION)
         .about(
-            "Writes a trace for pfsrc of a capture, pcap or pcapng, and tells on standard error what became of its frames.",
+            "Writes a trace for pfsrc of captures, pcap or pcapng, and tells on standard error what became of their frames.",
         )
         .after_help(
             "Example: pfstrace --inside 192.0.2.0/24,2001:db8::/32 web.pcap > trace\nWithout a file, and of the file -, it reads standard input. A log of pflog(4) and a Linux cooked capture tell the directions themselves.\nStatus: 0 done, 1 a fault in the capture, 2 words that are not understood, 4 reading, writing or memory failed.",
@@ -130,7 +219,7 @@ fn interface_name<'a>(alloc: Global) -> Arg<'a> {
         alloc,
         "interface",
         ArgAction::Set,
-        "The interface of every record, em0 if it is not given.",
+        "The interface of every record, em0 if it is not given. Given again, it begins the words of another interface, with a capture of its own; one capture alone is that of all, and each frame is of the interface that its block names.",
     )
 }
 
@@ -159,29 +248,112 @@ fn capture<'a>(alloc: Global) -> Arg<'a> {
     )
 }
 
-/// Writes the trace that the words ask for; the status.
-fn trace_found(rt: &HostRuntime, found: &ArgMatches<'_>) -> u8 {
-    let point = match point(rt, found) {
-        Ok(point) => point,
-        Err(Wrong::Mistake(why)) => return tell_mistake(rt, why),
-        Err(Wrong::Memory) => return tell_stop(rt, &TraceStop::Memory, 0),
+/// Writes the trace that is asked for; the status.
+fn trace_asked(rt: &HostRuntime, asked: Vec<Asked<'_>>) -> u8 {
+    let output = match output_of(&asked) {
+        Ok(output) => output,
+        Err(refusal) => return tell_refused(rt, &refusal),
     };
-    let told = found.get_str("told");
-    let name = file_of(found.get_str("CAPTURE"));
-    if told == Some("-") {
-        return tell_mistake(rt, "--told: standard output has the trace");
-    }
-    if is_capture(rt, told, name.unwrap_or("/dev/stdin")) {
-        return tell_mistake(rt, "--told: this is the capture");
-    }
-    let output = Output {
-        told,
-        by_lines: found.get_flag("line-buffered"),
+    let sources = match sources_of(rt, asked) {
+        Ok(sources) => sources,
+        Err(refusal) => return tell_refused(rt, &refusal),
     };
-    match name {
-        Some(name) => trace_file(rt, &point, output, name),
-        None => trace_reader(rt, &point, output, &mut rt.reader()),
+    for source in &sources {
+        if is_capture(rt, output.told, source.name.unwrap_or("/dev/stdin")) {
+            return tell_mistake(rt, "--told: this is the capture");
+        }
     }
+    match open_all(rt, sources) {
+        Ok(mut captures) => trace_captures(rt, &mut captures, output),
+        Err(stop) => tell_stop(rt, &stop, 0),
+    }
+}
+
+/// What is written beside the trace, and how.
+#[derive(Clone, Copy)]
+struct Output<'a> {
+    /// The file for what pf answered, if one is wanted.
+    told: Option<&'a str>,
+    /// Whether each row is to be seen before more of the captures is read.
+    by_lines: bool,
+}
+
+fn output_of<'a>(asked: &[Asked<'a>]) -> Result<Output<'a>, Refusal> {
+    let mut output = Output {
+        told: None,
+        by_lines: false,
+    };
+    for group in asked {
+        output.by_lines = output.by_lines || group.by_lines;
+        if output.told.is_some() && group.told.is_some() {
+            return Err(Refusal::Mistake("--told: give it once"));
+        }
+        output.told = output.told.or(group.told);
+    }
+    if output.told == Some("-") {
+        return Err(Refusal::Mistake("--told: standard output has the trace"));
+    }
+    Ok(output)
+}
+
+/// A capture's interfaces, and its file; none stands for standard input.
+#[derive(Drop)]
+struct Source<'a> {
+    points: Vec<CapturePoint>,
+    name: Option<&'a str>,
+}
+
+/// The captures that the groups of words name: one of all their interfaces, or one of each.
+fn sources_of<'a>(rt: &HostRuntime, asked: Vec<Asked<'a>>) -> Result<Vec<Source<'a>>, Refusal> {
+    let is_shared = is_shared(&asked)?;
+    let mut sources = Vec::new(rt.alloc());
+    let mut points = Vec::new(rt.alloc());
+    let mut name = None;
+    for group in asked {
+        name = group.capture.or(name);
+        if points.push(group.point).is_err() {
+            return Err(Refusal::Memory);
+        }
+        if !is_shared {
+            let source = Source {
+                points,
+                name: file_of(name),
+            };
+            if sources.push(source).is_err() {
+                return Err(Refusal::Memory);
+            }
+            points = Vec::new(rt.alloc());
+        }
+    }
+    if is_shared {
+        let source = Source {
+            points,
+            name: file_of(name),
+        };
+        if sources.push(source).is_err() {
+            return Err(Refusal::Memory);
+        }
+    }
+    Ok(sources)
+}
+
+/// Whether one capture is that of all groups; else each has one of its own.
+fn is_shared(asked: &[Asked<'_>]) -> Result<bool, Refusal> {
+    let named = asked.iter().filter(|group| group.capture.is_some()).count();
+    if named <= 1 {
+        return Ok(true);
+    }
+    if named < asked.len() {
+        return Err(Refusal::Mistake("--interface: give one capture for all, or one for each"));
+    }
+    let standard = asked
+        .iter()
+        .filter(|group| group.capture == Some("-"))
+        .count();
+    if standard > 1 {
+        return Err(Refusal::Mistake("-: standard input is one capture"));
+    }
+    Ok(false)
 }
 
 /// The file of this name; none where it stands for standard input.
@@ -192,13 +364,48 @@ fn file_of<'a>(name: Option<&'a str>) -> Option<&'a str> {
     }
 }
 
-/// What is written beside the trace, and how.
-#[derive(Clone, Copy)]
-struct Output<'a> {
-    /// The file for what pf answered, if one is wanted.
-    told: Option<&'a str>,
-    /// Whether each row is to be seen before more of the capture is read.
-    by_lines: bool,
+/// What is read: a file, or standard input.
+#[derive(Drop)]
+enum Input {
+    File(BufReader<File>),
+    Standard(StdinLock<'static>),
+}
+
+impl Input {
+    /// The file of this name, or standard input where no file is named.
+    fn open(rt: &HostRuntime, name: Option<&str>) -> Result<Input, TraceStop> {
+        let Some(name) = name else {
+            return Ok(Input::Standard(rt.reader()));
+        };
+        let Ok(file) = File::open(rt, name) else {
+            return Err(TraceStop::File(FileFault::Read));
+        };
+        match BufReader::new(rt.alloc(), file) {
+            Ok(file) => Ok(Input::File(file)),
+            Err(_) => Err(TraceStop::Memory),
+        }
+    }
+}
+
+impl Read for Input {
+    fn read(&mut self, buf: &mut [u8]) -> io::Result<usize> {
+        match self {
+            Input::File(file) => file.read(buf),
+            Input::Standard(input) => input.read(buf),
+        }
+    }
+}
+
+fn open_all(rt: &HostRuntime, sources: Vec<Source<'_>>) -> Result<Vec<Capture<Input>>, TraceStop> {
+    let mut captures = Vec::new(rt.alloc());
+    for source in sources {
+        let reader = Feed::new(Input::open(rt, source.name)?, READS);
+        let capture = Capture::new(rt.alloc(), source.points, reader);
+        if captures.push(capture).is_err() {
+            return Err(TraceStop::Memory);
+        }
+    }
+    Ok(captures)
 }
 
 /// A sink of this writer: by lines, if that is asked for.
@@ -213,11 +420,9 @@ fn sink_of<W>(writer: W, by_lines: bool) -> Sink<W>
 }
 
 /// Where the capture was taken, as the words say.
-fn point(rt: &HostRuntime, found: &ArgMatches<'_>) -> Result<CapturePoint, Wrong>
-    ensures { IfOk result (λ p. is_name 15 p.ifname ≡ true) }
-{
+fn point(rt: &HostRuntime, found: &ArgMatches<'_>) -> Result<CapturePoint, Refusal> {
     let Some(ifname) = parse_ifname(found.get_str("interface").unwrap_or("em0").as_bytes()) else {
-        return Err(Wrong::Mistake("--interface: no name of an interface"));
+        return Err(Refusal::Mistake("--interface: no name of an interface"));
     };
     let macs = macs(rt, found)?;
     let inside = prefixes(rt, found, "inside", "--inside: no address and no prefix")?;
@@ -226,19 +431,19 @@ fn point(rt: &HostRuntime, found: &ArgMatches<'_>) -> Result<CapturePoint, Wrong
         return Ok(CapturePoint::new(ifname, macs, outside, Side::InFront));
     }
     if !outside.is_empty() {
-        return Err(Wrong::Mistake("--inside and --outside: give one of them"));
+        return Err(Refusal::Mistake("--inside and --outside: give one of them"));
     }
     Ok(CapturePoint::new(ifname, macs, inside, Side::Behind))
 }
 
-fn macs(rt: &HostRuntime, found: &ArgMatches<'_>) -> Result<Vec<Mac>, Wrong> {
+fn macs(rt: &HostRuntime, found: &ArgMatches<'_>) -> Result<Vec<Mac>, Refusal> {
     let mut macs = Vec::new(rt.alloc());
     for text in found.get_strs("mac").unwrap_or(&[]) {
         let Some(mac) = parse_mac(text.as_bytes()) else {
-            return Err(Wrong::Mistake("--mac: no address such as 00:00:5e:00:53:01"));
+            return Err(Refusal::Mistake("--mac: no address such as 00:00:5e:00:53:01"));
         };
         if macs.extend_from_slice(&[mac]).is_err() {
-            return Err(Wrong::Memory);
+            return Err(Refusal::Memory);
         }
     }
     Ok(macs)
@@ -250,14 +455,14 @@ fn prefixes(
     found: &ArgMatches<'_>,
     name: &str,
     why: &'static str,
-) -> Result<Vec<Prefix>, Wrong> {
+) -> Result<Vec<Prefix>, Refusal> {
     let mut prefixes = Vec::new(rt.alloc());
     for text in found.get_strs(name).unwrap_or(&[]) {
         let Some(prefix) = parse_prefix(text.as_bytes()) else {
-            return Err(Wrong::Mistake(why));
+            return Err(Refusal::Mistake(why));
         };
         if prefixes.push(prefix).is_err() {
-            return Err(Wrong::Memory);
+            return Err(Refusal::Memory);
         }
     }
     Ok(prefixes)
@@ -280,38 +485,18 @@ fn is_capture(rt: &HostRuntime, told: Option<&str>, name: &str) -> bool {
     one == other
 }
 
-fn trace_file(rt: &HostRuntime, point: &CapturePoint, output: Output<'_>, name: &str) -> u8
-    requires { is_name 15 point.now.ifname ≡ true }
-{
-    let Ok(file) = File::open(rt, name) else {
-        let _ = eprintln!(rt; "read failed");
-        return 4;
-    };
-    match BufReader::new(rt.alloc(), file) {
-        Ok(mut file) => trace_reader(rt, point, output, &mut file),
-        Err(_) => tell_stop(rt, &TraceStop::Memory, 0),
-    }
-}
-
-/// Writes the trace of what a reader gives, and what pf answered to the file of this name, if one is given; the status.
-fn trace_reader<R: Read>(
-    rt: &HostRuntime,
-    point: &CapturePoint,
-    output: Output<'_>,
-    reader: &mut R,
-) -> u8
-    requires { is_name 15 point.now.ifname ≡ true }
-{
+/// Writes the trace of captures, and what pf answered to the file of this name, if one is given; the status.
+fn trace_captures(rt: &HostRuntime, captures: &mut [Capture<Input>], output: Output<'_>) -> u8 {
     let by_lines = output.by_lines;
     let Some(name) = output.told else {
-        return trace_into(rt, point, by_lines, reader, io::sink());
+        return trace_into(rt, captures, by_lines, io::sink());
     };
     let Ok(file) = create_anew(rt, name) else {
         let _ = eprintln!(rt; "--told: the file can't be written");
         return 4;
     };
     match BufWriter::new(rt.alloc(), file) {
-        Ok(file) => trace_into(rt, point, by_lines, reader, file),
+        Ok(file) => trace_into(rt, captures, by_lines, file),
         Err(_) => tell_stop(rt, &TraceStop::Memory, 0),
     }
 }
@@ -334,42 +519,32 @@ fn is_own_file(rt: &HostRuntime, name: &str) -> bool {
 }
 
 /// Writes the trace to standard output, and what pf answered to a writer, and reports the account; the status.
-fn trace_into<R: Read, T: Write + Drop>(
+fn trace_into<T: Write + Drop>(
     rt: &HostRuntime,
-    point: &CapturePoint,
+    captures: &mut [Capture<Input>],
     by_lines: bool,
-    reader: &mut R,
-    told: T,
-) -> u8
-    requires { is_name 15 point.now.ifname ≡ true }
-{
+    answers: T,
+) -> u8 {
     let Ok(out) = BufWriter::new(rt.alloc(), io::writer(rt)) else {
         return tell_stop(rt, &TraceStop::Memory, 0);
     };
     let mut out = sink_of(out, by_lines);
-    let mut told = sink_of(told, by_lines);
+    let mut answers = sink_of(answers, by_lines);
     let mut account = Account::new();
-    let answer = write_trace(
-        rt.alloc(),
-        point,
-        &mut Feed::new(reader, READS),
-        &mut out,
-        &mut told,
-        &mut account,
-    );
+    let ended = write_trace(rt.alloc(), captures, &mut out, &mut answers, &mut account);
     // At a fault the rows before it are to be seen all the same.
     let flushed = out.into_inner().flush();
-    let told_flushed = told.into_inner().flush();
+    let answers_flushed = answers.into_inner().flush();
     // Where a reader of the trace has gone away, nobody asks for the account.
-    if let Err(TraceStop::Write) = answer {
+    if let Err(TraceStop::Write) = ended {
         return tell_stop(rt, &TraceStop::Write, 0);
     }
     let directions = account.directions;
     let _ = eprintln!(rt; "{account}\n{directions}");
-    match answer {
+    match ended {
         Err(stop) => tell_stop(rt, &stop, account.frames),
         Ok(()) if flushed.is_err() => tell_stop(rt, &TraceStop::Write, 0),
-        Ok(()) if told_flushed.is_err() => tell_stop(rt, &TraceStop::Told, 0),
+        Ok(()) if answers_flushed.is_err() => tell_stop(rt, &TraceStop::Told, 0),
         Ok(()) => 0,
     }
 }
@@ -397,6 +572,15 @@ fn tell_no_words(rt: &HostRuntime, error: &io::Error) -> u8 {
         return tell_mistake(rt, "a word is not UTF-8");
     }
     tell_stop(rt, &TraceStop::Memory, 0)
+}
+
+/// Reports why the words are refused; the status.
+fn tell_refused(rt: &HostRuntime, refusal: &Refusal) -> u8 {
+    match refusal {
+        Refusal::Clap(error) => tell_refusal(rt, error),
+        Refusal::Mistake(why) => tell_mistake(rt, why),
+        Refusal::Memory => tell_stop(rt, &TraceStop::Memory, 0),
+    }
 }
 
 /// Reports what `clap` says of the words: help on standard output with status 0, a mistake on standard error with status 2.

@@ -1,11 +1,5 @@
--- Answer of outcome_of: the part that is sorted is the frame.
-use Rattle.std.proofs.Common.{ℕ, List, ap, ◌∙◌}
-use Rattle.pfs_capture.specs.Sorting.{found_in_frame}
-use Rattle.pfs_capture.proofs.Clips.{clipped}
+-- Answer of outcome_of: what is lent is the capture's.
 use Rattle.pfs_capture.proofs.traces.outcome_of.Goals as goal
 
 pub returns-clause-is : goal.returns-clause-is
-returns-clause-is c =
-    c.sort.ensures.is
-    ∙ ap (λ (b : List ℕ). found_in_frame c.args.point.now c.args.frame.link b)
-    (clipped c.args.frame.from c.args.frame.count c.min.result c.min-2.result c.args.held.now c.min.ensures c.min-2.ensures)
+returns-clause-is g c = rw (c.deref.ensures.value, c.deref-2.ensures.value) at c.outcome_in.ensures.is

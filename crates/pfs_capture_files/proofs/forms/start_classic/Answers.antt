@@ -8,4 +8,4 @@ returns-in_err-fill-clause-within g c =
     let p = err_from_is_err_and c.from_residual.result c.from_residual.ensures.1 in
     rw (p.1) (λ xs e.
     let (k, few, left) = c.in_err-fill.ensures.few xs e in
-    classic_within c.args.order c.args.lengths xs _ k few left)
+    classic_within c.args.order c.args.precision c.args.lengths xs _ k few left)

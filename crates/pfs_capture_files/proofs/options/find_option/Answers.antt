@@ -6,7 +6,7 @@ use Rattle.pfs_capture_files.proofs.options.find_option.Goals as goal
 
 pub returns-in-Found-clause-is : goal.returns-in-Found-clause-is
 returns-in-Found-clause-is c =
-    sym (left-turn (length c.args.body.now) c.loop-turn._turn c.args.order c.args.body.now c.args.wanted c.loop-turn.at (Found c.in-Found.value) (omega arith) (sym c.in-Found.ensures.is)) ∙ c.loop-turn.invariant
+    sym (left-turn (length c.args.body.now) c.loop-turn._turn c.args.order c.args.body.now c.args.wanted c.loop-turn.at (Found c.in-Found.place) (omega arith) (sym c.in-Found.ensures.is)) ∙ c.loop-turn.invariant
 
 pub returns-in-Nowhere-clause-is : goal.returns-in-Nowhere-clause-is
 returns-in-Nowhere-clause-is c =
