@@ -11,7 +11,7 @@ use Rattle.pfs_capture.specs.Aheads.{is_asked, rest_ahead, rest_from, with_next}
 use Rattle.pfs_capture.specs.Captures.{Frames, Seen, at_turn, frames_from, seen_of}
 use Rattle.pfs_capture.specs.Instants.{instant_after}
 use Rattle.pfs_capture.specs.Points.{Point}
-use Rattle.pfs_capture.specs.Runs.{Run, ahead, at_instant, judged_at, judged_frames, judged_from}
+use Rattle.pfs_capture.specs.Runs.{Run, frame_then, at_instant, judged_at, judged_frames, judged_from}
 use Rattle.pfs_capture.specs.declared.captures.Next.{Next}
 use Rattle.pfs_capture.specs.declared.captures.Next.TheVariants as next
 use Rattle.pfs_capture.specs.declared.faults.TraceStop.{TraceStop}
@@ -117,7 +117,7 @@ pub ahead-waits : {S : Type 0} (remaining : S → Option (List ℕ)) (points : L
     → ((xs : List ℕ) → remaining a ≡ Some xs → ReadsItem (turn_of form xs) (Ok (item.Frame frame)) form2 held2 (remaining b))
     → instant_after last frame.moment ≡ Ok instant
     → Lies remaining a run (λ left. with_next points held last known (rest_ahead points last items before left))
-    → Lies remaining b run (λ left. ahead (judged_at points (seen_of frame held2) instant) (rest_ahead points instant (items - 1) (Some form2) left))
+    → Lies remaining b run (λ left. frame_then (judged_at points (seen_of frame held2) instant) (rest_ahead points instant (items - 1) (Some form2) left))
 ahead-waits remaining points last instant items held held2 known before form form2 frame a b run e some few reads told (left, source, is) =
     let (ys, behind, found) = reads left source in
     let more = frames_from (items - 1) form2 ys in

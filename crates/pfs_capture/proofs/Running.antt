@@ -12,7 +12,7 @@ use Rattle.pfs_capture_files.specs.declared.faults.FileFault.{FileFault}
 use Rattle.pfs_capture.specs.Accounts.{frame_counted, no_frames}
 use Rattle.pfs_capture.specs.Aheads.{Aheads, AllBegin, is_around, is_of_reading}
 use Rattle.pfs_capture.specs.Captures.{most_items}
-use Rattle.pfs_capture.specs.Merging.{Coming, Comes, Stops, Ends, Given, at_next, capture_run, captures_run, first_fault, merged, next_of}
+use Rattle.pfs_capture.specs.Merging.{Coming, Comes, Stops, Ends, Given, at_coming, capture_run, captures_run, first_fault, merged, coming_of}
 use Rattle.pfs_capture.specs.Readers.{lefts_of}
 use Rattle.pfs_capture.specs.Runs.{Judged, Run}
 use Rattle.pfs_capture.specs.Traces.{BeginsText, TellsAll, TellsCaptures, TellsFirst, TellsFront, TellsRun, account_of, answer_text, answers_text, trace_text}
@@ -31,16 +31,16 @@ kept-ok x e (inr kept) = kept
 
 -- ---- one turn of the definitions
 
-merged-turn : (n : ℕ) (runs : List Run) (coming : Coming) → next_of runs ≡ coming → merged (suc n) runs ≡ at_next coming (merged n)
+merged-turn : (n : ℕ) (runs : List Run) (coming : Coming) → coming_of runs ≡ coming → merged (suc n) runs ≡ at_coming coming (merged n)
 unfolding merged
-merged-turn n runs coming e = ap (λ (c : Coming). at_next c (merged n)) e
+merged-turn n runs coming e = ap (λ (c : Coming). at_coming c (merged n)) e
 
 merged-none : (runs : List Run) → merged 0 runs ≡ ([], Some stop.TooMany)
 unfolding merged
 merged-none runs = refl
 
 -- of `m` frames there are `i` and one more before those that are left
-left-turn : (m i : ℕ) (runs : List Run) (coming : Coming) → i < m → next_of runs ≡ coming → merged (m - i) runs ≡ at_next coming (merged (m - (i + 1)))
+left-turn : (m i : ℕ) (runs : List Run) (coming : Coming) → i < m → coming_of runs ≡ coming → merged (m - i) runs ≡ at_coming coming (merged (m - (i + 1)))
 left-turn m i runs coming h e =
     let turns : m - i ≡ suc (m - (i + 1)) = omega arith in
     ap (λ k. merged k runs) turns ∙ merged-turn (m - (i + 1)) runs coming e
@@ -146,7 +146,7 @@ ended-here remaining run before now before2 now2 turn account cs end h e =
     tells-all run h.seen end account (h.split ∙ (ap (λ (r : Run). behind h.seen r) e ∙ behind-none h.seen end)) h.counts
 
 pub ends-end : {R : Type 0} (remaining : FeedView R → Option (List ℕ)) (run : Run) (before now before2 now2 : Option (List ℕ)) (turn : ℕ) (account : Account) (cs : List (Capture R))
-    → (h : SoFar remaining run before now before2 now2 turn account cs) → turn < most_items → next_of h.runs ≡ Ends
+    → (h : SoFar remaining run before now before2 now2 turn account cs) → turn < most_items → coming_of h.runs ≡ Ends
     → IsEnded run before now before2 now2 account (Ok tt)
 ends-end remaining run before now before2 now2 turn account cs h few none =
     (trace_text h.seen, answers_text h.seen, h.trace, h.answers, ended-here remaining run before now before2 now2 turn account cs None h (left-turn most_items turn h.runs Ends few none))
@@ -168,7 +168,7 @@ ends-first remaining run before now before2 now2 turn account cs f h memory =
 -- a capture stops
 pub ends-asked : {R : Type 0} (remaining : FeedView R → Option (List ℕ)) (run : Run) (before now before2 now2 : Option (List ℕ)) (turn : ℕ) (account : Account) (cs : List (Capture R)) (f : TraceStop)
     → SoFar remaining run before now before2 now2 turn account cs → turn < most_items → is_of_reading f ≡ true
-    → ((runs : List Run) → Aheads remaining cs runs → is_around f ≡ false → next_of runs ≡ Stops f)
+    → ((runs : List Run) → Aheads remaining cs runs → is_around f ≡ false → coming_of runs ≡ Stops f)
     → IsEnded run before now before2 now2 account (Err f)
 ends-asked remaining run before now before2 now2 turn account cs stop.Write h few reading stops = absurd (cc reading)
 ends-asked remaining run before now before2 now2 turn account cs stop.Told h few reading stops = absurd (cc reading)
@@ -207,7 +207,7 @@ pub record Counted {R : Type 0} (remaining : FeedView R → Option (List ℕ)) (
 
 -- the run goes on after a frame
 split-frame : (run : Run) (seen : List Judged) (turn : ℕ) (runs rest : List Run) (j : Judged)
-    → turn < most_items → run ≡ behind seen (merged (most_items - turn) runs) → next_of runs ≡ Comes j rest
+    → turn < most_items → run ≡ behind seen (merged (most_items - turn) runs) → coming_of runs ≡ Comes j rest
     → run ≡ behind (seen ++ j ∷ []) (merged (most_items - (turn + 1)) rest)
 split-frame run seen turn runs rest j few split comes =
     let more = merged (most_items - (turn + 1)) rest in
@@ -217,7 +217,7 @@ split-frame run seen turn runs rest j few split comes =
 
 pub counted : {R : Type 0} (remaining : FeedView R → Option (List ℕ)) (run : Run) (before now before2 now2 : Option (List ℕ)) (turn : ℕ) (account account2 : Account) (cs ds : List (Capture R)) (j : Judged) (rest : List Run) (row answer : List ℕ)
     → (h : SoFar remaining run before now before2 now2 turn account cs) → turn < most_items
-    → next_of h.runs ≡ Comes j rest → Aheads remaining ds rest
+    → coming_of h.runs ≡ Comes j rest → Aheads remaining ds rest
     → TakesFrame (frame_taken account j) (Ok account2) row answer
     → Counted remaining run before now before2 now2 (turn + 1) account2 ds row answer
 counted remaining run before now before2 now2 turn account account2 cs ds j rest row answer h few comes left taken = record {

@@ -8,13 +8,13 @@ use Rattle.pfs_capture_files.specs.declared.faults.FileFault.{FileFault}
 use Rattle.pfs_capture_files.specs.declared.forms.Form.{Form}
 use Rattle.pfs_capture_files.specs.declared.frames.Frame.{Frame}
 use Rattle.pfs_capture_files.proofs.StartLaws.{start_within}
-use Rattle.pfs_capture.specs.Aheads.{Ahead, Aheads, AllBegin, AreAsked, BreaksOff, HaveBegun, IsBegun, earliest, is_asked, nearer, place_at, rest_ahead, with_next}
+use Rattle.pfs_capture.specs.Aheads.{Ahead, Aheads, AllBegin, AreAsked, BreaksOff, HaveBegun, HasBegun, earliest, is_asked, nearer, waiting_at, rest_ahead, with_next}
 use Rattle.pfs_capture.specs.Captures.{frames_from, most_items, seen_of}
 use Rattle.pfs_capture.specs.Instants.{is_earlier, start_instant}
-use Rattle.pfs_capture.specs.Merging.{Coming, Comes, Stops, Ends, Given, behind_frame, behind_run, begun_run, capture_run, fault_or, first_fault, next_of}
+use Rattle.pfs_capture.specs.Merging.{Coming, Comes, Stops, Ends, Given, behind_frame, behind_run, begun_run, capture_run, fault_or, first_fault, coming_of}
 use Rattle.pfs_capture.specs.Points.{Point}
 use Rattle.pfs_capture.specs.Readers.{AreGiven, IsGiven, SomeFailed, failures_of, lefts_of}
-use Rattle.pfs_capture.specs.Runs.{Judged, Run, ahead, judged_at, judged_frames}
+use Rattle.pfs_capture.specs.Runs.{Judged, Run, frame_then, judged_at, judged_frames}
 use Rattle.pfs_capture.specs.Traces.{AreWithinStarts}
 use Rattle.pfs_capture.specs.declared.captures.Capture.{Capture}
 use Rattle.pfs_capture.specs.declared.captures.Next.{Next}
@@ -71,11 +71,11 @@ stops-behind points held last (next.Waits frame) rest r rs f was e = ap (λ (x :
 
 pub stops-at : {R : Type 0} (remaining : FeedView R → Option (List ℕ)) (cs : List (Capture R)) (rs : List Run) (i : ℕ) (c o : Capture R) (f : TraceStop)
     → c ≡ get_or cs i o → i < length cs → AreAsked i cs → ((run : Run) → Ahead remaining c run → run ≡ ([], Some f))
-    → Aheads remaining cs rs → next_of rs ≡ Stops f
+    → Aheads remaining cs rs → coming_of rs ≡ Stops f
 stops-at remaining [] rs i c o f e lt known stops h = absurd (omega (arith, lt))
 stops-at remaining (x ∷ xs) [] i c o f e lt known stops h = absurd h
 stops-at remaining (x ∷ xs) (r ∷ rs) zero c o f e lt known stops h =
-    ap (λ (z : Run). behind_run z (next_of rs) rs) (stops r (subst (λ (z : Capture _). Ahead remaining z r) (sym e) h.0))
+    ap (λ (z : Run). behind_run z (coming_of rs) rs) (stops r (subst (λ (z : Capture _). Ahead remaining z r) (sym e) h.0))
 stops-at remaining (x ∷ xs) (r ∷ rs) (suc i) c o f e lt known stops h =
     let (left, source, is) = h.0 in
     ap (λ (z : Coming). behind_run r z rs) (stops-at remaining xs rs i c o f e (omega (arith, lt)) known.1 stops h.1)
@@ -85,7 +85,7 @@ stops-at remaining (x ∷ xs) (r ∷ rs) (suc i) c o f e lt known stops h =
 
 -- nothing waits: nothing comes
 ended-behind : (points : List Point) (held : List ℕ) (last : Instant) (known : Next) (rest r : Run) (rs : List Run) (k : ℕ) (behind : Option Place) → is_asked known ≡ true
-    → nearer (place_at k last known) behind ≡ None → r ≡ with_next points held last known rest → (behind ≡ None) × (behind_run r Ends rs ≡ Ends)
+    → nearer (waiting_at k last known) behind ≡ None → r ≡ with_next points held last known rest → (behind ≡ None) × (behind_run r Ends rs ≡ Ends)
 ended-behind points held last next.Unasked rest r rs k behind was none e = absurd (cc was)
 ended-behind points held last next.Ended rest r rs k behind was none e = (none, ap (λ (x : Run). behind_run x Ends rs) e)
 ended-behind points held last (next.Waits frame) rest r rs k None was none e = absurd (cc none)
@@ -96,7 +96,7 @@ ended-behind points held last (next.Waits frame) rest r rs k (Some q) was none e
     go false f = absurd (cc f)
 
 pub none-comes : {R : Type 0} (remaining : FeedView R → Option (List ℕ)) (cs : List (Capture R)) (rs : List Run) (k : ℕ) → AreAsked (length cs) cs
-    → earliest k cs ≡ None → Aheads remaining cs rs → next_of rs ≡ Ends
+    → earliest k cs ≡ None → Aheads remaining cs rs → coming_of rs ≡ Ends
 none-comes remaining [] [] k known none h = refl
 none-comes remaining [] (r ∷ rs) k known none h = absurd h
 none-comes remaining (x ∷ xs) [] k known none h = absurd h
@@ -114,7 +114,7 @@ pub record IsChosen {R : Type 0} (remaining : FeedView R → Option (List ℕ)) 
   pub within : nth < length cs
   pub which : slice_get cs nth ≡ Some capture
   pub instant : p.instant ≡ capture.last
-  pub comes : next_of rs ≡ Comes (judged_at capture.points.items (seen_of p.frame capture.held.items) capture.last) rest
+  pub comes : coming_of rs ≡ Comes (judged_at capture.points.items (seen_of p.frame capture.held.items) capture.last) rest
   pub left : Aheads remaining (set cs nth (record capture { next = next.Unasked })) rest
 
 -- it is behind the capture in front
@@ -138,7 +138,7 @@ chosen-behind remaining x xs r rs k p front h comes = record {
 -- it is that of the capture in front
 chosen-front : {R : Type 0} (remaining : FeedView R → Option (List ℕ)) (x : Capture R) (xs : List (Capture R)) (rs : List Run) (r : Run) (k : ℕ) (frame : Frame) (left : List ℕ) (p : Place)
     → record { index = k; instant = x.last; frame = frame } ≡ p → remaining x.reader ≡ Some left → Aheads remaining xs rs
-    → behind_run r (next_of rs) rs ≡ Comes (judged_at x.points.items (seen_of frame x.held.items) x.last) (rest_ahead x.points.items x.last x.items x.form left ∷ rs)
+    → behind_run r (coming_of rs) rs ≡ Comes (judged_at x.points.items (seen_of frame x.held.items) x.last) (rest_ahead x.points.items x.last x.items x.form left ∷ rs)
     → IsChosen remaining (x ∷ xs) (r ∷ rs) k p
 chosen-front remaining x xs rs r k frame left p e source behind comes = subst (λ (q : Place). IsChosen remaining (x ∷ xs) (r ∷ rs) k q) e (record {
   nth = 0;
@@ -166,14 +166,14 @@ chosen {R} remaining (x ∷ xs) (r ∷ rs) k p known e h =
     first : Frame → Judged
     first frame = judged_at x.points.items (seen_of frame x.held.items) x.last
 
-    waits : (frame : Frame) (left : List ℕ) → remaining x.reader ≡ Some left → r ≡ ahead (first frame) (rest left) → (behind : Option Place) → earliest (k + 1) xs ≡ behind
+    waits : (frame : Frame) (left : List ℕ) → remaining x.reader ≡ Some left → r ≡ frame_then (first frame) (rest left) → (behind : Option Place) → earliest (k + 1) xs ≡ behind
         → nearer (Some (record { index = k; instant = x.last; frame = frame })) behind ≡ Some p
         → ((q : Place) → earliest (k + 1) xs ≡ Some q → Aheads remaining xs rs → IsChosen remaining xs rs (k + 1) q)
-        → (earliest (k + 1) xs ≡ None → Aheads remaining xs rs → next_of rs ≡ Ends)
+        → (earliest (k + 1) xs ≡ None → Aheads remaining xs rs → coming_of rs ≡ Ends)
         → IsChosen remaining (x ∷ xs) (r ∷ rs) k p
     waits frame left source is None t f more none =
         chosen-front remaining x xs rs r k frame left p (cc f) source h.1
-        (ap (λ (z : Run). behind_run z (next_of rs) rs) is ∙ ap (λ (z : Coming). behind_frame (first frame) (rest left) z rs) (none t h.1))
+        (ap (λ (z : Run). behind_run z (coming_of rs) rs) is ∙ ap (λ (z : Coming). behind_frame (first frame) (rest left) z rs) (none t h.1))
     waits frame left source is (Some q) t f more none = test (is_earlier q.instant x.last) refl f
       where
         behind : IsChosen remaining xs rs (k + 1) q
@@ -187,20 +187,20 @@ chosen {R} remaining (x ∷ xs) (r ∷ rs) k p known e h =
             subst (λ (z : Place). IsChosen remaining (x ∷ xs) (r ∷ rs) k z) same
             (chosen-behind remaining x xs r rs k q h.0 behind
             (ap (λ (z : Run). behind_run z (Comes j behind.rest) rs) is
-            ∙ (ap (λ (b : Bool). if b then Comes j (ahead (first frame) (rest left) ∷ behind.rest) else Comes (first frame) (rest left ∷ rs)) own
+            ∙ (ap (λ (b : Bool). if b then Comes j (frame_then (first frame) (rest left) ∷ behind.rest) else Comes (first frame) (rest left ∷ rs)) own
             ∙ ap (λ (z : Run). Comes j (z ∷ behind.rest)) (sym is))))
         test false earlier g =
             let own : is_earlier behind.capture.last x.last ≡ false = ap (λ (z : Instant). is_earlier z x.last) (sym behind.instant) ∙ earlier in
             let j : Judged = judged_at behind.capture.points.items (seen_of q.frame behind.capture.held.items) behind.capture.last in
             chosen-front remaining x xs rs r k frame left p (cc g) source h.1
-            (ap (λ (z : Run). behind_run z (next_of rs) rs) is
+            (ap (λ (z : Run). behind_run z (coming_of rs) rs) is
             ∙ (ap (λ (z : Coming). behind_frame (first frame) (rest left) z rs) behind.comes
-            ∙ ap (λ (b : Bool). if b then Comes j (ahead (first frame) (rest left) ∷ behind.rest) else Comes (first frame) (rest left ∷ rs)) own))
+            ∙ ap (λ (b : Bool). if b then Comes j (frame_then (first frame) (rest left) ∷ behind.rest) else Comes (first frame) (rest left ∷ rs)) own))
 
     by : (known : Next) (left : List ℕ) → is_asked known ≡ true → remaining x.reader ≡ Some left → r ≡ with_next x.points.items x.held.items x.last known (rest left)
-        → nearer (place_at k x.last known) (earliest (k + 1) xs) ≡ Some p
+        → nearer (waiting_at k x.last known) (earliest (k + 1) xs) ≡ Some p
         → ((q : Place) → earliest (k + 1) xs ≡ Some q → Aheads remaining xs rs → IsChosen remaining xs rs (k + 1) q)
-        → (earliest (k + 1) xs ≡ None → Aheads remaining xs rs → next_of rs ≡ Ends)
+        → (earliest (k + 1) xs ≡ None → Aheads remaining xs rs → coming_of rs ≡ Ends)
         → IsChosen remaining (x ∷ xs) (r ∷ rs) k p
     by next.Unasked left was source is f more none = absurd (cc was)
     by next.Ended left was source is f more none =
@@ -219,7 +219,7 @@ chosen-here remaining cs rs p h =
 -- ---- the beginnings
 
 pub begun-step : {R : Type 0} (remaining : FeedView R → Option (List ℕ)) (cs : List (Capture R)) (gs : List Given) (i : ℕ) (c d o : Capture R)
-    → c ≡ get_or cs i o → i < length cs → ((g : Given) → IsGiven remaining c g → IsBegun remaining d g)
+    → c ≡ get_or cs i o → i < length cs → ((g : Given) → IsGiven remaining c g → HasBegun remaining d g)
     → HaveBegun remaining i cs gs → HaveBegun remaining (suc i) (set cs i d) gs
 begun-step remaining [] gs i c d o e lt begins h = absurd (omega (arith, lt))
 begun-step remaining (x ∷ xs) [] zero c d o e lt begins h = absurd h
@@ -291,7 +291,7 @@ near-within n (Some p) (Some q) h k = by (is_earlier q.instant p.instant)
     by true = k
     by false = h
 
-place-within : (n index : ℕ) (instant : Instant) (known : Next) → index < n → IfSome (place_at index instant known) (λ p. p.index < n)
+place-within : (n index : ℕ) (instant : Instant) (known : Next) → index < n → IfSome (waiting_at index instant known) (λ p. p.index < n)
 place-within n index instant next.Unasked h = tt
 place-within n index instant next.Ended h = tt
 place-within n index instant (next.Waits frame) h = h
@@ -299,7 +299,7 @@ place-within n index instant (next.Waits frame) h = h
 earliest-below : {R : Type 0} (n k : ℕ) (cs : List (Capture R)) → k + length cs ≤ n → IfSome (earliest k cs) (λ p. p.index < n)
 earliest-below n k [] h = tt
 earliest-below n k (x ∷ xs) h =
-    near-within n (place_at k x.last x.next) (earliest (k + 1) xs) (place-within n k x.last x.next (omega (arith, h))) (earliest-below n (k + 1) xs (omega (arith, h)))
+    near-within n (waiting_at k x.last x.next) (earliest (k + 1) xs) (place-within n k x.last x.next (omega (arith, h))) (earliest-below n (k + 1) xs (omega (arith, h)))
 
 pub earliest-within : {R : Type 0} (cs : List (Capture R)) (found : Option Place) → found ≡ earliest 0 cs → IfSome found (λ p. p.index < length cs)
 earliest-within cs found e = subst (λ (o : Option Place). IfSome o (λ p. p.index < length cs)) (sym e) (earliest-below (length cs) 0 cs (omega arith))

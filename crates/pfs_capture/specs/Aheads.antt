@@ -7,10 +7,10 @@ use Rattle.pfs_capture_files.specs.declared.faults.FileFault.{FileFault}
 use Rattle.pfs_capture_files.specs.declared.forms.Form.{Form}
 use Rattle.pfs_capture.specs.Captures.{frames_from, most_items, seen_of}
 use Rattle.pfs_capture.specs.Instants.{is_earlier, start_instant}
-use Rattle.pfs_capture.specs.Merging.{Given, Stops, capture_run, first_fault, next_of}
+use Rattle.pfs_capture.specs.Merging.{Given, Stops, capture_run, first_fault, coming_of}
 use Rattle.pfs_capture.specs.Points.{Point}
 use Rattle.pfs_capture.specs.Readers.{AreGiven, lefts_of}
-use Rattle.pfs_capture.specs.Runs.{Run, ahead, judged_at, judged_frames}
+use Rattle.pfs_capture.specs.Runs.{Run, frame_then, judged_at, judged_frames}
 use Rattle.pfs_capture.specs.Traces.{AreWithinStarts, EndsAtStart}
 use Rattle.pfs_capture.specs.declared.captures.Capture.{Capture}
 use Rattle.pfs_capture.specs.declared.captures.Next.{Next}
@@ -33,7 +33,7 @@ rest_ahead points last items (Some form) left = rest_from points last items (Ok 
 abbrev pub with_next : List Point → List ℕ → Instant → Next → Run → Run
 with_next points held last next.Unasked run = run
 with_next points held last next.Ended run = ([], None)
-with_next points held last (next.Waits frame) run = ahead (judged_at points (seen_of frame held) last) run
+with_next points held last (next.Waits frame) run = frame_then (judged_at points (seen_of frame held) last) run
 
 abbrev pub run_ahead : {R : Type 0} → Capture R → List ℕ → Run
 run_ahead c left = with_next c.points.items c.held.items c.last c.next (rest_ahead c.points.items c.last c.items c.form left)
@@ -81,7 +81,7 @@ StaysAhead remaining (Err f) c run = is_around f ≡ false → run ≡ ([], Some
 
 abbrev pub StayAhead : {R : Type 0} → (FeedView R → Option (List ℕ)) → Result Unit TraceStop → List (Capture R) → List Run → Type 0
 StayAhead remaining (Ok u) cs runs = Aheads remaining cs runs
-StayAhead remaining (Err f) cs runs = is_around f ≡ false → next_of runs ≡ Stops f
+StayAhead remaining (Err f) cs runs = is_around f ≡ false → coming_of runs ≡ Stops f
 
 -- how often a capture is read on at most
 abbrev pub turns_left : ℕ → Option Form → ℕ
@@ -91,15 +91,15 @@ turns_left items (Some form) = items
 -- ---- the beginnings
 
 -- a capture that begins is ready for its first item
-abbrev pub IsBegun : {R : Type 0} → (FeedView R → Option (List ℕ)) → Capture R → Given → Type 0
-IsBegun remaining c g =
+abbrev pub HasBegun : {R : Type 0} → (FeedView R → Option (List ℕ)) → Capture R → Given → Type 0
+HasBegun remaining c g =
     (form : Form) × (left : List ℕ) × (start_of g.octets ≡ Ok (form, left)) × (remaining c.reader ≡ Some left) × (c.form ≡ Some form) × (c.points.items ≡ g.points)
     × (c.next ≡ next.Unasked) × (c.last ≡ start_instant) × (c.items ≡ most_items)
 
 -- so many captures have begun, of the others nothing was read
 abbrev pub HaveBegun : {R : Type 0} → (FeedView R → Option (List ℕ)) → ℕ → List (Capture R) → List Given → Type 0
 HaveBegun remaining zero cs gs = AreGiven remaining cs gs
-HaveBegun remaining (suc n) (c ∷ cs) (g ∷ gs) = IsBegun remaining c g × HaveBegun remaining n cs gs
+HaveBegun remaining (suc n) (c ∷ cs) (g ∷ gs) = HasBegun remaining c g × HaveBegun remaining n cs gs
 HaveBegun remaining (suc n) [] [] = ⊤
 HaveBegun remaining (suc n) cs gs = ⊥
 
@@ -109,9 +109,9 @@ BreaksOff remaining f c g =
     (x : FileFault) × (f ≡ stop.File x) × (is_outside x ≡ false → start_of g.octets ≡ Err x) × IsWithinStart (start_of g.octets) (remaining c.reader)
 
 -- what a call makes of a capture that was given
-abbrev pub Begins : {R : Type 0} → (FeedView R → Option (List ℕ)) → Result Unit TraceStop → Capture R → Given → Type 0
-Begins remaining (Ok u) c g = IsBegun remaining c g
-Begins remaining (Err f) c g = BreaksOff remaining f c g
+abbrev pub BeginsAs : {R : Type 0} → (FeedView R → Option (List ℕ)) → Result Unit TraceStop → Capture R → Given → Type 0
+BeginsAs remaining (Ok u) c g = HasBegun remaining c g
+BeginsAs remaining (Err f) c g = BreaksOff remaining f c g
 
 abbrev pub AllBegin : {R : Type 0} → (FeedView R → Option (List ℕ)) → Result Unit TraceStop → List (Capture R) → List Given → Type 0
 AllBegin remaining (Ok u) cs gs = Aheads remaining cs (map capture_run gs) × (first_fault gs ≡ None)
@@ -120,10 +120,10 @@ AllBegin remaining (Err f) cs gs = EndsAtStart (first_fault gs) (Err f) × AreWi
 -- ---- the earliest
 
 -- the place of the next frame of a capture among captures
-abbrev pub place_at : ℕ → Instant → Next → Option Place
-place_at index instant (next.Waits frame) = Some (record { index = index; instant = instant; frame = frame })
-place_at index instant next.Ended = None
-place_at index instant next.Unasked = None
+abbrev pub waiting_at : ℕ → Instant → Next → Option Place
+waiting_at index instant (next.Waits frame) = Some (record { index = index; instant = instant; frame = frame })
+waiting_at index instant next.Ended = None
+waiting_at index instant next.Unasked = None
 
 -- the earlier of two places, the first of those of one moment
 abbrev pub nearer : Option Place → Option Place → Option Place
@@ -134,4 +134,4 @@ nearer (Some p) (Some q) = if is_earlier q.instant p.instant then Some q else So
 -- the place of the earliest of the next frames, from this index on
 abbrev pub earliest : {R : Type 0} → ℕ → List (Capture R) → Option Place
 earliest index [] = None
-earliest index (c ∷ cs) = nearer (place_at index c.last c.next) (earliest (index + 1) cs)
+earliest index (c ∷ cs) = nearer (waiting_at index c.last c.next) (earliest (index + 1) cs)

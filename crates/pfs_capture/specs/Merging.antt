@@ -6,7 +6,7 @@ use Rattle.pfs_capture_files.specs.declared.forms.Form.{Form}
 use Rattle.pfs_capture.specs.Captures.{frames_from, most_items}
 use Rattle.pfs_capture.specs.Instants.{is_earlier, start_instant}
 use Rattle.pfs_capture.specs.Points.{Point}
-use Rattle.pfs_capture.specs.Runs.{Judged, Run, ahead, judged_frames}
+use Rattle.pfs_capture.specs.Runs.{Judged, Run, frame_then, judged_frames}
 use Rattle.pfs_capture.specs.declared.faults.TraceStop.{TraceStop}
 use Rattle.pfs_capture.specs.declared.faults.TraceStop.TheVariants as stop
 
@@ -24,7 +24,7 @@ behind_ended Ends = Ends
 
 -- with a capture in front whose next frame is this one: the frame that was seen earlier comes first, of two of one moment that in front
 abbrev pub behind_frame : Judged → Run → Coming → List Run → Coming
-behind_frame j more (Comes k rest) runs = if is_earlier k.instant j.instant then Comes k (ahead j more ∷ rest) else Comes j (more ∷ runs)
+behind_frame j more (Comes k rest) runs = if is_earlier k.instant j.instant then Comes k (frame_then j more ∷ rest) else Comes j (more ∷ runs)
 behind_frame j more (Stops f) runs = Stops f
 behind_frame j more Ends runs = Comes j (more ∷ runs)
 
@@ -36,20 +36,20 @@ behind_run (j ∷ js, end) coming runs = behind_frame j (js, end) coming runs
 
 -- what comes next of captures: the frame that was seen earliest, of those of one moment that of the first capture. A capture that stops
 -- with a fault stops all, as soon as its next frame is asked for.
-abbrev pub next_of : List Run → Coming
-next_of [] = Ends
-next_of (run ∷ runs) = behind_run run (next_of runs) runs
+abbrev pub coming_of : List Run → Coming
+coming_of [] = Ends
+coming_of (run ∷ runs) = behind_run run (coming_of runs) runs
 
 -- what comes next, and then what follows it
-abbrev pub at_next : Coming → (List Run → Run) → Run
-at_next (Comes j rest) more = ahead j (more rest)
-at_next (Stops f) more = ([], Some f)
-at_next Ends more = ([], None)
+abbrev pub at_coming : Coming → (List Run → Run) → Run
+at_coming (Comes j rest) more = frame_then j (more rest)
+at_coming (Stops f) more = ([], Some f)
+at_coming Ends more = ([], None)
 
 -- the frames of captures as one run, of so many frames at most
 unfoldable pub merged : ℕ → List Run → Run
 merged zero runs = ([], Some stop.TooMany)
-merged (suc n) runs = at_next (next_of runs) (merged n)
+merged (suc n) runs = at_coming (coming_of runs) (merged n)
 
 -- a capture: the interfaces at which it was taken, and its bytes
 pub record Given : Type 0 where

@@ -24,12 +24,12 @@ abbrev pub Run : Type 0
 Run = List Judged × Option TraceStop
 
 -- a frame, and then a run
-abbrev pub ahead : Judged → Run → Run
-ahead j run = (j ∷ run.0, run.1)
+abbrev pub frame_then : Judged → Run → Run
+frame_then j run = (j ∷ run.0, run.1)
 
 -- a frame in its moment, and then those after it; or the fault of its moment
 abbrev pub at_instant : Result Instant TraceStop → (Instant → Judged) → (Instant → Run) → Run
-at_instant (Ok instant) judged more = ahead (judged instant) (more instant)
+at_instant (Ok instant) judged more = frame_then (judged instant) (more instant)
 at_instant (Err f) judged more = ([], Some f)
 
 -- these frames after one of this moment

@@ -4,7 +4,7 @@ ghost use Rattle.std.specs.Prelude.{◌≡◌, ◌⊎◌, ◌<◌, Err, IfErr, L
 ghost use Rattle.pfs_capture_files.specs.Faults.{HasFailed};
 ghost use Rattle.pfs_capture_files.specs.declared.faults.FileFault.TheVariants as fault;
 ghost use Rattle.pfs_streams.specs.Feeds.{read_failures, unread};
-ghost use Rattle.pfs_capture.specs.Aheads.{Ahead, Begins, StaysAhead, is_asked, is_of_reading, turns_left};
+ghost use Rattle.pfs_capture.specs.Aheads.{Ahead, BeginsAs, StaysAhead, is_asked, is_of_reading, turns_left};
 ghost use Rattle.pfs_capture.specs.Merging.{Given};
 ghost use Rattle.pfs_capture.specs.Readers.{IsGiven, IsUnread};
 ghost use Rattle.pfs_capture.specs.Runs.{Run};
@@ -66,7 +66,7 @@ impl<R> Capture<R> {
 impl<R: Read> Capture<R> {
     /// Reads how it begins.
     pub fn begin(&mut self, alloc: Global) -> Result<(), TraceStop>
-        ensures begins { (g : Given) → IsGiven (unread R.remaining) self.old g → Begins (unread R.remaining) result self.new g }
+        ensures begins { (g : Given) → IsGiven (unread R.remaining) self.old g → BeginsAs (unread R.remaining) result self.new g }
         ensures ahead { (run : Run) → self.old.next ≡ Next.Unasked → self.old.form ≡ None → Ahead (unread R.remaining) self.old run → StaysAhead (unread R.remaining) result self.new run }
         ensures fewer { self.old.form ≡ None → OnOk result (turns_left self.new.items self.new.form < turns_left self.old.items self.old.form) }
         ensures reads { IfErr result (λ f. is_of_reading f ≡ true) }

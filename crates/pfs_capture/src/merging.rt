@@ -3,7 +3,7 @@
 ghost use Rattle.std.specs.Prelude.{◌≡◌, ◌<◌, ◌⊎◌, Err, IfErr, IfSome, List, OnOk, length, true, ℕ, if◌then◌else◌};
 ghost use Rattle.pfs_capture_files.specs.declared.faults.FileFault.TheVariants as fault;
 ghost use Rattle.pfs_streams.specs.Feeds.{unread};
-ghost use Rattle.pfs_capture.specs.Aheads.{Aheads, AllBegin, AreAsked, StayAhead, earliest, is_of_reading, nearer, place_at};
+ghost use Rattle.pfs_capture.specs.Aheads.{Aheads, AllBegin, AreAsked, StayAhead, earliest, is_of_reading, nearer, waiting_at};
 ghost use Rattle.pfs_capture.specs.Merging.{Given};
 ghost use Rattle.pfs_capture.specs.Readers.{AreGiven, SomeFailed, failures_of};
 ghost use Rattle.pfs_capture.specs.Runs.{Run};
@@ -64,14 +64,14 @@ fn earliest_from_last<R>(captures: &[Capture<R>]) -> Option<Place>
 {
     let mut place = None;
     for index in (0..captures.len()).rev() {
-        place = nearer(place_at(&captures[index], index), place);
+        place = nearer(waiting_at(&captures[index], index), place);
     }
     place
 }
 
 /// The next frame of the capture of this index, if it waits.
-fn place_at<R>(capture: &Capture<R>, index: usize) -> Option<Place>
-    ensures { result ≡ place_at index capture.now.last capture.now.next }
+fn waiting_at<R>(capture: &Capture<R>, index: usize) -> Option<Place>
+    ensures { result ≡ waiting_at index capture.now.last capture.now.next }
 {
     match capture.next {
         Next::Waits(frame) => Some(Place {

@@ -18,7 +18,7 @@ use Rattle.pfs_trace.specs.Rows.{packet_row}
 use Rattle.pfs_trace.specs.declared.rows.Row.{Row}
 use Rattle.pfs_capture.specs.Captures.{Seen, frames_from, most_items}
 use Rattle.pfs_capture.specs.Instants.{instant_after, is_earlier, later, start_instant}
-use Rattle.pfs_capture.specs.Merging.{Coming, Comes, Stops, Ends, Given, at_next, begun_run, behind_run, capture_run, merged, next_of}
+use Rattle.pfs_capture.specs.Merging.{Coming, Comes, Stops, Ends, Given, at_coming, begun_run, behind_run, capture_run, merged, coming_of}
 use Rattle.pfs_capture.specs.Points.{Point}
 use Rattle.pfs_capture.specs.Runs.{Judged, Run, at_instant, judged_at, judged_from}
 use Rattle.pfs_capture.specs.Traces.{frame_text, row_from}
@@ -230,17 +230,17 @@ behind-sorted last (j ∷ js, end) runs (Comes k rest) h next = by (is_earlier k
         let others = all-earlier k.instant j.instant runs t next.3 in
         (h.0, h.1, (h.2, others), ((never-earlier j.instant, h.1, h.2), others))
 
-next-sorted : (last : Instant) (runs : List Run) → AllSorted last runs → IsNextSorted last runs (next_of runs)
+next-sorted : (last : Instant) (runs : List Run) → AllSorted last runs → IsNextSorted last runs (coming_of runs)
 next-sorted last [] h = λ i. tt
-next-sorted last (r ∷ rs) h = behind-sorted last r rs (next_of rs) h.0 (next-sorted last rs h.1)
+next-sorted last (r ∷ rs) h = behind-sorted last r rs (coming_of rs) h.0 (next-sorted last rs h.1)
 
 merged-sorted : (n : ℕ) (last : Instant) (runs : List Run) → AllSorted last runs → AreSorted last (merged n runs).0
 unfolding merged
 merged-sorted zero last runs h = tt
-merged-sorted (suc n) last runs h = by (next_of runs) (next-sorted last runs h) (λ i rest k. merged-sorted n i rest k)
+merged-sorted (suc n) last runs h = by (coming_of runs) (next-sorted last runs h) (λ i rest k. merged-sorted n i rest k)
   where
     by : (coming : Coming) → IsNextSorted last runs coming → ((i : Instant) (rest : List Run) → AllSorted i rest → AreSorted i (merged n rest).0)
-        → AreSorted last (at_next coming (merged n)).0
+        → AreSorted last (at_coming coming (merged n)).0
     by (Comes j rest) next more = (next.0, next.1, more j.instant rest next.2)
     by (Stops f) next more = tt
     by Ends next more = tt
