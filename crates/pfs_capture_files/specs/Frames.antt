@@ -47,10 +47,10 @@ abbrev pub IsFrame : Frame → Type 0
 IsFrame f = IsNamed f.name × IsMoment f.moment
 
 -- an item is such a frame, if it holds one
-abbrev pub IsItem : Item → Type 0
-IsItem (item.Frame f) = IsFrame f
-IsItem item.End = ⊤
-IsItem item.Other = ⊤
+abbrev pub IsSoundItem : Item → Type 0
+IsSoundItem (item.Frame f) = IsFrame f
+IsSoundItem item.End = ⊤
+IsSoundItem item.Other = ⊤
 
 -- an enhanced packet block has, after its interface, the upper and the lower half of its moment, how many bytes were
 -- kept, how many there were, and those that were kept

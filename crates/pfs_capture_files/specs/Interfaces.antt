@@ -34,13 +34,13 @@ abbrev pub name_length : List ℕ → ℕ
 name_length value = unwrap_or (position (λ b. b == 0) value) (length value)
 
 -- the name of an interface that an option's value is, if it is one (own: the name is one of pf's, of at most 15 bytes)
-abbrev pub name_in : List ℕ → Option (List ℕ)
-name_in value = name_of 15 (take (name_length value) value)
+abbrev pub name_of_value : List ℕ → Option (List ℕ)
+name_of_value value = name_of 15 (take (name_length value) value)
 
 -- the option if_name has the code 2 and any number of bytes
 abbrev pub name_told : Order → List ℕ → Option (List ℕ)
 name_told order body =
-    option_and_then (λ place. name_in (take place.size (drop place.at body)))
+    option_and_then (λ place. name_of_value (take place.size (drop place.at body)))
     (find_option (length body) order body (record { code = 2; least = 0; most = 65535 }) 4)
 
 -- a name is one that an interface can have, where there is one

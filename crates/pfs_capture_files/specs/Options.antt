@@ -33,11 +33,11 @@ find_option zero order body wanted at = None
 find_option (suc n) order body wanted at = at_look (option_step order body wanted at) (λ next. find_option n order body wanted next)
 
 -- a value within so many bytes, which has at least so many
-abbrev pub IsWithin : ℕ → ℕ → Place → Type 0
-IsWithin whole least place = (least ≤ place.size) × (place.at + place.size ≤ whole)
+abbrev pub LiesWithin : ℕ → ℕ → Place → Type 0
+LiesWithin whole least place = (least ≤ place.size) × (place.at + place.size ≤ whole)
 
 -- what is found is within so many bytes, and has at least so many
 abbrev pub FitsIn : ℕ → ℕ → Look → Type 0
 FitsIn whole least (On next) = ⊤
-FitsIn whole least (Found place) = IsWithin whole least place
+FitsIn whole least (Found place) = LiesWithin whole least place
 FitsIn whole least Nowhere = ⊤

@@ -3,7 +3,7 @@
 ghost use Rattle.std.specs.Prelude.{◌≡◌, ◌≢◌, ◌-◌, ◌≤◌, [], false, Err, IfErr, IfOk, length};
 ghost use Rattle.pfs_capture_files.specs.Blocks.{TakesItem, with_interface, block_head, body_item, held_in, described_at, is_version, order_of_block, order_of_magic, packet_on, with_section};
 ghost use Rattle.pfs_capture_files.specs.Faults.{is_outside};
-ghost use Rattle.pfs_capture_files.specs.Frames.{IsItem};
+ghost use Rattle.pfs_capture_files.specs.Frames.{IsSoundItem};
 ghost use Rattle.pfs_capture_files.specs.Interfaces.{IsNamed, interface_of, then_known};
 
 use crate::faults::FileFault;
@@ -123,7 +123,7 @@ impl Section {
     /// may be known. It takes memory for an interface alone.
     pub fn take(&mut self, head: BlockHead, rest: &[u8]) -> Result<Item, FileFault>
         ensures is { TakesItem (body_item self.old head rest.now) result self.new }
-        ensures frame { IfOk result IsItem }
+        ensures frame { IfOk result IsSoundItem }
         ensures free { result ≡ Err FileFault.Memory → head.kind ≡ 1 }
         ensures read { result ≢ Err FileFault.Read }
     {
@@ -137,7 +137,7 @@ impl Section {
     /// Begins a section, by its byte order and what its block holds after that: its version, and how long it is.
     fn begin(&mut self, order: Order, body: &[u8]) -> Result<Item, FileFault>
         ensures is { TakesItem (with_section order body.now) result self.new }
-        ensures frame { IfOk result IsItem }
+        ensures frame { IfOk result IsSoundItem }
         ensures of_file { IfErr result (λ f. is_outside f ≡ false) }
     {
         if body.len() < 12 {
@@ -154,7 +154,7 @@ impl Section {
     /// Adds the interface of this link type that a block describes.
     fn describe(&mut self, order: Order, link: u16, body: &[u8]) -> Result<Item, FileFault>
         ensures is { TakesItem (then_known (interface_of order link body.now) (λ i. with_interface self.old i)) result self.new }
-        ensures frame { IfOk result IsItem }
+        ensures frame { IfOk result IsSoundItem }
         ensures read { result ≢ Err FileFault.Read }
     {
         match interface_of(order, link, body) {
@@ -166,7 +166,7 @@ impl Section {
     fn add(&mut self, interface: &Interface) -> Result<Item, FileFault>
         requires { IsNamed interface.now.name }
         ensures is { TakesItem (with_interface self.old interface.now) result self.new }
-        ensures frame { IfOk result IsItem }
+        ensures frame { IfOk result IsSoundItem }
         ensures read { result ≢ Err FileFault.Read }
     {
         if self.interfaces.len() >= MOST_INTERFACES {
@@ -181,7 +181,7 @@ impl Section {
     /// What a block holds that changes nothing of its section.
     fn held(&self, head: BlockHead, rest: &[u8]) -> Result<Item, FileFault>
         ensures is { result ≡ held_in self.now head rest.now }
-        ensures frame { IfOk result IsItem }
+        ensures frame { IfOk result IsSoundItem }
         ensures of_file { IfErr result (λ f. is_outside f ≡ false) }
     {
         let body = &rest[..front(rest)];
@@ -200,7 +200,7 @@ impl Section {
     /// The frame of a packet block with its moment, on the interface of this number.
     fn packet(&self, order: Order, number: usize, body: &[u8]) -> Result<Item, FileFault>
         ensures is { result ≡ packet_on self.now order number body.now }
-        ensures frame { IfOk result IsItem }
+        ensures frame { IfOk result IsSoundItem }
         ensures of_file { IfErr result (λ f. is_outside f ≡ false) }
     {
         let interface = self.interface(number)?;

@@ -5,7 +5,7 @@ ghost use Rattle.std.specs.Vec.{vec_capacity};
 ghost use Rattle.pfs_streams.specs.Feeds.{read_failures, unread};
 ghost use Rattle.pfs_capture_files.specs.declared.forms.Form.TheVariants as form;
 ghost use Rattle.pfs_capture_files.specs.Faults.{HasFailed, is_outside};
-ghost use Rattle.pfs_capture_files.specs.Frames.{IsFrame, IsItem};
+ghost use Rattle.pfs_capture_files.specs.Frames.{IsFrame, IsSoundItem};
 ghost use Rattle.pfs_capture_files.specs.Forms.{Begins, IsWithinStart, ReadsItem, block_turn, blocks_start, classic_form, classic_start, frame_turn, record_turn, rest_turn, start_of, start_of_magic, start_of_version, turn_of, what_begins};
 
 use crate::blocks::{BlockHead, SECTION, Section, block_head};
@@ -72,7 +72,7 @@ pub fn read_item<R: Read>(
     form: &mut Form,
 ) -> Result<Item, FileFault>
     ensures is { (xs : List ℕ) → unread R.remaining reader.old ≡ Some xs → ReadsItem (turn_of form.old xs) result form.new buffer.new.items (unread R.remaining reader.new) }
-    ensures frame { IfOk result IsItem }
+    ensures frame { IfOk result IsSoundItem }
     ensures read { result ≡ Err FileFault.Read → HasFailed reader.new }
     ensures sound { (result ≡ Err FileFault.Read) ⊎ (read_failures reader.new ≡ read_failures reader.old) }
 {
@@ -184,7 +184,7 @@ fn next_record<R: Read>(
     header: FileHeader,
 ) -> Result<Item, FileFault>
     ensures is { (xs : List ℕ) → unread R.remaining reader.old ≡ Some xs → ReadsItem (record_turn header xs) result (form.Classic header) buffer.new.items (unread R.remaining reader.new) }
-    ensures frame { IfOk result IsItem }
+    ensures frame { IfOk result IsSoundItem }
     ensures read { result ≡ Err FileFault.Read → HasFailed reader.new }
     ensures sound { (result ≡ Err FileFault.Read) ⊎ (read_failures reader.new ≡ read_failures reader.old) }
 {
@@ -206,7 +206,7 @@ fn read_frame<R: Read>(
     requires few { frame.count ≤ 524288 }
     requires frame { IsFrame frame }
     ensures is { (xs : List ℕ) → unread R.remaining reader.old ≡ Some xs → ReadsItem (frame_turn header frame xs) result (form.Classic header) buffer.new.items (unread R.remaining reader.new) }
-    ensures frame { IfOk result IsItem }
+    ensures frame { IfOk result IsSoundItem }
     ensures read { result ≡ Err FileFault.Read → HasFailed reader.new }
     ensures sound { (result ≡ Err FileFault.Read) ⊎ (read_failures reader.new ≡ read_failures reader.old) }
 {
@@ -224,7 +224,7 @@ fn next_block<R: Read>(
     section: &mut Section,
 ) -> Result<Item, FileFault>
     ensures is { (xs : List ℕ) → unread R.remaining reader.old ≡ Some xs → ReadsItem (block_turn section.old xs) result (form.Blocks section.new) buffer.new.items (unread R.remaining reader.new) }
-    ensures frame { IfOk result IsItem }
+    ensures frame { IfOk result IsSoundItem }
     ensures read { result ≡ Err FileFault.Read → HasFailed reader.new }
     ensures sound { (result ≡ Err FileFault.Read) ⊎ (read_failures reader.new ≡ read_failures reader.old) }
 {
@@ -245,7 +245,7 @@ fn read_rest<R: Read>(
 ) -> Result<Item, FileFault>
     requires { head.count ≤ 524288 }
     ensures is { (xs : List ℕ) → unread R.remaining reader.old ≡ Some xs → ReadsItem (rest_turn section.old head xs) result (form.Blocks section.new) buffer.new.items (unread R.remaining reader.new) }
-    ensures frame { IfOk result IsItem }
+    ensures frame { IfOk result IsSoundItem }
     ensures few { (xs : List ℕ) → unread R.remaining reader.old ≡ Some xs → (k : ℕ) × (k ≤ head.count) × (unread R.remaining reader.new ≡ Some (drop k xs)) }
     ensures read { result ≡ Err FileFault.Read → HasFailed reader.new }
     ensures sound { (result ≡ Err FileFault.Read) ⊎ (read_failures reader.new ≡ read_failures reader.old) }

@@ -2,7 +2,7 @@
 
 ghost use Rattle.std.specs.Prelude.{◌≡◌, ◌+◌, ◌<◌, ◌≤◌, ◌==◌, ◌^◌, false, IfErr, IfOk, IfSome, length, position};
 ghost use Rattle.pfs_capture_files.specs.Faults.{is_outside};
-ghost use Rattle.pfs_capture_files.specs.Interfaces.{IsNamed, interface_of, name_in, name_length, name_told, offset_of, units_of, units_told};
+ghost use Rattle.pfs_capture_files.specs.Interfaces.{IsNamed, interface_of, name_of_value, name_length, name_told, offset_of, units_of, units_told};
 
 use crate::faults::FileFault;
 use crate::options::{Wanted, find_option};
@@ -57,14 +57,14 @@ fn name_told(order: Order, body: &[u8]) -> Option<IfName>
         most: 65_535,
     };
     match find_option(order, body, wanted, 4) {
-        Some(place) => name_in(&body[place.at..place.at + place.size]),
+        Some(place) => name_of_value(&body[place.at..place.at + place.size]),
         None => None,
     }
 }
 
 /// The name that an option's value is, if it is one. Some writers end it by zeros.
-fn name_in(value: &[u8]) -> Option<IfName>
-    ensures is { result ≡ name_in value.now }
+fn name_of_value(value: &[u8]) -> Option<IfName>
+    ensures is { result ≡ name_of_value value.now }
     ensures name { IsNamed result }
 {
     parse_ifname(&value[..name_length(value)])

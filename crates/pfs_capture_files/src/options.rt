@@ -1,7 +1,7 @@
 //! The options of a block.
 
 ghost use Rattle.std.specs.Prelude.{◌≡◌, ◌+◌, ◌≤◌, IfSome, length};
-ghost use Rattle.pfs_capture_files.specs.Options.{FitsIn, IsWithin, find_option, option_step, takes_size};
+ghost use Rattle.pfs_capture_files.specs.Options.{FitsIn, LiesWithin, find_option, option_step, takes_size};
 
 use crate::orders::{Order, read_u16};
 
@@ -48,7 +48,7 @@ impl Wanted {
 /// Where the value is of the first option that is wanted, of those that begin at this place.
 pub fn find_option(order: Order, body: &[u8], wanted: Wanted, first: usize) -> Option<Place>
     ensures is { result ≡ find_option (length body.now) order body.now wanted first }
-    ensures within { IfSome result (λ place. IsWithin (length body.now) wanted.least place) }
+    ensures within { IfSome result (λ place. LiesWithin (length body.now) wanted.least place) }
 {
     let mut at = first;
     for _turn in 0..body.len() {

@@ -25,7 +25,7 @@ abbrev pub view_of : {X : Type 0} → Conf → X → World → Holdings → Held
 view_of conf store w tables = record { config = conf; held = held_of w tables.entries; room = tables.room; store = store }
 
 -- this was found of the state that has a packet's key, and the store still reaches it
-pub record IsFound {X : Type 0} (reaches : X → Found → Bool) (v : HeldView X) (p : PacketView) (found : Found) : Type 0 where
+pub record IsReachedBy {X : Type 0} (reaches : X → Found → Bool) (v : HeldView X) (p : PacketView) (found : Found) : Type 0 where
   pub number : option_map state_number (state_with (key_of p) v.held.world) ≡ Some found.number
   pub rule : option_map state_rule (state_with (key_of p) v.held.world) ≡ Some found.rule
   pub reached : reaches v.store found ≡ true

@@ -17,7 +17,7 @@ ghost use Rattle.pfs_engine_machine.specs.Kept.{IsKept};
 ghost use Rattle.pfs_engine_machine.specs.Looks.{AreLooks, AreLooksOfKill};
 ghost use Rattle.pfs_engine_machine.specs.Machine.{addition_of, answer_to_packet, exceeded_of, tables_after_addition};
 ghost use Rattle.pfs_engine_machine.specs.Refusals.{IsFreeOf, is_tcp};
-ghost use Rattle.pfs_engine.specs.Held.{Holds, IsAnswered, IsDone, IsFound, tables_held};
+ghost use Rattle.pfs_engine.specs.Held.{Holds, IsAnswered, IsDone, IsReachedBy, tables_held};
 ghost use Rattle.pfs_engine.specs.Meters.{AreFurtherLooks, AreLooksOf};
 ghost use Rattle.pfs_engine.specs.Packets.{answer_of_touch};
 ghost use Rattle.pfs_engine.specs.Rooms.{HasRoomFor};
@@ -45,7 +45,7 @@ pub(crate) fn take_packet_of_state<S: Store>(
     looks: &mut Meter,
 ) -> Result<Outcome, NoMemory>
     requires kept { IsKept held.old.config held.old.held now }
-    requires found { IsFound S.reaches held.old packet.now found }
+    requires found { IsReachedBy S.reaches held.old packet.now found }
     requires looks { looks.old ≡ 0 }
     ensures answered { IsAnswered result (answer_to_packet held.old.config held.old.held packet.now now) held.old held.new }
     ensures free { (s : State) → state_with (key_of packet.now) held.old.held.world ≡ Some s →

@@ -125,10 +125,7 @@ struct Asked<'a> {
     by_lines: bool,
 }
 
-fn asked_by<'a>(
-    rt: &HostRuntime,
-    groups: &'a [Vec<&str>],
-) -> Result<Vec<Asked<'a>>, Refusal> {
+fn asked_by<'a>(rt: &HostRuntime, groups: &'a [Vec<&str>]) -> Result<Vec<Asked<'a>>, Refusal> {
     let mut all = Vec::new(rt.alloc());
     for words in groups {
         let asked = asked_of(rt, words.as_slice())?;
