@@ -1,4 +1,4 @@
-//! From the bytes of a capture to the report of its trace: laws that compute nothing.
+//! From the bytes of captures to the report of its trace: laws that compute nothing.
 #![tactic(auto)]
 
 mod laws;
