@@ -94,8 +94,8 @@ class Sender(threading.Thread):
                     time.sleep(1 / self._speed)
             if self.closes:
                 self._pipe.close()
-        except BrokenPipeError:
-            pass
+        except (BrokenPipeError, ValueError):
+            pass  # the reader has gone away, or the test has closed the pipe
 
     def _seconds(self) -> Iterator[tuple[int, bytes]]:
         seconds = sorted({it for it, _ in self._frames})
