@@ -1,6 +1,7 @@
 //! Names of interfaces, tables and anchors, held in place.
 
-ghost use Rattle.std.specs.Prelude.{◌≡◌, true};
+ghost use Rattle.std.specs.Prelude.{◌≡◌, drop, take, true};
+ghost use Rattle.std.specs.Int.{to_le_bytes, w64};
 ghost use Rattle.std.specs.Str.{bytes_eq};
 ghost use Rattle.std.specs.List.{list_all};
 ghost use Rattle.std.specs.Hash as fed;
@@ -72,6 +73,38 @@ impl<const N: usize> Name<N> {
     {
         &self.bytes[..self.len]
     }
+}
+
+impl IfName {
+    /// Whether both are the same name, as `==` says. A walk over rules asks it at most of them, and two words take fewer steps than
+    /// fifteen bytes.
+    pub(crate) fn is(&self, other: &IfName) -> bool
+        ensures { result ≡ bytes_eq self.now other.now }
+    {
+        self.len == other.len && same_bytes(&self.bytes, &other.bytes)
+    }
+}
+
+/// Whether both are the same bytes: the two words that they make are compared, which share a byte.
+#[inline(always)]
+fn same_bytes(one: &[u8; 15], two: &[u8; 15]) -> bool
+    ensures { result ≡ bytes_eq one.now two.now }
+{
+    first_word(one) == first_word(two) && last_word(one) == last_word(two)
+}
+
+/// The first eight of fifteen bytes.
+fn first_word(b: &[u8; 15]) -> u64
+    ensures { to_le_bytes w64 result ≡ take 8 b.now }
+{
+    u64::from_le_bytes([b[0], b[1], b[2], b[3], b[4], b[5], b[6], b[7]])
+}
+
+/// The last eight of fifteen bytes.
+fn last_word(b: &[u8; 15]) -> u64
+    ensures { to_le_bytes w64 result ≡ drop 7 b.now }
+{
+    u64::from_le_bytes([b[7], b[8], b[9], b[10], b[11], b[12], b[13], b[14]])
 }
 
 /// The interface name that this text is, if it is one: 1 to 15 bytes of letters, digits, `_`, `-` and `.`. `None` for

@@ -132,7 +132,7 @@ impl Packet {
     pub fn is_on(&self, name: &IfName) -> bool
         ensures { result ≡ bytes_eq name.now self.now.ifname }
     {
-        *name == self.ifname
+        name.is(&self.ifname)
     }
 
     /// The protocol.
