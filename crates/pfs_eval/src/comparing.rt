@@ -94,10 +94,10 @@ fn first_failing(tables: &Tables, packet: &Packet, filter: &Filter) -> Option<Pa
     if !proto_holds(filter.proto, packet.proto()) {
         return Some(Parameter::Protocol);
     }
-    if !host_holds(tables, &filter.from.host, packet.src()) {
+    if !source_holds(tables, &filter.from.host, packet) {
         return Some(Parameter::SourceHost);
     }
-    if !host_holds(tables, &filter.to.host, packet.dst()) {
+    if !destination_holds(tables, &filter.to.host, packet) {
         return Some(Parameter::DestinationHost);
     }
     if !ports_hold(filter.from.ports, packet.sport()) {
@@ -142,6 +142,22 @@ fn proto_holds(wanted: Option<Proto>, proto: Proto) -> bool
     ensures { result ≡ proto_holds wanted proto }
 {
     wanted.is_none_or(|wanted| wanted == proto)
+}
+
+/// The host after `from`. The packet's address is taken from it only where the host is not `any`.
+#[inline(always)]
+fn source_holds(tables: &Tables, host: &Host<TableNo>, packet: &Packet) -> bool
+    ensures { result ≡ host_holds tables.now.entries host.now packet.now.source.addr }
+{
+    matches!(*host, Host::Any) || host_holds(tables, host, packet.src())
+}
+
+/// The host after `to`, as `source_holds` says.
+#[inline(always)]
+fn destination_holds(tables: &Tables, host: &Host<TableNo>, packet: &Packet) -> bool
+    ensures { result ≡ host_holds tables.now.entries host.now packet.now.destination.addr }
+{
+    matches!(*host, Host::Any) || host_holds(tables, host, packet.dst())
 }
 
 /// Inlined: an address is compared in place and not copied for each host.

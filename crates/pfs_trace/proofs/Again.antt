@@ -1,5 +1,5 @@
 -- The columns of a row are read as the packet of the row.
-use Rattle.std.proofs.Common.{◌≡◌, ◌≤◌, ◌<◌, ◌^◌, ℕ, true, false, Option, Some, None, Ok, List, [], refl, sym, ap, ◌∙◌, arith}
+use Rattle.std.proofs.Common.{◌≡◌, ◌≤◌, ◌<◌, ◌^◌, ℕ, true, false, Option, Some, None, Ok, [], refl, sym, ap, ◌∙◌, arith}
 use Rattle.std.specs.Prelude.{decimal, nat_le}
 use Rattle.std.proofs.lemmas.Bool.{cond-true, le-leb}
 use Rattle.std.proofs.lemmas.Map.Entries.{option_filter}

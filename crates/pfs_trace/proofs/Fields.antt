@@ -1,10 +1,9 @@
 -- The text of a row is read as its nine columns: no column holds a byte that means something to a reader of rows.
-use Rattle.std.proofs.Common.{◌≡◌, ◌≤◌, ◌<◌, ◌+◌, ◌*◌, ◌^◌, ℕ, zero, suc, Bool, true, false, All, List, [], ◌∷◌, ◌++◌, get_or, Some, inl, inr, refl, sym, ap, ◌∙◌, arith, append-nil, append_assoc}
+use Rattle.std.proofs.Common.{◌≡◌, ◌≤◌, ◌<◌, ◌^◌, ℕ, Bool, true, false, All, List, [], ◌∷◌, ◌++◌, get_or, Some, inl, inr, refl, sym, ap, ◌∙◌, arith, append-nil, append_assoc}
 use Rattle.std.specs.Prelude.{codes, decimal, not, ◌==◌, ◌||◌}
 use Rattle.std.specs.List.{list_all, list_any}
 use Rattle.std.specs.Net.Addr.{segments_of}
 use Rattle.std.proofs.NetLemmas.Alphabet.{IsHexOrColon, All-hex_groups_text}
-use Rattle.std.proofs.NetLemmas.Texts.{AllSegments}
 use Rattle.std.proofs.lemmas.Bool.{and_from, and_parts}
 use Rattle.std.proofs.lemmas.Bool.Decides.{nat_tests}
 use Rattle.std.proofs.lemmas.List.Elements.{All-get_or, All-head, All-tail}
