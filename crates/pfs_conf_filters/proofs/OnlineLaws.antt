@@ -7,7 +7,6 @@ use Rattle.pfs_conf_tokens.specs.Keys.{in_line}
 use Rattle.pfs_conf_tokens.specs.Reading.{closes_parens, Reader, on_front, done, chain, next_of}
 use Rattle.pfs_conf_tokens.specs.declared.keys.Key.{Key}
 use Rattle.pfs_conf_tokens.specs.declared.keys.Key.TheVariants as key
-use Rattle.pfs_conf_tokens.specs.declared.refusals.Why.{Why}
 use Rattle.pfs_conf_tokens.specs.declared.refusals.Why.TheVariants as why
 use Rattle.pfs_conf_tokens.proofs.Laws.{Online, OnlineAct, Taking, Shrinks, inside, online_done, online_chain, online_front, online_taking, online_perhaps, front_shrinks, chain_shrinks, chain_shrinks_behind}
 use Rattle.pfs_conf_tokens.proofs.ReaderLaws.{passes_in_line, closes_parens_in_line, online_list, next_shrinks}
