@@ -186,10 +186,12 @@ fn are_first_lines(written: &[u8], report: &[u8]) -> bool {
 
 /// What is reported of rules, and the words of the command line.
 pub fn tell_jobs(rt: &HostRuntime) -> Result<(), Stop> {
-    for (task, text) in &[(Job::Check("r"), COUNTS), (Job::Show("r"), SHOWN)] {
-        if !tell_one(rt, task, text)? {
-            tell_one(rt, task, text)?;
+    for (name, text) in &[("check", COUNTS), ("print", SHOWN)] {
+        if !tell_one(rt, name, text)? {
+            tell_one(rt, name, text)?;
         }
+    }
+    for (task, text) in &[(Job::Check("r"), COUNTS), (Job::Show("r"), SHOWN)] {
         if !perform_one(rt, task, text)? {
             perform_one(rt, task, text)?;
         }
@@ -202,13 +204,13 @@ pub fn tell_jobs(rt: &HostRuntime) -> Result<(), Stop> {
     status_one(rt)
 }
 
-/// `check`, or `print` for the canonical text, by its own call.
-fn tell_one(rt: &HostRuntime, task: &Job, text: &[u8]) -> Result<bool, Stop> {
+/// The call of this name, `check` or `print`.
+fn tell_one(rt: &HostRuntime, name: &str, text: &[u8]) -> Result<bool, Stop> {
     let mut out = sink(rt)?;
     let mut rules = Feed::new(EVERYTHING, 99);
-    begin(rt, "check or print")?;
-    let answer = match task {
-        Job::Show(_) => print(rt.alloc(), &mut rules, &mut out),
+    begin(rt, name)?;
+    let answer = match name {
+        "print" => print(rt.alloc(), &mut rules, &mut out),
         _ => check(rt.alloc(), &mut rules, &mut out),
     };
     end(rt)?;
