@@ -2,6 +2,5 @@ pub mod Powers
 pub mod OptionLaws
 pub mod FormLaws
 pub mod StartLaws
-mod Chunks
 pub mod Octets
 mod Worked

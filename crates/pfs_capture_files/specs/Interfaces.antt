@@ -1,8 +1,8 @@
 -- The interfaces of a section (pcapng, section 4.2).
-use Rattle.std.specs.Prelude.{ℕ, ◌≡◌, ◌-◌, ◌^◌, ◌==◌, ◌&&◌, true, List, length, take, drop, nat_le, nat_lt, Option, IfSome, Result, Ok, Err, if◌then◌else◌, slice_index}
-use Rattle.std.specs.List.{position}
-use Rattle.std.specs.Option.{option_and_then, option_map_or, unwrap_or}
-use Rattle.pfs_addr_values.specs.Names.{is_name, name_of}
+use Rattle.std.specs.Prelude.{ℕ, ◌≡◌, ◌-◌, ◌^◌, ◌&&◌, true, List, length, take, drop, nat_le, nat_lt, Option, IfSome, Result, Ok, Err, if◌then◌else◌, slice_index}
+use Rattle.std.specs.Option.{option_and_then, option_map_or}
+use Rattle.pfs_addr_values.specs.Names.{is_name}
+use Rattle.pfs_capture_packets.specs.Logs.{name_at}
 use Rattle.pfs_capture_files.specs.declared.orders.Order.{Order}
 use Rattle.pfs_capture_files.specs.declared.interfaces.Interface.{Interface}
 use Rattle.pfs_capture_files.specs.declared.faults.FileFault.{FileFault}
@@ -29,18 +29,10 @@ units_told order body = option_map_or (λ place. units_of (slice_index body plac
 abbrev pub offset_of : Order → List ℕ → ℕ
 offset_of order body = option_map_or (λ place. u64_in order body place.at) (find_option (length body) order body (record { code = 14; least = 8; most = 8 }) 4) 0
 
--- a name ends before the first zero of its option, or with it
-abbrev pub name_length : List ℕ → ℕ
-name_length value = unwrap_or (position (λ b. b == 0) value) (length value)
-
--- the name of an interface that an option's value is, if it is one (own: the name is one of pf's, of at most 15 bytes)
-abbrev pub name_of_value : List ℕ → Option (List ℕ)
-name_of_value value = name_of 15 (take (name_length value) value)
-
--- the option if_name has the code 2 and any number of bytes
+-- the option if_name has the code 2 and any number of bytes; some writers end the name by zeros
 abbrev pub name_told : Order → List ℕ → Option (List ℕ)
 name_told order body =
-    option_and_then (λ place. name_of_value (take place.size (drop place.at body)))
+    option_and_then (λ place. name_at (take place.size (drop place.at body)))
     (find_option (length body) order body (record { code = 2; least = 0; most = 65535 }) 4)
 
 -- a name is one that an interface can have, where there is one

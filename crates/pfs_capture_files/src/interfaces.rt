@@ -1,13 +1,14 @@
 //! The interfaces of a section.
 
-ghost use Rattle.std.specs.Prelude.{◌≡◌, ◌+◌, ◌<◌, ◌≤◌, ◌==◌, ◌^◌, false, IfErr, IfOk, IfSome, length, position};
+ghost use Rattle.std.specs.Prelude.{◌≡◌, ◌+◌, ◌<◌, ◌≤◌, ◌==◌, ◌^◌, false, IfErr, IfOk, length};
 ghost use Rattle.pfs_capture_files.specs.Faults.{is_outside};
-ghost use Rattle.pfs_capture_files.specs.Interfaces.{IsNamed, interface_of, name_of_value, name_length, name_told, offset_of, units_of, units_told};
+ghost use Rattle.pfs_capture_files.specs.Interfaces.{IsNamed, interface_of, name_told, offset_of, units_of, units_told};
 
 use crate::faults::FileFault;
 use crate::options::{Wanted, find_option};
 use crate::orders::{Order, read_u32, read_u64};
-use pfs_addr_values::{IfName, parse_ifname};
+use pfs_addr_values::IfName;
+use pfs_capture_packets::name_at;
 
 /// An interface of a section, as its block describes it.
 #[derive(Clone, Copy)]
@@ -46,7 +47,7 @@ pub fn interface_of(order: Order, link: u16, body: &[u8]) -> Result<Interface, F
     })
 }
 
-/// The name, where an option says one that an interface of pf can have.
+/// The name, where an option says one that an interface of pf can have. Some writers end it by zeros.
 fn name_told(order: Order, body: &[u8]) -> Option<IfName>
     ensures is { result ≡ name_told order body.now }
     ensures name { IsNamed result }
@@ -57,35 +58,9 @@ fn name_told(order: Order, body: &[u8]) -> Option<IfName>
         most: 65_535,
     };
     match find_option(order, body, wanted, 4) {
-        Some(place) => name_of_value(&body[place.at..place.at + place.size]),
+        Some(place) => name_at(&body[place.at..place.at + place.size]),
         None => None,
     }
-}
-
-/// The name that an option's value is, if it is one. Some writers end it by zeros.
-fn name_of_value(value: &[u8]) -> Option<IfName>
-    ensures is { result ≡ name_of_value value.now }
-    ensures name { IsNamed result }
-{
-    parse_ifname(&value[..name_length(value)])
-}
-
-/// How many bytes are in front of a value's first zero, or all of them.
-fn name_length(value: &[u8]) -> usize
-    ensures is { result ≡ name_length value.now }
-    ensures within { result ≤ length value.now }
-{
-    match zero_in(value) {
-        Some(length) => length,
-        None => value.len(),
-    }
-}
-
-fn zero_in(value: &[u8]) -> Option<usize>
-    ensures is { result ≡ position (λ b. b == 0) value.now }
-    ensures within { IfSome result (λ n. n < length value.now) }
-{
-    value.iter().position(|byte| *byte == 0)
 }
 
 /// How many units a second has: a million where no option says it.

@@ -21,7 +21,8 @@ log_header = LOG_HEADER
 abbrev pub text_length : List ℕ → ℕ
 text_length field = unwrap_or (position (λ b. b == 0) field) (length field)
 
--- the name of an interface, in a field that zeros fill up
+-- the name of an interface that a field says, if it is one; zeros may fill the field up (own: the name is one of pf's, of at most
+-- 15 bytes)
 abbrev pub name_at : List ℕ → Option (List ℕ)
 name_at field = name_of 15 (take (text_length field) field)
 

@@ -118,8 +118,8 @@ fn dir_at(byte: u8) -> Option<Dir>
     }
 }
 
-/// The name of an interface, in a field that zeros fill up.
-fn name_at(field: &[u8]) -> Option<IfName>
+/// The name that a field says, if it is one that an interface of pf can have. Zeros may fill the field up.
+pub fn name_at(field: &[u8]) -> Option<IfName>
     ensures is { result ≡ name_at field.now }
     ensures name { IfSome result (λ n. is_name 15 n ≡ true) }
 {

@@ -2,16 +2,14 @@
 --
 -- A crate above imports them as `use Rattle.pfs_conf_filters.proofs.OnlineLaws.{online_verb, ..}`.
 use Rattle.std.proofs.Common.{◌≡◌, ℕ, Bool, true, false, List, Option, Some, refl}
-use borrow.Author.Tests.{clash}
 use Rattle.pfs_conf_tokens.specs.Tokens.{Tok}
 use Rattle.pfs_conf_tokens.specs.Keys.{in_line}
 use Rattle.pfs_conf_tokens.specs.Reading.{closes_parens, Reader, on_front, done, chain, next_of}
 use Rattle.pfs_conf_tokens.specs.declared.keys.Key.{Key}
 use Rattle.pfs_conf_tokens.specs.declared.keys.Key.TheVariants as key
-use Rattle.pfs_conf_tokens.specs.declared.refusals.Why.{Why}
 use Rattle.pfs_conf_tokens.specs.declared.refusals.Why.TheVariants as why
 use Rattle.pfs_conf_tokens.proofs.Laws.{Online, OnlineAct, Taking, Shrinks, inside, online_done, online_chain, online_front, online_taking, online_perhaps, front_shrinks, chain_shrinks, chain_shrinks_behind}
-use Rattle.pfs_conf_tokens.proofs.ReaderLaws.{closes_parens_in_line, online_list, next_shrinks}
+use Rattle.pfs_conf_tokens.proofs.ReaderLaws.{passes_in_line, closes_parens_in_line, online_list, next_shrinks}
 use Rattle.pfs_addr_values.specs.declared.packets.Dir.TheVariants as dir
 use Rattle.pfs_conf_values.specs.declared.filters.Family.TheVariants as family
 use Rattle.pfs_conf_values.specs.declared.filters.FlagTest.{FlagTest}
@@ -29,17 +27,13 @@ use Rattle.pfs_conf_tokens.proofs.ValueLaws.{passed, in_word_in_line, online_val
 -- ---- words that say a value
 
 plain_in_line : (k : Key) → is_plain_word k ≡ true → in_line k ≡ true
-plain_in_line key.LineEnd e = absurd cc
-plain_in_line key.End e = absurd cc
-plain_in_line _ e = refl
+plain_in_line = passes_in_line is_plain_word refl refl
 
 pub in_plain_word_in_line : {A : Type 0} (value : List ℕ → Option A) (t : Tok) (x : A) → in_plain_word value t ≡ Some x → in_line t.key ≡ true
 in_plain_word_in_line value t x e = plain_in_line t.key (passed (is_plain_word t.key) (value t.text) x e)
 
 name_in_line : (k : Key) → may_name_interface k ≡ true → in_line k ≡ true
-name_in_line key.LineEnd e = absurd cc
-name_in_line key.End e = absurd cc
-name_in_line _ e = refl
+name_in_line = passes_in_line may_name_interface refl refl
 
 pub interface_in_line : (t : Tok) (x : List ℕ) → interface_name t ≡ Some x → in_line t.key ≡ true
 interface_in_line t x e = name_in_line t.key (passed (may_name_interface t.key) _ x e)
@@ -55,38 +49,14 @@ behind_taking : {A : Type 0} (k : Key) (b : Bool) (f : Reader A) → (b ≡ true
 behind_taking k true f h g = (h refl, g)
 behind_taking k false f h g = tt
 
-pub online_clause : {A : Type 0} (begins : Key → Bool) (f : Reader A) → ((k : Key) → begins k ≡ true → in_line k ≡ true) → Online inside f → Online inside (clause begins f)
-online_clause begins f h g = online_taking (λ t. behind (begins t.key) f) (λ t. behind_taking t.key (begins t.key) f (h t.key) g)
+pub online_clause : {A : Type 0} (begins : Key → Bool) (f : Reader A) → begins key.LineEnd ≡ false → begins key.End ≡ false → Online inside f → Online inside (clause begins f)
+online_clause begins f l n g = online_taking (λ t. behind (begins t.key) f) (λ t. behind_taking t.key (begins t.key) f (passes_in_line begins l n t.key) g)
 
-pub clause_shrinks : {A : Type 0} (begins : Key → Bool) (f : Reader A) → ((k : Key) → begins k ≡ true → in_line k ≡ true) → Online inside f → Shrinks (clause begins f)
-clause_shrinks begins f h g = front_shrinks inside (λ t. behind (begins t.key) f) (λ t. behind_taking t.key (begins t.key) f (h t.key) g)
+pub clause_shrinks : {A : Type 0} (begins : Key → Bool) (f : Reader A) → begins key.LineEnd ≡ false → begins key.End ≡ false → Online inside f → Shrinks (clause begins f)
+clause_shrinks begins f l n g = front_shrinks inside (λ t. behind (begins t.key) f) (λ t. behind_taking t.key (begins t.key) f (passes_in_line begins l n t.key) g)
 
-pub online_part : {A : Type 0} (begins : Key → Bool) (f : Reader A) → ((k : Key) → begins k ≡ true → in_line k ≡ true) → Online inside f → Online inside (part begins f)
-online_part begins f h g = online_perhaps begins (clause begins f) (online_clause begins f h g)
-
-on_in_line : (k : Key) → begins_on k ≡ true → in_line k ≡ true
-on_in_line key.On e = refl
-on_in_line _ e = absurd (clash e)
-
-proto_in_line : (k : Key) → begins_proto k ≡ true → in_line k ≡ true
-proto_in_line key.Proto e = refl
-proto_in_line _ e = absurd (clash e)
-
-from_in_line : (k : Key) → begins_from k ≡ true → in_line k ≡ true
-from_in_line key.From e = refl
-from_in_line _ e = absurd (clash e)
-
-to_in_line : (k : Key) → begins_to k ≡ true → in_line k ≡ true
-to_in_line key.To e = refl
-to_in_line _ e = absurd (clash e)
-
-port_in_line : (k : Key) → begins_port k ≡ true → in_line k ≡ true
-port_in_line key.Port e = refl
-port_in_line _ e = absurd (clash e)
-
-flags_word_in_line : (k : Key) → begins_flags k ≡ true → in_line k ≡ true
-flags_word_in_line key.Flags e = refl
-flags_word_in_line _ e = absurd (clash e)
+pub online_part : {A : Type 0} (begins : Key → Bool) (f : Reader A) → begins key.LineEnd ≡ false → begins key.End ≡ false → Online inside f → Online inside (part begins f)
+online_part begins f l n g = online_perhaps begins (clause begins f) (online_clause begins f l n g)
 
 -- ---- names
 
@@ -199,7 +169,7 @@ online_on = online_chain negation_at (λ b. chain interface_at (λ n. done (inte
 
 pub online_on_part : Online inside on_part_at
 unfolding on_part_at
-online_on_part = online_part begins_on on_at on_in_line online_on
+online_on_part = online_part begins_on on_at refl refl online_on
 
 family_taking : (k : Key) → Taking inside k (family_by k)
 family_taking key.Inet = (refl, online_done family.Inet)
@@ -216,7 +186,7 @@ online_proto = online_value why.Service (in_word proto_in) (in_word_in_line prot
 
 pub online_proto_part : Online inside proto_part_at
 unfolding proto_part_at
-online_proto_part = online_part begins_proto proto_at proto_in_line online_proto
+online_proto_part = online_part begins_proto proto_at refl refl online_proto
 
 pub online_head : (s : Statement) → Online inside (head_at s)
 unfolding head_at
@@ -272,7 +242,7 @@ online_ports = online_chain equals_at (λ e. value_at why.Service (in_word ports
 
 pub online_ports_part : Online inside ports_part_at
 unfolding ports_part_at
-online_ports_part = online_part begins_port ports_at port_in_line online_ports
+online_ports_part = online_part begins_port ports_at refl refl online_ports
 
 side_host_acts : (k : Key) → OnlineAct inside k (side_host_by k)
 side_host_acts key.Port = online_done host.Any
@@ -288,11 +258,11 @@ online_side = online_chain side_host_at (λ h. chain ports_part_at (λ p. done (
 
 pub online_from_part : Online inside from_part_at
 unfolding from_part_at
-online_from_part = online_part begins_from side_at from_in_line online_side
+online_from_part = online_part begins_from side_at refl refl online_side
 
 pub online_to_part : Online inside to_part_at
 unfolding to_part_at
-online_to_part = online_part begins_to side_at to_in_line online_side
+online_to_part = online_part begins_to side_at refl refl online_side
 
 hosts_acts : (k : Key) → OnlineAct inside k (hosts_by k)
 hosts_acts key.All = (refl, online_done all_hosts)
@@ -310,8 +280,8 @@ online_parameters s = online_chain (head_at s) (λ h. chain hosts_at (λ o. done
 
 pub online_flags : Online inside flags_at
 unfolding flags_at
-online_flags = online_clause begins_flags (value_at why.Plain flag_test) flags_word_in_line (online_value why.Plain flag_test (λ t x e. flags_in_line t.text t.key x e))
+online_flags = online_clause begins_flags (value_at why.Plain flag_test) refl refl (online_value why.Plain flag_test (λ t x e. flags_in_line t.text t.key x e))
 
 pub flags_shrinks : Shrinks flags_at
 unfolding flags_at
-flags_shrinks = clause_shrinks begins_flags (value_at why.Plain flag_test) flags_word_in_line (online_value why.Plain flag_test (λ t x e. flags_in_line t.text t.key x e))
+flags_shrinks = clause_shrinks begins_flags (value_at why.Plain flag_test) refl refl (online_value why.Plain flag_test (λ t x e. flags_in_line t.text t.key x e))

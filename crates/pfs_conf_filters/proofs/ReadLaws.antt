@@ -1,10 +1,11 @@
 -- Each phrase of the grammar of parameters is read, if what follows it does not continue it.
 --
 -- A crate above imports them as `use Rattle.pfs_conf_filters.proofs.ReadLaws.{verb_reads, parameters_read, flags_read}`.
-use Rattle.std.proofs.Common.{◌≡◌, ℕ, Bool, true, false, List, Option, Some, Ok, refl, ap, ◌∙◌}
+use Rattle.std.proofs.Common.{◌≡◌, ℕ, Bool, true, false, not, ◌&&◌, ◌||◌, List, Option, Some, Ok, refl, ap, ◌∙◌}
+use Rattle.std.proofs.lemmas.Bool.{and_parts}
 use Rattle.pfs_conf_tokens.specs.Tokens.{Tok, head}
 use Rattle.pfs_conf_tokens.specs.Keys.{is_word_key}
-use Rattle.pfs_conf_tokens.specs.Reading.{closes_parens, Reader, stay, on_front, done, chain}
+use Rattle.pfs_conf_tokens.specs.Reading.{closes_parens, Reader, Act, stay, on_front, done, chain}
 use Rattle.pfs_conf_tokens.specs.Grammar.{Word, Perhaps, absent, present}
 use Rattle.pfs_conf_tokens.specs.declared.keys.Key.{Key}
 use Rattle.pfs_conf_tokens.specs.declared.keys.Key.TheVariants as key
@@ -48,21 +49,19 @@ no_policy key.ReturnIcmp = false
 no_policy key.ReturnIcmp6 = false
 no_policy _ = true
 
+-- all but what goes on with log and quick
+abbrev ends_marks : Key → Bool
+ends_marks key.Log = false
+ends_marks key.OpenParen = false
+ends_marks key.Quick = false
+ends_marks _ = true
+
 -- all but what goes on with the parameters before the hosts
-abbrev pub ends_head : Key → Bool
-ends_head key.In = false
-ends_head key.Out = false
-ends_head key.Log = false
-ends_head key.OpenParen = false
-ends_head key.Quick = false
-ends_head key.On = false
-ends_head key.Inet = false
-ends_head key.Inet6 = false
-ends_head key.Proto = false
-ends_head _ = true
+abbrev ends_head : Key → Bool
+ends_head k = ends_marks k && not (begins_dir k || begins_on k || begins_family k || begins_proto k)
 
 -- all but what goes on with the hosts
-abbrev pub ends_hosts : Key → Bool
+abbrev ends_hosts : Key → Bool
 ends_hosts key.All = false
 ends_hosts key.From = false
 ends_hosts key.To = false
@@ -71,59 +70,17 @@ ends_hosts _ = true
 
 -- all but what goes on with the parameters
 abbrev pub ends_parameters : Key → Bool
-ends_parameters key.In = false
-ends_parameters key.Out = false
-ends_parameters key.Log = false
-ends_parameters key.OpenParen = false
-ends_parameters key.Quick = false
-ends_parameters key.On = false
-ends_parameters key.Inet = false
-ends_parameters key.Inet6 = false
-ends_parameters key.Proto = false
-ends_parameters key.All = false
-ends_parameters key.From = false
-ends_parameters key.To = false
-ends_parameters key.Port = false
-ends_parameters _ = true
-
-abbrev is_log : Key → Bool
-is_log key.Log = true
-is_log _ = false
-
-abbrev is_paren : Key → Bool
-is_paren key.OpenParen = true
-is_paren _ = false
-
-abbrev is_quick : Key → Bool
-is_quick key.Quick = true
-is_quick _ = false
-
-abbrev is_not : Key → Bool
-is_not key.Not = true
-is_not _ = false
-
-abbrev is_any : Key → Bool
-is_any key.Any = true
-is_any _ = false
-
-abbrev is_angle : Key → Bool
-is_angle key.OpenAngle = true
-is_angle _ = false
-
-abbrev is_equals : Key → Bool
-is_equals key.Equals = true
-is_equals _ = false
-
-abbrev is_all : Key → Bool
-is_all key.All = true
-is_all _ = false
+ends_parameters k = ends_head k && ends_hosts k
 
 abbrev no_port : Key → Bool
-no_port key.Port = false
-no_port _ = true
+no_port k = not (begins_port k)
 
 anything : Key → Bool
 anything k = true
+
+-- at the key, the reader of a word that may be absent says that it is
+abbrev SaysNo : (Key → Act Bool) → Key → Type 0
+SaysNo by k = by k ≡ stay (done false)
 
 -- ---- forms
 
@@ -216,31 +173,23 @@ log_items_readable : ReadsList key.CloseParen closes_parens anything LogItemOf l
 unfolding anything
 log_items_readable = record { closes = refl; close_follows = refl; comma_goes = refl; comma_follows = refl; begins = log_item_begins; reads = λ q f. log_item_reads q; shrinks = log_item_shrinks }
 
-log_list_stays : (k : Key) → is_paren k ≡ false → log_list_by k ≡ stay (done tt)
-log_list_stays key.OpenParen e = absurd cc
-log_list_stays _ e = refl
+-- a key at which the list of what is logged is absent
+abbrev NoLogList : Key → Type 0
+NoLogList k = log_list_by k ≡ stay (done tt)
 
-log_list_reads : {ts left : List Tok} → LogListOf ts left → is_paren (head left).key ≡ false → log_list_at ts ≡ Ok (tt, left)
+log_list_reads : {ts left : List Tok} → LogListOf ts left → NoLogList (head left).key → log_list_at ts ≡ Ok (tt, left)
 unfolding log_list_at
-log_list_reads {ts = ts} bare f = rw (log_list_stays (head ts).key f) refl
+log_list_reads bare f = rw f refl
 log_list_reads (listed w q) f = let h = word_head w in rw (h.0, h.1) (list_reads log_items_readable q)
 
-log_stays : (k : Key) → is_log k ≡ false → log_by k ≡ stay (done false)
-log_stays key.Log e = absurd cc
-log_stays _ e = refl
-
-log_reads : {ts : List Tok} {x : Bool} {left : List Tok} → LogOf ts x left → is_log (head left).key ≡ false → is_paren (head left).key ≡ false → log_at ts ≡ Ok (x, left)
+log_reads : {ts : List Tok} {x : Bool} {left : List Tok} → LogOf ts x left → SaysNo log_by (head left).key → NoLogList (head left).key → log_at ts ≡ Ok (x, left)
 unfolding log_at
-log_reads {ts = ts} silent f g = rw (log_stays (head ts).key f) refl
+log_reads silent f g = rw f refl
 log_reads (logs w l) f g = let h = word_head w in rw (h.0, h.1, log_list_reads l g) refl
 
-quick_stays : (k : Key) → is_quick k ≡ false → quick_by k ≡ stay (done false)
-quick_stays key.Quick e = absurd cc
-quick_stays _ e = refl
-
-quick_reads : {ts : List Tok} {x : Bool} {left : List Tok} → QuickOf ts x left → is_quick (head left).key ≡ false → quick_at ts ≡ Ok (x, left)
+quick_reads : {ts : List Tok} {x : Bool} {left : List Tok} → QuickOf ts x left → SaysNo quick_by (head left).key → quick_at ts ≡ Ok (x, left)
 unfolding quick_at
-quick_reads {ts = ts} slow f = rw (quick_stays (head ts).key f) refl
+quick_reads slow f = rw f refl
 quick_reads (quick w) f = let h = word_head w in rw (h.0, h.1) refl
 
 quick_head : (Q : Key → Type 0) → Q key.Quick → {ts : List Tok} {x : Bool} {left : List Tok} → QuickOf ts x left → Q (head left).key → Q (head ts).key
@@ -256,50 +205,45 @@ marks_head Q q l (log_first a b) f = log_head Q l a (quick_head Q q b f)
 marks_head Q q l (quick_first w a) f = word_key key.Quick Q q w
 marks_head Q q l (of_anchor b) f = quick_head Q q b f
 
-rule_marks_stay : (k : Key) → is_quick k ≡ false → rule_marks_by k ≡ stay (chain log_at (λ l. chain quick_at (λ q. done (marks_of l q))))
+rule_marks_stay : (k : Key) → SaysNo quick_by k → rule_marks_by k ≡ stay (chain log_at (λ l. chain quick_at (λ q. done (marks_of l q))))
 rule_marks_stay key.Quick e = absurd cc
 rule_marks_stay _ e = refl
 
 -- log first, or neither
-rule_marks_read : {ts mid : List Tok} {l q : Bool} {left : List Tok} → is_quick (head ts).key ≡ false → LogOf ts l mid → QuickOf mid q left → is_log (head mid).key ≡ false → is_paren (head mid).key ≡ false → is_quick (head left).key ≡ false
+rule_marks_read : {ts mid : List Tok} {l q : Bool} {left : List Tok} → SaysNo quick_by (head ts).key → LogOf ts l mid → QuickOf mid q left → SaysNo log_by (head mid).key → NoLogList (head mid).key → SaysNo quick_by (head left).key
     → marks_at statement.Rule ts ≡ Ok (marks_of l q, left)
 unfolding marks_at
 rule_marks_read {ts = ts} n a b f g h = rw (rule_marks_stay (head ts).key n, log_reads a f g, quick_reads b h) refl
 
-pub marks_read : {s : Statement} {ts : List Tok} {m : Marks} {left : List Tok} → MarksOf s ts m left → is_log (head left).key ≡ false → is_paren (head left).key ≡ false → is_quick (head left).key ≡ false
+pub marks_read : {s : Statement} {ts : List Tok} {m : Marks} {left : List Tok} → MarksOf s ts m left → SaysNo log_by (head left).key → NoLogList (head left).key → SaysNo quick_by (head left).key
     → marks_at s ts ≡ Ok (m, left)
 unfolding marks_at
 marks_read (log_first silent slow) f g h = rule_marks_read h silent slow f g h
 marks_read {left = left} (log_first silent (quick w)) f g h = let v = word_head w in let r : log_at left ≡ Ok (false, left) = log_reads silent f g in rw (v.0, v.1, r) refl
 marks_read (log_first (logs w l) b) f g h =
-    rule_marks_read (word_key key.Log (λ k. is_quick k ≡ false) refl w) (logs w l) b
-    (quick_head (λ k. is_log k ≡ false) refl b f) (quick_head (λ k. is_paren k ≡ false) refl b g) h
+    rule_marks_read (word_key key.Log (SaysNo quick_by) refl w) (logs w l) b (quick_head (SaysNo log_by) refl b f) (quick_head NoLogList refl b g) h
 marks_read (quick_first w a) f g h = let v = word_head w in rw (v.0, v.1, log_reads a f g) refl
 marks_read (of_anchor b) f g h = rw (quick_reads b h) refl
 
 -- ---- interface, family and protocol
 
-negation_stays : (k : Key) → is_not k ≡ false → negation_by k ≡ stay (done false)
-negation_stays key.Not e = absurd cc
-negation_stays _ e = refl
-
-negation_reads : {ts : List Tok} {x : Bool} {left : List Tok} → NegationOf ts x left → is_not (head left).key ≡ false → negation_at ts ≡ Ok (x, left)
+negation_reads : {ts : List Tok} {x : Bool} {left : List Tok} → NegationOf ts x left → SaysNo negation_by (head left).key → negation_at ts ≡ Ok (x, left)
 unfolding negation_at
-negation_reads {ts = ts} affirmed f = rw (negation_stays (head ts).key f) refl
+negation_reads affirmed f = rw f refl
 negation_reads (negated w) f = let h = word_head w in rw (h.0, h.1) refl
 
 negation_head : (Q : Key → Type 0) → Q key.Not → {ts : List Tok} {x : Bool} {left : List Tok} → NegationOf ts x left → Q (head left).key → Q (head ts).key
 negation_head Q h affirmed f = f
 negation_head Q h (negated w) f = word_key key.Not Q h w
 
-name_is_no_not : (k : Key) → may_name_interface k ≡ true → is_not k ≡ false
+name_is_no_not : (k : Key) → may_name_interface k ≡ true → SaysNo negation_by k
 name_is_no_not key.Not e = absurd cc
 name_is_no_not _ e = refl
 
 interface_reads : {ts : List Tok} {x : Interface} {left : List Tok} → OnOf ts x left → on_at ts ≡ Ok (x, left)
 unfolding on_at
 interface_reads (on n s) =
-    let f = says_head interface_name (λ k. is_not k ≡ false) (λ t x e. name_is_no_not t.key (passed (may_name_interface t.key) _ x e)) s in
+    let f = says_head interface_name (SaysNo negation_by) (λ t x e. name_is_no_not t.key (passed (may_name_interface t.key) _ x e)) s in
     rw (negation_reads n f, interface_name_reads s) refl
 
 on_part_reads : {ts : List Tok} {o : Option Interface} {left : List Tok} → Perhaps (Behind key.On OnOf) ts o left → begins_on (head left).key ≡ false → on_part_at ts ≡ Ok (o, left)
@@ -332,35 +276,27 @@ proto_part_reads p f = part_reads key.Proto begins_proto anything proto_at (Says
 behind_head : {A : Type 0} (k : Key) (P : List Tok → A → List Tok → Type 0) (Q : Key → Type 0) → Q k → {ts : List Tok} {o : Option A} {left : List Tok} → Perhaps (Behind k P) ts o left → Q (head left).key → Q (head ts).key
 behind_head k P Q h p f = perhaps_head (Behind k P) Q (λ ts x left b. word_key k Q h b.1) p f
 
-ends_no_dir : (k : Key) → ends_head k ≡ true → begins_dir k ≡ false
-ends_no_dir key.In e = absurd cc
-ends_no_dir key.Out e = absurd cc
-ends_no_dir _ e = refl
+-- what ends the parameters before the hosts begins none of them
+record EndsHead (k : Key) : Type 0 where
+  dir : begins_dir k ≡ false
+  log : SaysNo log_by k
+  log_list : NoLogList k
+  quick : SaysNo quick_by k
+  on : begins_on k ≡ false
+  family : begins_family k ≡ false
+  proto : begins_proto k ≡ false
 
-ends_no_log : (k : Key) → ends_head k ≡ true → is_log k ≡ false
-ends_no_log key.Log e = absurd cc
-ends_no_log _ e = refl
-
-ends_no_paren : (k : Key) → ends_head k ≡ true → is_paren k ≡ false
-ends_no_paren key.OpenParen e = absurd cc
-ends_no_paren _ e = refl
-
-ends_no_quick : (k : Key) → ends_head k ≡ true → is_quick k ≡ false
-ends_no_quick key.Quick e = absurd cc
-ends_no_quick _ e = refl
-
-ends_no_on : (k : Key) → ends_head k ≡ true → begins_on k ≡ false
-ends_no_on key.On e = absurd cc
-ends_no_on _ e = refl
-
-ends_no_family : (k : Key) → ends_head k ≡ true → begins_family k ≡ false
-ends_no_family key.Inet e = absurd cc
-ends_no_family key.Inet6 e = absurd cc
-ends_no_family _ e = refl
-
-ends_no_proto : (k : Key) → ends_head k ≡ true → begins_proto k ≡ false
-ends_no_proto key.Proto e = absurd cc
-ends_no_proto _ e = refl
+head_ends : (k : Key) → ends_head k ≡ true → EndsHead k
+head_ends key.In e = absurd cc
+head_ends key.Out e = absurd cc
+head_ends key.Log e = absurd cc
+head_ends key.OpenParen e = absurd cc
+head_ends key.Quick e = absurd cc
+head_ends key.On e = absurd cc
+head_ends key.Inet e = absurd cc
+head_ends key.Inet6 e = absurd cc
+head_ends key.Proto e = absurd cc
+head_ends _ e = record { dir = refl; log = refl; log_list = refl; quick = refl; on = refl; family = refl; proto = refl }
 
 module _ (s : Statement) (ts : List Tok) (h : Head) (left : List Tok) (w : HeadOf s ts h left) where
   from_d : (Q : Key → Type 0) → Q key.Proto → Q (head left).key → Q (head w.d).key
@@ -378,12 +314,13 @@ module _ (s : Statement) (ts : List Tok) (h : Head) (left : List Tok) (w : HeadO
   pub head_reads : ends_head (head left).key ≡ true → head_at s ts ≡ Ok (h, left)
   unfolding head_at
   head_reads f =
+      let n = head_ends (head left).key f in
       rw (
-        dir_reads w.dir (from_a (λ k. begins_dir k ≡ false) refl refl refl refl refl refl (ends_no_dir (head left).key f)),
-        marks_read w.marks (from_b (λ k. is_log k ≡ false) refl refl refl refl (ends_no_log (head left).key f)) (from_b (λ k. is_paren k ≡ false) refl refl refl refl (ends_no_paren (head left).key f)) (from_b (λ k. is_quick k ≡ false) refl refl refl refl (ends_no_quick (head left).key f)),
-        on_part_reads w.on (from_c (λ k. begins_on k ≡ false) refl refl refl (ends_no_on (head left).key f)),
-        family_part_reads w.family (from_d (λ k. begins_family k ≡ false) refl (ends_no_family (head left).key f)),
-        proto_part_reads w.proto (ends_no_proto (head left).key f),
+        dir_reads w.dir (from_a (λ k. begins_dir k ≡ false) refl refl refl refl refl refl n.dir),
+        marks_read w.marks (from_b (SaysNo log_by) refl refl refl refl n.log) (from_b NoLogList refl refl refl refl n.log_list) (from_b (SaysNo quick_by) refl refl refl refl n.quick),
+        on_part_reads w.on (from_c (λ k. begins_on k ≡ false) refl refl refl n.on),
+        family_part_reads w.family (from_d (λ k. begins_family k ≡ false) refl n.family),
+        proto_part_reads w.proto n.proto,
       ) refl
 
 -- ---- hosts
@@ -392,51 +329,45 @@ close_reads : {ts left : List Tok} → Word key.CloseAngle ts left → close_at 
 unfolding close_at
 close_reads w = let h = word_head w in rw (h.0, h.1) refl
 
-place_stays : (b : Bool) (k : Key) → is_angle k ≡ false → place_by b k ≡ stay (chain (value_at why.Host (in_plain_word prefix_of)) (λ p. done (host.Prefix p b)))
-place_stays b key.OpenAngle e = absurd cc
-place_stays b _ e = refl
+-- a key at which the name of a table, and one at which `any` is absent
+abbrev NoTable : Key → Type 0
+NoTable k = (b : Bool) → place_by b k ≡ stay (chain (value_at why.Host (in_plain_word prefix_of)) (λ p. done (host.Prefix p b)))
 
-host_stays : (k : Key) → is_any k ≡ false → host_by k ≡ stay (chain negation_at place_at)
-host_stays key.Any e = absurd cc
-host_stays _ e = refl
+abbrev NoAny : Key → Type 0
+NoAny k = host_by k ≡ stay (chain negation_at place_at)
 
 -- a plain word is no other first word of a host
-plain_is_no_angle : (k : Key) → is_plain_word k ≡ true → is_angle k ≡ false
-plain_is_no_angle key.OpenAngle e = absurd cc
-plain_is_no_angle _ e = refl
+record BeginsPrefix (k : Key) : Type 0 where
+  no_table : NoTable k
+  no_not : SaysNo negation_by k
+  no_any : NoAny k
+  no_port : begins_port k ≡ false
 
-plain_is_no_not : (k : Key) → is_plain_word k ≡ true → is_not k ≡ false
-plain_is_no_not key.Not e = absurd cc
-plain_is_no_not _ e = refl
+begins_prefix : (k : Key) → is_plain_word k ≡ true → BeginsPrefix k
+begins_prefix key.OpenAngle e = absurd cc
+begins_prefix key.Not e = absurd cc
+begins_prefix key.Any e = absurd cc
+begins_prefix key.Port e = absurd cc
+begins_prefix _ e = record { no_table = λ b. refl; no_not = refl; no_any = refl; no_port = refl }
 
-plain_is_no_any : (k : Key) → is_plain_word k ≡ true → is_any k ≡ false
-plain_is_no_any key.Any e = absurd cc
-plain_is_no_any _ e = refl
-
-plain_is_no_port : (k : Key) → is_plain_word k ≡ true → begins_port k ≡ false
-plain_is_no_port key.Port e = absurd cc
-plain_is_no_port _ e = refl
-
-prefix_head : (Q : Key → Type 0) → ((k : Key) → is_plain_word k ≡ true → Q k) → {ts : List Tok} {x : Network} {left : List Tok} → Says (in_plain_word prefix_of) ts x left → Q (head ts).key
-prefix_head Q h s = says_head (in_plain_word prefix_of) Q (λ t x e. h t.key (passed (is_plain_word t.key) (prefix_of t.text) x e)) s
+prefix_head : (Q : Key → Type 0) → ((k : Key) → BeginsPrefix k → Q k) → {ts : List Tok} {x : Network} {left : List Tok} → Says (in_plain_word prefix_of) ts x left → Q (head ts).key
+prefix_head Q h s = says_head (in_plain_word prefix_of) Q (λ t x e. h t.key (begins_prefix t.key (passed (is_plain_word t.key) (prefix_of t.text) x e))) s
 
 pub host_reads : {ts : List Tok} {x : Host (List ℕ)} {left : List Tok} → HostOf ts x left → host_at ts ≡ Ok (x, left)
 unfolding host_at place_at
 host_reads (any w) = let h = word_head w in rw (h.0, h.1) refl
-host_reads {ts = ts} (prefix {mid = mid} {b = b} n s) =
-    let f = negation_head (λ k. is_any k ≡ false) refl n (prefix_head (λ k. is_any k ≡ false) plain_is_no_any s) in
+host_reads (prefix {b = b} n s) =
     rw (
-      host_stays (head ts).key f,
-      negation_reads n (prefix_head (λ k. is_not k ≡ false) plain_is_no_not s),
-      place_stays b (head mid).key (prefix_head (λ k. is_angle k ≡ false) plain_is_no_angle s),
+      negation_head NoAny refl n (prefix_head NoAny (λ k p. p.no_any) s),
+      negation_reads n (prefix_head (SaysNo negation_by) (λ k p. p.no_not) s),
+      prefix_head NoTable (λ k p. p.no_table) s b,
       value_reads why.Host (in_plain_word prefix_of) s,
     ) refl
-host_reads {ts = ts} (table n w s v) =
-    let f = negation_head (λ k. is_any k ≡ false) refl n (word_key key.OpenAngle (λ k. is_any k ≡ false) refl w) in
+host_reads (table n w s v) =
     let h = word_head w in
     rw (
-      host_stays (head ts).key f,
-      negation_reads n (word_key key.OpenAngle (λ k. is_not k ≡ false) refl w),
+      negation_head NoAny refl n (word_key key.OpenAngle NoAny refl w),
+      negation_reads n (word_key key.OpenAngle (SaysNo negation_by) refl w),
       h.0,
       h.1,
       table_name_reads s,
@@ -445,29 +376,25 @@ host_reads {ts = ts} (table n w s v) =
 
 host_begins : {ts : List Tok} {x : Host (List ℕ)} {left : List Tok} → HostOf ts x left → begins_port (head ts).key ≡ false
 host_begins (any w) = word_key key.Any (λ k. begins_port k ≡ false) refl w
-host_begins (prefix n s) = negation_head (λ k. begins_port k ≡ false) refl n (prefix_head (λ k. begins_port k ≡ false) plain_is_no_port s)
+host_begins (prefix n s) = negation_head (λ k. begins_port k ≡ false) refl n (prefix_head (λ k. begins_port k ≡ false) (λ k p. p.no_port) s)
 host_begins (table n w s v) = negation_head (λ k. begins_port k ≡ false) refl n (word_key key.OpenAngle (λ k. begins_port k ≡ false) refl w)
-
-equals_stays : (k : Key) → is_equals k ≡ false → equals_by k ≡ stay (done false)
-equals_stays key.Equals e = absurd cc
-equals_stays _ e = refl
 
 equals_reads : {ts left : List Tok} → Word key.Equals ts left → equals_at ts ≡ Ok (true, left)
 unfolding equals_at
 equals_reads w = let h = word_head w in rw (h.0, h.1) refl
 
-no_equals : (ts : List Tok) → is_equals (head ts).key ≡ false → equals_at ts ≡ Ok (false, ts)
+no_equals : (ts : List Tok) → SaysNo equals_by (head ts).key → equals_at ts ≡ Ok (false, ts)
 unfolding equals_at
-no_equals ts f = rw (equals_stays (head ts).key f) refl
+no_equals ts f = rw f refl
 
-word_is_no_equals : (k : Key) → is_word_key k ≡ true → is_equals k ≡ false
+word_is_no_equals : (k : Key) → is_word_key k ≡ true → SaysNo equals_by k
 word_is_no_equals key.Equals e = absurd cc
 word_is_no_equals _ e = refl
 
 ports_read : {ts : List Tok} {x : Ports} {left : List Tok} → PortsOf ts x left → ports_at ts ≡ Ok (x, left)
 unfolding ports_at
 ports_read {ts = ts} (plainly s) =
-    let f = says_head (in_word ports_of) (λ k. is_equals k ≡ false) (λ t x e. word_is_no_equals t.key (passed (is_word_key t.key) (ports_of t.text) x e)) s in
+    let f = says_head (in_word ports_of) (SaysNo equals_by) (λ t x e. word_is_no_equals t.key (passed (is_word_key t.key) (ports_of t.text) x e)) s in
     rw (no_equals ts f) (value_reads why.Service (in_word ports_of) s)
 ports_read (equals w s) = rw (equals_reads w) (value_reads why.Service (in_word ports_of) s)
 
@@ -504,35 +431,33 @@ to_part_reads : {ts : List Tok} {o : Option (Side (List ℕ))} {left : List Tok}
 unfolding to_part_at
 to_part_reads p f g = part_reads key.To begins_to no_port side_at SideOf refl (λ ts x left q e. side_reads q e) p f g
 
-hosts_stay : (k : Key) → is_all k ≡ false → hosts_by k ≡ stay (chain from_part_at (λ f. chain to_part_at (λ t. done (given_hosts f t))))
-hosts_stay key.All e = absurd cc
-hosts_stay _ e = refl
+-- a key at which `all` is absent
+abbrev NoAll : Key → Type 0
+NoAll k = hosts_by k ≡ stay (chain from_part_at (λ f. chain to_part_at (λ t. done (given_hosts f t))))
 
-ends_no_all : (k : Key) → ends_hosts k ≡ true → is_all k ≡ false
-ends_no_all key.All e = absurd cc
-ends_no_all _ e = refl
+-- what ends the hosts begins none of their parts
+record EndsHosts (k : Key) : Type 0 where
+  all : NoAll k
+  from : begins_from k ≡ false
+  to : begins_to k ≡ false
+  port : no_port k ≡ true
 
-ends_no_from : (k : Key) → ends_hosts k ≡ true → begins_from k ≡ false
-ends_no_from key.From e = absurd cc
-ends_no_from _ e = refl
-
-ends_no_to : (k : Key) → ends_hosts k ≡ true → begins_to k ≡ false
-ends_no_to key.To e = absurd cc
-ends_no_to _ e = refl
-
-ends_no_port : (k : Key) → ends_hosts k ≡ true → no_port k ≡ true
-ends_no_port key.Port e = absurd cc
-ends_no_port _ e = refl
+hosts_end : (k : Key) → ends_hosts k ≡ true → EndsHosts k
+hosts_end key.All e = absurd cc
+hosts_end key.From e = absurd cc
+hosts_end key.To e = absurd cc
+hosts_end key.Port e = absurd cc
+hosts_end _ e = record { all = refl; from = refl; to = refl; port = refl }
 
 pub hosts_read : {ts : List Tok} {x : Hosts} {left : List Tok} → HostsOf ts x left → ends_hosts (head left).key ≡ true → hosts_at ts ≡ Ok (x, left)
 unfolding hosts_at
 hosts_read (every w) e = let h = word_head w in rw (h.0, h.1) refl
-hosts_read {ts = ts} {left = left} (sides f t) e =
-    let a = behind_head key.From SideOf (λ k. is_all k ≡ false) refl f (behind_head key.To SideOf (λ k. is_all k ≡ false) refl t (ends_no_all (head left).key e)) in
+hosts_read {left = left} (sides f t) e =
+    let n = hosts_end (head left).key e in
     rw (
-      hosts_stay (head ts).key a,
-      from_part_reads f (behind_head key.To SideOf (λ k. begins_from k ≡ false) refl t (ends_no_from (head left).key e)) (behind_head key.To SideOf (λ k. no_port k ≡ true) refl t (ends_no_port (head left).key e)),
-      to_part_reads t (ends_no_to (head left).key e) (ends_no_port (head left).key e),
+      behind_head key.From SideOf NoAll refl f (behind_head key.To SideOf NoAll refl t n.all),
+      from_part_reads f (behind_head key.To SideOf (λ k. begins_from k ≡ false) refl t n.from) (behind_head key.To SideOf (λ k. no_port k ≡ true) refl t n.port),
+      to_part_reads t n.to n.port,
     ) refl
 
 -- what hosts begin with
@@ -542,26 +467,10 @@ hosts_head Q a f t (sides p q) h = behind_head key.From SideOf Q f p (behind_hea
 
 -- ---- parameters and flags
 
-ends_both : (k : Key) → ends_parameters k ≡ true → (ends_head k ≡ true) × (ends_hosts k ≡ true)
-ends_both key.In e = absurd cc
-ends_both key.Out e = absurd cc
-ends_both key.Log e = absurd cc
-ends_both key.OpenParen e = absurd cc
-ends_both key.Quick e = absurd cc
-ends_both key.On e = absurd cc
-ends_both key.Inet e = absurd cc
-ends_both key.Inet6 e = absurd cc
-ends_both key.Proto e = absurd cc
-ends_both key.All e = absurd cc
-ends_both key.From e = absurd cc
-ends_both key.To e = absurd cc
-ends_both key.Port e = absurd cc
-ends_both _ e = (refl, refl)
-
 pub parameters_read : (s : Statement) {ts : List Tok} {p : Parameters} {left : List Tok} → ParametersOf s ts p left → ends_parameters (head left).key ≡ true → parameters_at s ts ≡ Ok (p, left)
 unfolding parameters_at
 parameters_read s {ts = ts} {p = p} {left = left} w e =
-    let b = ends_both (head left).key e in
+    let b = and_parts (ends_head (head left).key) (ends_hosts (head left).key) e in
     let f = hosts_head (λ k. ends_head k ≡ true) refl refl refl w.hosts b.0 in
     rw (head_reads s ts p.head w.mid w.head f, hosts_read w.hosts b.1) refl
 

@@ -10,23 +10,9 @@ use Rattle.pfs_conf_values.specs.declared.timeouts.TimeoutName.{TimeoutName}
 use Rattle.pfs_conf_values.specs.declared.timeouts.TimeoutName.TheVariants as timeout
 use Rattle.pfs_conf_settings.specs.Settings.{timeout_named}
 
+-- the last line of each of these stands for every other key or name, and is checked at each
 places : (k : Key) → timeout_place k ≡ option_map place_of (timeout_named k)
 places key.TcpFirst = refl
-places key.TcpOpening = refl
-places key.TcpEstablished = refl
-places key.TcpClosing = refl
-places key.TcpFinwait = refl
-places key.TcpClosed = refl
-places key.UdpFirst = refl
-places key.UdpSingle = refl
-places key.UdpMultiple = refl
-places key.OtherFirst = refl
-places key.OtherSingle = refl
-places key.OtherMultiple = refl
-places key.SrcTrack = refl
-places key.Interval = refl
-places key.AdaptiveStart = refl
-places key.AdaptiveEnd = refl
 places _ = refl
 
 pub placed : (k : Key) (name : TimeoutName) → timeout_named k ≡ Some name → timeout_place k ≡ Some (place_of name)
@@ -42,40 +28,11 @@ name_at_some (Some place) = name_at place
 
 names : (k : Key) → timeout_named k ≡ name_at_some (timeout_place k)
 names key.TcpFirst = refl
-names key.TcpOpening = refl
-names key.TcpEstablished = refl
-names key.TcpClosing = refl
-names key.TcpFinwait = refl
-names key.TcpClosed = refl
-names key.UdpFirst = refl
-names key.UdpSingle = refl
-names key.UdpMultiple = refl
-names key.OtherFirst = refl
-names key.OtherSingle = refl
-names key.OtherMultiple = refl
-names key.SrcTrack = refl
-names key.Interval = refl
-names key.AdaptiveStart = refl
-names key.AdaptiveEnd = refl
 names _ = refl
 
 name_again : (name : TimeoutName) → name_at (place_of name) ≡ Some name
 name_again timeout.TcpFirst = refl
-name_again timeout.TcpOpening = refl
-name_again timeout.TcpEstablished = refl
-name_again timeout.TcpClosing = refl
-name_again timeout.TcpFinwait = refl
-name_again timeout.TcpClosed = refl
-name_again timeout.UdpFirst = refl
-name_again timeout.UdpSingle = refl
-name_again timeout.UdpMultiple = refl
-name_again timeout.OtherFirst = refl
-name_again timeout.OtherSingle = refl
-name_again timeout.OtherMultiple = refl
-name_again timeout.SrcTrack = refl
-name_again timeout.Interval = refl
-name_again timeout.AdaptiveStart = refl
-name_again timeout.AdaptiveEnd = refl
+name_again _ = refl
 
 pub named : (k : Key) (name : TimeoutName) → timeout_place k ≡ Some (place_of name) → timeout_named k ≡ Some name
 named k name e = names k ∙ (ap name_at_some e ∙ name_again name)

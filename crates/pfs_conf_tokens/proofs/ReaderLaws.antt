@@ -18,11 +18,20 @@ use Rattle.pfs_conf_tokens.proofs.Laws.{passes_then, passes_less, bind_ok, ok_pa
 
 -- ---- keys
 
+-- what a test passes is a token of a line, if it passes neither a line end nor the end of the text
+pub passes_in_line : (test : Key → Bool) → test key.LineEnd ≡ false → test key.End ≡ false → (k : Key) → test k ≡ true → in_line k ≡ true
+passes_in_line test l n key.LineEnd e = absurd (clash (sym l ∙ e))
+passes_in_line test l n key.End e = absurd (clash (sym n ∙ e))
+passes_in_line test l n _ e = refl
+
+-- and is before the end of the text, if it does not pass that
+passes_before_end : (test : Key → Bool) → test key.End ≡ false → (k : Key) → test k ≡ true → before_end k ≡ true
+passes_before_end test n key.End e = absurd (clash (sym n ∙ e))
+passes_before_end test n _ e = refl
+
 -- a word is a token of a line
 pub word_in_line : (k : Key) → is_word_key k ≡ true → in_line k ≡ true
-word_in_line key.LineEnd e = absurd cc
-word_in_line key.End e = absurd cc
-word_in_line _ e = refl
+word_in_line = passes_in_line is_word_key refl refl
 
 -- and so does a timeout's name
 pub timeout_in_line : (k : Key) (place : ℕ) → timeout_place k ≡ Some place → in_line k ≡ true
@@ -32,12 +41,10 @@ timeout_in_line _ place e = refl
 
 -- what stops a loop is within its reach, and is one key
 pub closes_parens_in_line : (k : Key) → closes_parens k ≡ true → in_line k ≡ true
-closes_parens_in_line key.CloseParen e = refl
-closes_parens_in_line _ e = absurd (clash e)
+closes_parens_in_line = passes_in_line closes_parens refl refl
 
 pub closes_braces_before_end : (k : Key) → closes_braces k ≡ true → before_end k ≡ true
-closes_braces_before_end key.CloseBrace e = refl
-closes_braces_before_end _ e = absurd (clash e)
+closes_braces_before_end = passes_before_end closes_braces refl
 
 pub closes_parens_key : (k : Key) → closes_parens k ≡ true → k ≡ key.CloseParen
 closes_parens_key key.CloseParen e = refl
@@ -52,8 +59,7 @@ ends_text_key key.End e = refl
 ends_text_key _ e = absurd (clash e)
 
 pub line_end_before_end : (k : Key) → ends_line k ≡ true → before_end k ≡ true
-line_end_before_end key.LineEnd e = refl
-line_end_before_end _ e = absurd (clash e)
+line_end_before_end = passes_before_end ends_line refl
 
 pub line_end_key : (k : Key) → ends_line k ≡ true → k ≡ key.LineEnd
 line_end_key key.LineEnd e = refl

@@ -1,6 +1,6 @@
 -- Counts where a map changes some elements, and what a search finds.
-use Rattle.std.proofs.Common.{◌≡◌, ◌≤◌, Bool, true, false, if◌then◌else◌, ◌||◌, Some, List, [], ◌∷◌, All, length, filter, map, refl, ap, ◌∙◌, arith, subst}
-use Rattle.std.specs.List.{find, list_any}
+use Rattle.std.proofs.Common.{◌≡◌, ◌≤◌, Bool, true, false, if◌then◌else◌, Some, List, [], ◌∷◌, All, length, filter, map, refl, ap, arith, subst}
+use Rattle.std.specs.List.{find}
 use Rattle.std.proofs.lemmas.List.Elements.{All-head, All-tail}
 
 -- a change that a test does not see at the elements that there are keeps the number
@@ -47,12 +47,3 @@ find-all {X = X} P p (y ∷ ys) x h e = go (p y) (λ k. find-all P p ys x (All-t
     go : (b : Bool) → (find p ys ≡ Some x → P x) → (if b then Some y else find p ys) ≡ Some x → P x
     go true rest e = let same : y ≡ x = cc in subst P same (All-head P y ys h)
     go false rest e = rest e
-
--- so some element passes each test that it passes
-pub find-any : {X : Type 0} (q p : X → Bool) (xs : List X) (x : X) → find p xs ≡ Some x → q x ≡ true → list_any q xs ≡ true
-find-any q p [] x e k = cc
-find-any {X = X} q p (y ∷ ys) x e k = go (p y) (λ j. find-any q p ys x j k) e
-  where
-    go : (b : Bool) → (find p ys ≡ Some x → list_any q ys ≡ true) → (if b then Some y else find p ys) ≡ Some x → (q y || list_any q ys) ≡ true
-    go true rest e = let same : y ≡ x = cc in let here : q y ≡ true = ap q same ∙ k in cc
-    go false rest e = let there = rest e in grind arith

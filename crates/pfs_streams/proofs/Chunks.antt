@@ -1,4 +1,6 @@
--- What is left of a text of which some has been kept, after one read more.
+-- What is left of what a reader gives, of which some has been kept, after one read more.
+--
+-- A crate above imports it as `use Rattle.pfs_streams.proofs.Chunks.{left-after}`.
 use Rattle.std.proofs.Common.{◌≡◌, ◌+◌, ◌++◌, ◌∙◌, ℕ, List, length, drop, Option, Some, None, refl}
 use Rattle.std.proofs.Math.Seq.{drop-append_seam, drop-append-add}
 use Rattle.std.specs.Io.KnownBytes.{Consumes}

@@ -36,12 +36,7 @@ impl<W> Sink<W> {
         ensures by_lines { is_by_lines result ≡ false }
         ensures flushed { is_unflushed result ≡ false }
     {
-        Sink {
-            writer,
-            failures: 0,
-            by_lines: false,
-            unflushed: false,
-        }
+        Sink::fresh(writer, false)
     }
 
     /// The same, but each text that `write_whole` writes is flushed at once.
@@ -51,10 +46,16 @@ impl<W> Sink<W> {
         ensures by_lines { is_by_lines result ≡ true }
         ensures flushed { is_unflushed result ≡ false }
     {
+        Sink::fresh(writer, true)
+    }
+
+    fn fresh(writer: W, by_lines: bool) -> Sink<W>
+        ensures { result ≡ record { writer = writer; failures = 0; by_lines = by_lines; unflushed = false } }
+    {
         Sink {
             writer,
             failures: 0,
-            by_lines: true,
+            by_lines,
             unflushed: false,
         }
     }

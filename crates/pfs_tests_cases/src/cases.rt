@@ -3,6 +3,7 @@
 
 use crate::packets::{A1, A2};
 use crate::rows::{Came, Case};
+use crate::texts::UNSCALED;
 use pfs_addr_values::Addr;
 
 const A3: Addr = Addr::V4([198, 51, 100, 3]);
@@ -40,7 +41,28 @@ const HELD: &str = "kill:max-src-conn @0 overload=held killed=1";
 
 const FULL: &str = "kill:max-src-conn @0 overload=full killed=1";
 
+/// What is told where an entry was taken out, and where there was none.
+pub const REMOVED: &str = "delete - removed=1";
+
+pub const NOT_REMOVED: &str = "delete - removed=0";
+
 const FLUSHED: &str = "kill:max-src-conn @1 overload=added killed=2";
+
+/// All cases, each part behind a first line of rules. They are tried as events of engines, and as replays of texts.
+pub const SCENARIOS: &[(&str, &[Case])] = &[
+    (UNSCALED, ADMISSIONS),
+    (UNSCALED, REFUSALS),
+    (UNSCALED, CONNECTIONS),
+    (UNSCALED, RATES),
+    (UNSCALED, KEPT),
+    (UNSCALED, OVERLOADS),
+    (UNSCALED, LIVES),
+    (UNSCALED, ROUNDS),
+    (UNSCALED, EXPIRIES),
+    (UNSCALED, ENTRIES),
+    (UNSCALED, AMOUNTS),
+    ("", SCALED),
+];
 
 // ---- limits on states and source nodes
 
@@ -56,7 +78,7 @@ pub const THIRD_STATE: Case = Case {
 };
 
 /// The limits on states and on source nodes.
-pub const ADMISSIONS: &[Case] = &[
+const ADMISSIONS: &[Case] = &[
     THIRD_STATE,
     Case {
         shows: "max is asked before the limit of all states",
@@ -102,7 +124,7 @@ pub const ADMISSIONS: &[Case] = &[
 ];
 
 /// What a refusal leaves, and rules that share source nodes.
-pub const REFUSALS: &[Case] = &[
+const REFUSALS: &[Case] = &[
     Case {
         shows: "a refusal for the limit of states makes no node",
         rules: "set limit { states 1, src-nodes 5 }\npass in proto udp all keep state (source-track rule)",
@@ -183,7 +205,7 @@ pub const SECOND_CONNECTION: Case = Case {
 };
 
 /// How many connections a source may have.
-pub const CONNECTIONS: &[Case] = &[
+const CONNECTIONS: &[Case] = &[
     SECOND_CONNECTION,
     Case {
         shows: "both limits are told",
@@ -196,7 +218,7 @@ pub const CONNECTIONS: &[Case] = &[
 const THREE_IN_TEN: &str = "pass in proto tcp to any port 80 keep state (max-src-conn-rate 3/10)";
 
 /// How many it may make in a time.
-pub const RATES: &[Case] = &[
+const RATES: &[Case] = &[
     Case {
         shows: "four connections at once are past a rate of three",
         rules: THREE_IN_TEN,
@@ -268,7 +290,7 @@ const ONE_IN_FOUR: &str = "set timeout { tcp.closed 0, src.track 0, interval 1 }
     pass in proto tcp to any port 80 keep state (max-src-conn-rate 1/4)";
 
 /// How long its score keeps its source node.
-pub const KEPT: &[Case] = &[
+const KEPT: &[Case] = &[
     Case {
         shows: "a node is kept as long as its score counts",
         rules: ONE_IN_FOUR,
@@ -340,7 +362,7 @@ pub const FLUSH_GLOBAL: Case = Case {
 };
 
 /// Sources that are put into overload tables.
-pub const OVERLOADS: &[Case] = &[
+const OVERLOADS: &[Case] = &[
     FLUSH,
     FLUSH_GLOBAL,
     Case {
@@ -411,7 +433,7 @@ const CLOSING: &str = "set timeout interval 1\npass in proto tcp to any port 80"
 const SINGLE: &str = "set timeout { udp.single 2, interval 1 }\npass in proto udp all";
 
 /// How long states and source nodes live.
-pub const LIVES: &[Case] = &[
+const LIVES: &[Case] = &[
     RETENTION,
     Case {
         shows: "one half of a closed connection was seen, and the state lives",
@@ -487,7 +509,7 @@ pub const FLOOD: Case = Case {
 };
 
 /// Purges in rounds.
-pub const ROUNDS: &[Case] = &[
+const ROUNDS: &[Case] = &[
     FLOOD,
     // four nodes may be held, and a slice examines three
     Case {
@@ -514,7 +536,7 @@ pub const ROUNDS: &[Case] = &[
 const EIGHT_OF_TEN: &str = "set limit states 10\nset timeout interval 1\npass in proto udp all";
 
 /// Lives that load shortens, by the adaptive timeouts as they are.
-pub const SCALED: &[Case] = &[
+const SCALED: &[Case] = &[
     Case {
         shows: "eight states of twelve live for two thirds",
         rules: EIGHT_OF_TEN,
@@ -552,7 +574,7 @@ pub const SCALED: &[Case] = &[
 // ---- records that take old entries out of a table
 
 /// Entries leave by their age: of the rules from the first event on, of a source from its packet on.
-pub const EXPIRIES: &[Case] = &[
+const EXPIRIES: &[Case] = &[
     Case {
         shows: "an entry of the rules counts from the first record, an added one from its packet, and a held one is not renewed",
         rules: "table <bad> { 203.0.113.9 }\n\
@@ -658,7 +680,7 @@ pub const EXPIRIES: &[Case] = &[
 const TABLED: &str = "table <bad>\nblock in quick from <bad>\npass in all no state";
 
 /// Entries are added and taken out one by one, and the narrowest that covers an address decides.
-pub const ENTRIES: &[Case] = &[
+const ENTRIES: &[Case] = &[
     Case {
         shows: "an entry blocks at once, a narrower one of the other sign passes, and that very entry is taken out",
         rules: TABLED,
@@ -670,20 +692,8 @@ pub const ENTRIES: &[Case] = &[
             (6, UDP, A1, 1000, "pass @1"),
             (7, Came::Add("bad", "198.51.100.1"), A1, 0, "add - conflict"),
             (7, Came::Add("bad", "198.51.100.77/24"), A1, 0, "add - held"),
-            (
-                8,
-                Came::Delete("bad", "198.51.100.1"),
-                A1,
-                0,
-                "delete - removed=0",
-            ),
-            (
-                8,
-                Came::Delete("bad", "!198.51.100.1"),
-                A1,
-                0,
-                "delete - removed=1",
-            ),
+            (8, Came::Delete("bad", "198.51.100.1"), A1, 0, NOT_REMOVED),
+            (8, Came::Delete("bad", "!198.51.100.1"), A1, 0, REMOVED),
             (8, UDP, A1, 1000, "block @0"),
             (9, Came::Ask, A1, 0, "held - states=0 nodes=0 entries=1"),
         ],
@@ -695,13 +705,7 @@ pub const ENTRIES: &[Case] = &[
             table <good> { 203.0.113.9 }",
         rows: &[
             (5, Came::Add("bad", "198.51.100.1"), A1, 0, "add - full"),
-            (
-                5,
-                Came::Delete("good", "203.0.113.9"),
-                A1,
-                0,
-                "delete - removed=1",
-            ),
+            (5, Came::Delete("good", "203.0.113.9"), A1, 0, REMOVED),
             (5, Came::Add("bad", "198.51.100.1"), A1, 0, "add - added"),
             (5, Came::Add("good", "203.0.113.9"), A1, 0, "add - full"),
         ],
@@ -735,13 +739,7 @@ pub const ENTRIES: &[Case] = &[
             (6, Came::Add("bad", "!198.51.100.1"), A1, 0, "add - added"),
             (7, Came::Add("bad", "198.51.100.1"), A1, 0, "add - conflict"),
             (7, Came::Add("bad", "198.51.100.0/24"), A1, 0, "add - added"),
-            (
-                8,
-                Came::Delete("bad", "198.51.100.0/24"),
-                A1,
-                0,
-                "delete - removed=1",
-            ),
+            (8, Came::Delete("bad", "198.51.100.0/24"), A1, 0, REMOVED),
             (9, Came::Add("bad", "198.51.100.0/24"), A1, 0, "add - added"),
             (18, Came::Expire(10), A1, 0, "expire - removed=1"),
             (18, Came::Ask, A1, 0, "held - states=0 nodes=0 entries=1"),
@@ -760,30 +758,12 @@ pub const ENTRIES: &[Case] = &[
                 Came::Delete("bad", "198.51.100.0/25"),
                 A1,
                 0,
-                "delete - removed=0",
+                NOT_REMOVED,
             ),
-            (
-                5,
-                Came::Delete("bad", "198.51.100.1/24"),
-                A1,
-                0,
-                "delete - removed=1",
-            ),
+            (5, Came::Delete("bad", "198.51.100.1/24"), A1, 0, REMOVED),
             (5, UDP, A2, 1000, "pass @1"),
-            (
-                5,
-                Came::Delete("bad", "!198.51.100.1"),
-                A1,
-                0,
-                "delete - removed=1",
-            ),
-            (
-                5,
-                Came::Delete("bad", "!198.51.100.1"),
-                A1,
-                0,
-                "delete - removed=0",
-            ),
+            (5, Came::Delete("bad", "!198.51.100.1"), A1, 0, REMOVED),
+            (5, Came::Delete("bad", "!198.51.100.1"), A1, 0, NOT_REMOVED),
         ],
         end: (0, 0, 1),
     },
@@ -804,29 +784,11 @@ pub const ENTRIES: &[Case] = &[
             (0, Came::Add("bad", "198.51.100.1/32"), A1, 0, "add - added"),
             (0, UDP, A1, 1000, "block @0"),
             (0, UDP, A2, 1000, "pass @1"),
-            (
-                0,
-                Came::Delete("bad", "198.51.100.1"),
-                A1,
-                0,
-                "delete - removed=1",
-            ),
+            (0, Came::Delete("bad", "198.51.100.1"), A1, 0, REMOVED),
             (0, UDP, A1, 1000, "pass @1"),
-            (
-                0,
-                Came::Delete("bad", "!198.51.100.0/24"),
-                A1,
-                0,
-                "delete - removed=1",
-            ),
+            (0, Came::Delete("bad", "!198.51.100.0/24"), A1, 0, REMOVED),
             (0, UDP, A1, 1000, "block @0"),
-            (
-                0,
-                Came::Delete("bad", "0.0.0.0/0"),
-                A1,
-                0,
-                "delete - removed=1",
-            ),
+            (0, Came::Delete("bad", "0.0.0.0/0"), A1, 0, REMOVED),
             (0, UDP, A1, 1000, "pass @1"),
         ],
         end: (0, 0, 0),
@@ -839,13 +801,7 @@ pub const ENTRIES: &[Case] = &[
             (6, Came::Add("bad", "!2001:db8::1"), A1, 0, "add - added"),
             (6, Came::Add("bad", "2001:db8::1"), A1, 0, "add - conflict"),
             (6, Came::Add("bad", "32.1.13.184/32"), A1, 0, "add - added"),
-            (
-                6,
-                Came::Delete("bad", "2001:db8:0:1::/32"),
-                A1,
-                0,
-                "delete - removed=1",
-            ),
+            (6, Came::Delete("bad", "2001:db8:0:1::/32"), A1, 0, REMOVED),
         ],
         end: (0, 0, 2),
     },
@@ -868,13 +824,7 @@ pub const ENTRIES: &[Case] = &[
             (0, Came::Shake(1), A1, 1000, "state @1"),
             (0, Came::Shake(1), A1, 1001, FLUSHED),
             (1, Came::Add("bad", "198.51.100.1"), A1, 0, "add - held"),
-            (
-                1,
-                Came::Delete("bad", "198.51.100.1"),
-                A1,
-                0,
-                "delete - removed=1",
-            ),
+            (1, Came::Delete("bad", "198.51.100.1"), A1, 0, REMOVED),
             (1, Came::Syn, A1, 1002, "new @1"),
         ],
         end: (1, 1, 0),
@@ -882,7 +832,7 @@ pub const ENTRIES: &[Case] = &[
 ];
 
 /// How much is held when the administrator asks.
-pub const AMOUNTS: &[Case] = &[
+const AMOUNTS: &[Case] = &[
     Case {
         shows: "purges due are done before what is held is counted",
         rules: "set timeout { udp.first 2, interval 1 }\npass in proto udp all",
@@ -905,13 +855,7 @@ pub const AMOUNTS: &[Case] = &[
             (0, UDP, A2, 1, "new @0"),
             (0, Came::Ask, A1, 0, "held - states=3 nodes=2 entries=3"),
             (10, Came::Ask, A1, 0, "held - states=0 nodes=2 entries=3"),
-            (
-                10,
-                Came::Delete("good", "203.0.113.7"),
-                A1,
-                0,
-                "delete - removed=1",
-            ),
+            (10, Came::Delete("good", "203.0.113.7"), A1, 0, REMOVED),
             (30, Came::Ask, A1, 0, "held - states=0 nodes=0 entries=2"),
         ],
         end: (0, 0, 2),

@@ -13,8 +13,8 @@ mod scripts;
 mod texts;
 
 pub use crate::cases::{
-    ADMISSIONS, AMOUNTS, CONNECTIONS, ENTRIES, EXPIRIES, FLOOD, FLUSH, FLUSH_GLOBAL, KEPT, LIVES,
-    OVERLOADS, RATES, REFUSALS, RETENTION, ROUNDS, SCALED, SECOND_CONNECTION, THIRD_STATE,
+    FLOOD, FLUSH, FLUSH_GLOBAL, NOT_REMOVED, REMOVED, RETENTION, SCENARIOS, SECOND_CONNECTION,
+    THIRD_STATE,
 };
 pub use crate::conditions::{are_allowed, is_in_order, is_in_time, may_change, may_come};
 pub use crate::errors::CaseError;

@@ -10,8 +10,8 @@ use pfs_engine::{Arrival, Engine, Event, Outcome};
 use pfs_engine_machine::{Command, Entered};
 use pfs_store::Store;
 use pfs_tests_cases::{
-    A1, A2, Came, Case, FLUSH, RETENTION, Script, UNSCALED, are_allowed, configured, is_in_order,
-    is_in_time, may_change, may_come,
+    A1, A2, Came, Case, FLUSH, NOT_REMOVED, REMOVED, RETENTION, Script, UNSCALED, are_allowed,
+    configured, is_in_order, is_in_time, may_change, may_come,
 };
 
 const CASES: &[Case] = &[
@@ -67,20 +67,8 @@ const CASES: &[Case] = &[
             (2, Came::Add("bad", "2001:db8::/32"), A1, 0, "add - added"),
             (2, Came::Add("bad", "2001:db8::/32"), A1, 0, "add - held"),
             (2, Came::Add("bad", "10.0.0.0/8"), A1, 0, "add - full"),
-            (
-                3,
-                Came::Delete("bad", "2001:db8::/32"),
-                A1,
-                0,
-                "delete - removed=1",
-            ),
-            (
-                3,
-                Came::Delete("bad", "2001:db8::/32"),
-                A1,
-                0,
-                "delete - removed=0",
-            ),
+            (3, Came::Delete("bad", "2001:db8::/32"), A1, 0, REMOVED),
+            (3, Came::Delete("bad", "2001:db8::/32"), A1, 0, NOT_REMOVED),
             (3, Came::Add("bad", "10.0.0.0/8"), A1, 0, "add - added"),
             (4, Came::Expire(3), A1, 0, "expire - removed=2"),
             (4, Came::Ask, A1, 0, "held - states=1 nodes=0 entries=1"),

@@ -186,11 +186,10 @@ fn are_first_lines(written: &[u8], report: &[u8]) -> bool {
 
 /// What is reported of rules, and the words of the command line.
 pub fn tell_jobs(rt: &HostRuntime) -> Result<(), Stop> {
-    if !check_one(rt)? {
-        check_one(rt)?;
-    }
-    if !print_one(rt)? {
-        print_one(rt)?;
+    for (name, text) in &[("check", COUNTS), ("print", SHOWN)] {
+        if !tell_one(rt, name, text)? {
+            tell_one(rt, name, text)?;
+        }
     }
     for (task, text) in &[(Job::Check("r"), COUNTS), (Job::Show("r"), SHOWN)] {
         if !perform_one(rt, task, text)? {
@@ -205,33 +204,22 @@ pub fn tell_jobs(rt: &HostRuntime) -> Result<(), Stop> {
     status_one(rt)
 }
 
-fn check_one(rt: &HostRuntime) -> Result<bool, Stop> {
+/// The call of this name, `check` or `print`.
+fn tell_one(rt: &HostRuntime, name: &str, text: &[u8]) -> Result<bool, Stop> {
     let mut out = sink(rt)?;
     let mut rules = Feed::new(EVERYTHING, 99);
-    begin(rt, "check")?;
-    let answer = check(rt.alloc(), &mut rules, &mut out);
+    begin(rt, name)?;
+    let answer = match name {
+        "print" => print(rt.alloc(), &mut rules, &mut out),
+        _ => check(rt.alloc(), &mut rules, &mut out),
+    };
     end(rt)?;
     let written = out.into_inner();
     judge(
         rt,
         answer,
-        written.as_slice() == COUNTS,
-        COUNTS.starts_with(&written),
-    )
-}
-
-fn print_one(rt: &HostRuntime) -> Result<bool, Stop> {
-    let mut out = sink(rt)?;
-    let mut rules = Feed::new(EVERYTHING, 99);
-    begin(rt, "print")?;
-    let answer = print(rt.alloc(), &mut rules, &mut out);
-    end(rt)?;
-    let written = out.into_inner();
-    judge(
-        rt,
-        answer,
-        written.as_slice() == SHOWN,
-        SHOWN.starts_with(&written),
+        written.as_slice() == text,
+        text.starts_with(&written),
     )
 }
 

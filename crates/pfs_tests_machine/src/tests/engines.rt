@@ -44,12 +44,19 @@ pub fn tallied(
 fn tell(rt: &(impl Abort + AllocGlobal), first: &str, case: &Case) -> Result<(), Fail> {
     let alloc = rt.alloc();
     let script = Script::of(alloc, case.rows)?;
-    ends(rt, plain(alloc, first, case.rules)?, &script, case)?;
-    ends(rt, tallied(alloc, first, case.rules)?, &script, case)?;
-    ends(rt, indexed(alloc, first, case.rules)?, &script, case)?;
-    commands(rt, indexed(alloc, first, case.rules)?, &script, case)?;
-    steps(rt, plain(alloc, first, case.rules)?, &script, case)?;
-    steps(rt, indexed(alloc, first, case.rules)?, &script, case)?;
+    for calls in [Calls::Own, Calls::Steps] {
+        ends(rt, plain(alloc, first, case.rules)?, &script, case, calls)?;
+    }
+    ends(
+        rt,
+        tallied(alloc, first, case.rules)?,
+        &script,
+        case,
+        Calls::Own,
+    )?;
+    for calls in [Calls::Own, Calls::Commands, Calls::Steps] {
+        ends(rt, indexed(alloc, first, case.rules)?, &script, case, calls)?;
+    }
     runs(rt, plain(alloc, first, case.rules)?, &script, case)?;
     runs(rt, indexed(alloc, first, case.rules)?, &script, case)
 }
@@ -128,55 +135,69 @@ pub fn held<S: Store>(engine: &Engine<S>) -> (u64, u64, u64) {
     (engine.states(), engine.nodes(), engine.entries())
 }
 
+/// By which calls an event reaches an engine.
+#[derive(Clone, Copy)]
+enum Calls {
+    /// One for the time, and one for what comes
+    Own,
+    /// The same, but one for every command
+    Commands,
+    /// One for all
+    Steps,
+}
+
+/// One event by the calls for it: a packet that is refused changes nothing held.
+fn by_own_calls<S: Store>(
+    rt: &impl Abort,
+    engine: &mut Engine<S>,
+    event: &Event,
+) -> Result<Outcome, Fail> {
+    pass_time(rt, engine, event.time);
+    let before = held(engine);
+    let told = come(rt, engine, &event.what)?;
+    assert!(rt; !matches!(told, Outcome::Drop(..)) || held(engine) == before);
+    Ok(told)
+}
+
+fn by_a_step<S: Store>(
+    rt: &impl Abort,
+    engine: &mut Engine<S>,
+    event: &Event,
+) -> Result<Outcome, Fail> {
+    assert!(rt; is_in_time(engine.last(), event.time));
+    assert!(rt; engine.taken() < RUN_LIMIT);
+    assert!(rt; may_come(engine.config(), &event.what));
+    Ok(engine.step(event)?)
+}
+
+fn take_event<S: Store>(
+    rt: &impl Abort,
+    engine: &mut Engine<S>,
+    event: &Event,
+    calls: Calls,
+) -> Result<Outcome, Fail> {
+    match calls {
+        Calls::Own => by_own_calls(rt, engine, event),
+        Calls::Commands => {
+            pass_time(rt, engine, event.time);
+            command(rt, engine, &event.what)
+        }
+        Calls::Steps => by_a_step(rt, engine, event),
+    }
+}
+
 /// The events one by one, and what is held after them
 fn ends<S: Store + Drop>(
     rt: &impl Abort,
     engine: Engine<S>,
     script: &Script,
     case: &Case,
+    calls: Calls,
 ) -> Result<(), Fail> {
     let mut engine = engine;
     same!(rt; (engine.last(), engine.taken()), (None, 0));
     for (event, outcome) in script.events.iter().zip(&script.outcomes) {
-        pass_time(rt, &mut engine, event.time);
-        let before = held(&engine);
-        let told = come(rt, &mut engine, &event.what)?;
-        same!(rt; told, *outcome, (case.shows, event));
-        assert!(rt; !matches!(told, Outcome::Drop(..)) || held(&engine) == before);
-    }
-    check_end(rt, &engine, script, case);
-    Ok(())
-}
-
-/// The same, where each command comes by one call for all
-fn commands<S: Store + Drop>(
-    rt: &impl Abort,
-    engine: Engine<S>,
-    script: &Script,
-    case: &Case,
-) -> Result<(), Fail> {
-    let mut engine = engine;
-    for (event, outcome) in script.events.iter().zip(&script.outcomes) {
-        pass_time(rt, &mut engine, event.time);
-        same!(rt; command(rt, &mut engine, &event.what)?, *outcome, (case.shows, event));
-    }
-    check_end(rt, &engine, script, case);
-    Ok(())
-}
-
-/// Each event by one call, and what is held after them
-fn steps<S: Store + Drop>(
-    rt: &impl Abort,
-    engine: Engine<S>,
-    script: &Script,
-    case: &Case,
-) -> Result<(), Fail> {
-    let mut engine = engine;
-    for (event, outcome) in script.events.iter().zip(&script.outcomes) {
-        assert!(rt; is_in_time(engine.last(), event.time));
-        assert!(rt; engine.taken() < RUN_LIMIT);
-        assert!(rt; may_come(engine.config(), &event.what));
-        same!(rt; engine.step(event)?, *outcome, (case.shows, event));
+        same!(rt; take_event(rt, &mut engine, event, calls)?, *outcome, (case.shows, event));
     }
     check_end(rt, &engine, script, case);
     Ok(())

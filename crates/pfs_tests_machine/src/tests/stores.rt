@@ -225,39 +225,43 @@ fn states_are_numbered_and_refused(rt: HostRuntime) -> Result<(), Fail> {
     )
 }
 
-const MAXIMA: &[Row] = &[
-    (5, Step::Admit(A1, 1, 0, Ok(1))),
-    (5, Step::Admit(A1, 2, 0, Ok(2))),
-    (5, Step::Admit(A1, 3, 0, Err(Limit::MaxSrcStates))),
-    (5, Step::Admit(A1, 4, 1, Ok(3))),
-    (5, Step::Admit(A1, 5, 1, Err(Limit::MaxSrcStates))),
-    (5, Step::Admit(A2, 1, 0, Ok(4))),
-    (5, Step::Held(4, 2, 4)),
-];
-
-#[test]
-fn a_source_has_a_maximum_of_states(rt: HostRuntime) -> Result<(), Fail> {
-    let rules = "pass keep state (source-track global, max-src-states 2)\n\
-        pass keep state (source-track global, max-src-states 3)";
-    tell(&rt, rules, MAXIMA)
-}
-
-const SHARED: &[Row] = &[
-    (5, Step::Admit(A1, 1, 1, Ok(1))),
-    (5, Step::Admit(A1, 2, 1, Ok(2))),
-    (5, Step::Admit(A1, 3, 1, Ok(3))),
-    (5, Step::Admit(A1, 4, 1, Ok(4))),
-    (5, Step::Admit(A1, 5, 1, Ok(5))),
-    (5, Step::Admit(A1, 6, 1, Err(Limit::MaxSrcStates))),
-    (5, Step::Admit(A1, 7, 0, Err(Limit::MaxSrcStates))),
-    (5, Step::Held(5, 1, 5)),
+/// Two rules with the global nodes of their sources, each with its own maximum
+const SHARED: &[(&str, &[Row])] = &[
+    (
+        "pass keep state (source-track global, max-src-states 2)\n\
+            pass keep state (source-track global, max-src-states 3)",
+        &[
+            (5, Step::Admit(A1, 1, 0, Ok(1))),
+            (5, Step::Admit(A1, 2, 0, Ok(2))),
+            (5, Step::Admit(A1, 3, 0, Err(Limit::MaxSrcStates))),
+            (5, Step::Admit(A1, 4, 1, Ok(3))),
+            (5, Step::Admit(A1, 5, 1, Err(Limit::MaxSrcStates))),
+            (5, Step::Admit(A2, 1, 0, Ok(4))),
+            (5, Step::Held(4, 2, 4)),
+        ],
+    ),
+    (
+        "pass keep state (source-track global, max-src-states 2)\n\
+            pass keep state (source-track global, max-src-states 5)",
+        &[
+            (5, Step::Admit(A1, 1, 1, Ok(1))),
+            (5, Step::Admit(A1, 2, 1, Ok(2))),
+            (5, Step::Admit(A1, 3, 1, Ok(3))),
+            (5, Step::Admit(A1, 4, 1, Ok(4))),
+            (5, Step::Admit(A1, 5, 1, Ok(5))),
+            (5, Step::Admit(A1, 6, 1, Err(Limit::MaxSrcStates))),
+            (5, Step::Admit(A1, 7, 0, Err(Limit::MaxSrcStates))),
+            (5, Step::Held(5, 1, 5)),
+        ],
+    ),
 ];
 
 #[test]
 fn rules_share_global_nodes_under_their_own_maxima(rt: HostRuntime) -> Result<(), Fail> {
-    let rules = "pass keep state (source-track global, max-src-states 2)\n\
-        pass keep state (source-track global, max-src-states 5)";
-    tell(&rt, rules, SHARED)
+    for &(rules, rows) in SHARED {
+        tell(&rt, rules, rows)?;
+    }
+    Ok(())
 }
 
 const FULL: &[Row] = &[

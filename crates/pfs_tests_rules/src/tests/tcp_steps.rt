@@ -16,52 +16,19 @@ struct Seen {
     complete: bool,
 }
 
-/// What an ACK does where the ranks of its sender and its receiver are from the first to the second number; a rank that
-/// is not given stays.
-struct Row {
-    sender: (u8, u8),
-    receiver: (u8, u8),
-    backward_too: bool,
-    gives: (Option<u8>, Option<u8>),
-    completes: bool,
-}
+/// The ranges of the ranks of an ACK's sender and of its receiver in which it does something.
+type Ranks = ((u8, u8), (u8, u8));
+
+/// What an ACK does: in which ranks, whether backward too, the ranks that it gives its sender and its receiver, where a rank that
+/// is not given stays, and whether it completes a handshake.
+type Row = (Ranks, bool, (Option<u8>, Option<u8>), bool);
 
 const ACK: [Row; 5] = [
-    Row {
-        sender: (4, 4),
-        receiver: (2, 2),
-        backward_too: true,
-        gives: (None, Some(4)),
-        completes: true,
-    },
-    Row {
-        sender: (0, 10),
-        receiver: (2, 2),
-        backward_too: true,
-        gives: (None, Some(4)),
-        completes: false,
-    },
-    Row {
-        sender: (0, 10),
-        receiver: (7, 7),
-        backward_too: true,
-        gives: (None, Some(9)),
-        completes: false,
-    },
-    Row {
-        sender: (2, 2),
-        receiver: (0, 1),
-        backward_too: true,
-        gives: (Some(4), Some(4)),
-        completes: true,
-    },
-    Row {
-        sender: (7, 7),
-        receiver: (4, 4),
-        backward_too: false,
-        gives: (None, Some(7)),
-        completes: false,
-    },
+    (((4, 4), (2, 2)), true, (None, Some(4)), true),
+    (((0, 10), (2, 2)), true, (None, Some(4)), false),
+    (((0, 10), (7, 7)), true, (None, Some(9)), false),
+    (((2, 2), (0, 1)), true, (Some(4), Some(4)), true),
+    (((7, 7), (4, 4)), false, (None, Some(7)), false),
 ];
 
 /// The timeout by the ranges of the lower and of the higher rank; the first that fits.
@@ -78,15 +45,12 @@ fn is_within(range: (u8, u8), rank: u8) -> bool {
 }
 
 fn after_ack(forward: bool, sender: u8, receiver: u8) -> (u8, u8, bool) {
-    for row in &ACK {
-        if is_within(row.sender, sender)
-            && is_within(row.receiver, receiver)
-            && (forward || row.backward_too)
-        {
+    for &(ranks, backward_too, gives, completes) in &ACK {
+        if is_within(ranks.0, sender) && is_within(ranks.1, receiver) && (forward || backward_too) {
             return (
-                row.gives.0.unwrap_or(sender),
-                row.gives.1.unwrap_or(receiver),
-                row.completes,
+                gives.0.unwrap_or(sender),
+                gives.1.unwrap_or(receiver),
+                completes,
             );
         }
     }

@@ -1,40 +1,13 @@
 //! Where what follows `set` or a table's name is refused, and the parts of a table.
 
+ghost use Rattle.std.specs.Prelude.{◌<◌, length};
+
 use pfs_conf_settings::{Draft, Parts, read_parts, read_settings};
 use pfs_conf_tokens::{Cursor, Key, ReadError, Refusal, Why};
-use pfs_tests_cases::holds;
+use pfs_tests_cases::{holds, same};
 use std::alloc::Global;
 use std::process::Abort;
 use std::test::Fail;
-
-fn refused(rt: &impl Abort, alloc: Global, text: &str, why: Why, line: u64) {
-    let mut draft = Draft::new(alloc);
-    assert!(rt; text.len() < 1000);
-    let mut cursor = Cursor::new(text.as_bytes());
-    let answer = read_settings(&mut cursor, &mut draft);
-    holds!(*rt; answer == Err(Refusal::Stop(why)), (text, answer));
-    holds!(*rt; cursor.line() == line, text);
-}
-
-const SETTINGS: &[(&str, Why, u64)] = &[
-    ("skip on lo\n", Why::Setting, 1),
-    ("limit anchors 5\n", Why::Plain, 1),
-    ("limit states 0\n", Why::Number, 1),
-    ("limit states 4294967296\n", Why::Number, 1),
-    ("limit states\n5\n", Why::Number, 1),
-    ("limit { states 5, }\n", Why::Plain, 1),
-    ("limit {\n}\n", Why::Plain, 2),
-    ("timeout interval 0\n", Why::Number, 1),
-    ("timeout udp.first 2147483648\n", Why::Number, 1),
-    ("timeout { udp.first 1\nstates 5 }\n", Why::Plain, 2),
-];
-
-#[test]
-fn other_settings_are_refused(rt: HostRuntime) {
-    for &(text, why, line) in SETTINGS {
-        refused(&rt, rt.alloc(), text, why, line);
-    }
-}
 
 fn parts(rt: &impl Abort, alloc: Global, text: &str) -> Option<Parts> {
     assert!(rt; text.len() < 1000);
@@ -42,18 +15,6 @@ fn parts(rt: &impl Abort, alloc: Global, text: &str) -> Option<Parts> {
     let read = read_parts(alloc, &mut cursor).ok()?;
     holds!(*rt; cursor.key() == Key::LineEnd, text);
     Some(read)
-}
-
-fn parts_refused(rt: &impl Abort, alloc: Global, text: &str, why: Why, line: u64) {
-    assert!(rt; text.len() < 1000);
-    let mut cursor = Cursor::new(text.as_bytes());
-    match read_parts(alloc, &mut cursor) {
-        Err(ReadError::Refused(Refusal::Stop(told))) => {
-            holds!(*rt; told == why, text);
-            holds!(*rt; cursor.line() == line, text);
-        }
-        _ => panic!(rt; "{text}"),
-    }
 }
 
 /// What is read, by whether the table persists, is constant and has counters, and how many entries are given
@@ -86,19 +47,67 @@ fn tables_have_parts(rt: HostRuntime) -> Result<(), Fail> {
     Ok(())
 }
 
-const PARTS: &[(&str, Why, u64)] = &[
-    ("const const\n", Why::Again, 1),
-    ("{ } { }\n", Why::Again, 1),
-    ("{ 10.0.0.1\n!10.0.0.1 }\n", Why::Again, 2),
-    ("{ 10/8 }\n", Why::Host, 1),
-    ("{ self }\n", Why::Host, 1),
-    ("{ 10.0.0.1, }\n", Why::Host, 1),
-    ("file \"/etc/t\"\n", Why::Plain, 1),
+/// What a text is read as.
+#[derive(Clone, Copy)]
+enum Of {
+    /// What follows `set`
+    Settings,
+    /// What follows a table's name
+    Table,
+}
+
+/// Why a text is refused, and at which line; nothing where it is not, or memory was refused.
+fn refusal(alloc: Global, of: Of, text: &[u8]) -> Option<(Why, u64)>
+    requires { length text.now < 1000 }
+{
+    let mut cursor = Cursor::new(text);
+    let why = match of {
+        Of::Settings => match read_settings(&mut cursor, &mut Draft::new(alloc)) {
+            Err(Refusal::Stop(why)) => Some(why),
+            _ => None,
+        },
+        Of::Table => match read_parts(alloc, &mut cursor) {
+            Err(ReadError::Refused(Refusal::Stop(why))) => Some(why),
+            _ => None,
+        },
+    };
+    Some((why?, cursor.line()))
+}
+
+const REFUSED: &[(Of, &str, Why, u64)] = &[
+    (Of::Settings, "skip on lo\n", Why::Setting, 1),
+    (Of::Settings, "limit anchors 5\n", Why::Plain, 1),
+    (Of::Settings, "limit states 0\n", Why::Number, 1),
+    (Of::Settings, "limit states 4294967296\n", Why::Number, 1),
+    (Of::Settings, "limit states\n5\n", Why::Number, 1),
+    (Of::Settings, "limit { states 5, }\n", Why::Plain, 1),
+    (Of::Settings, "limit {\n}\n", Why::Plain, 2),
+    (Of::Settings, "timeout interval 0\n", Why::Number, 1),
+    (
+        Of::Settings,
+        "timeout udp.first 2147483648\n",
+        Why::Number,
+        1,
+    ),
+    (
+        Of::Settings,
+        "timeout { udp.first 1\nstates 5 }\n",
+        Why::Plain,
+        2,
+    ),
+    (Of::Table, "const const\n", Why::Again, 1),
+    (Of::Table, "{ } { }\n", Why::Again, 1),
+    (Of::Table, "{ 10.0.0.1\n!10.0.0.1 }\n", Why::Again, 2),
+    (Of::Table, "{ 10/8 }\n", Why::Host, 1),
+    (Of::Table, "{ self }\n", Why::Host, 1),
+    (Of::Table, "{ 10.0.0.1, }\n", Why::Host, 1),
+    (Of::Table, "file \"/etc/t\"\n", Why::Plain, 1),
 ];
 
 #[test]
-fn other_parts_are_refused(rt: HostRuntime) {
-    for &(text, why, line) in PARTS {
-        parts_refused(&rt, rt.alloc(), text, why, line);
+fn others_are_refused(rt: HostRuntime) {
+    for &(of, text, why, line) in REFUSED {
+        assert!(rt; text.len() < 1000);
+        same!(rt; refusal(rt.alloc(), of, text.as_bytes()), Some((why, line)), text);
     }
 }

@@ -53,18 +53,16 @@ fn ends_of_texts(rt: HostRuntime) {
     same!(rt; comment.take(Key::All), false);
 }
 
-const BAD: &[&[u8]] = &[
-    b"\"open\n\"",
-    b"\"a\\\nb\"",
-    b"\\ \n",
-    b"\xef\xbb\xbfpass",
-    b"\x7f",
-    b"\x00",
-];
-
 #[test]
 fn what_nothing_accepts(rt: HostRuntime) {
-    for &text in BAD {
+    for text in [
+        b"\"open\n\"".as_slice(),
+        b"\"a\\\nb\"",
+        b"\\ \n",
+        b"\xef\xbb\xbfpass",
+        b"\x7f",
+        b"\x00",
+    ] {
         same!(rt; Cursor::new(text).key(), Key::Bad);
     }
     let mut quoted = Cursor::new(b"\"we#b {\"}");

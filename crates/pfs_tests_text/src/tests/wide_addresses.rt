@@ -1,4 +1,4 @@
-//! IPv6 addresses and prefixes at the edges of their texts.
+//! IPv6 addresses and prefixes at the edges of their texts, and texts that are neither, of IPv4 too.
 
 use pfs_addr::{parse_addr, parse_prefix, push_addr};
 use pfs_addr_values::{Addr, Prefix};
@@ -106,6 +106,24 @@ fn addresses_are_read_and_shown(rt: HostRuntime) -> Result<(), Fail> {
 }
 
 const NONE: &[&[u8]] = &[
+    b"256.0.0.1",
+    b"01.2.3.4",
+    b"1.2.3.00",
+    b"1.2.3",
+    b"1.2.3.4.",
+    b"1.2.3.4.5",
+    b"1..2.3",
+    b" 1.2.3.4",
+    b"+1.2.3.4",
+    b"",
+    b"10.1.2.3/33",
+    b"10.1.2.3/256",
+    b"10.1.2.3/08",
+    b"10.1.2.3/00",
+    b"10.1.2.3/",
+    b"10.1.2.3/8/8",
+    b"/8",
+    b"10/8",
     b"1::2::3",
     b"12345::",
     b"1:2:3:4:5:6:7:8::",
@@ -136,6 +154,14 @@ const NONE: &[&[u8]] = &[
     b"::00001",
     b"1.2.3.4:80",
     b"::1\0",
+    b"::/129",
+    b"::/256",
+    b"::/064",
+    b"::/",
+    b"::/64/64",
+    b"/64",
+    b"2001:db8/32",
+    b"::1.2.3.4/96",
 ];
 
 #[test]
@@ -144,61 +170,41 @@ fn other_texts_are_no_addresses(rt: HostRuntime) {
         holds!(rt; parse_addr(text).is_none(), text);
         holds!(rt; parse_prefix(text).is_none(), text);
     }
-    holds!(rt; parse_addr(&[b':'; 300]).is_none());
-    holds!(rt; parse_addr(&[b'0'; 300]).is_none());
+    for byte in b":01" {
+        holds!(rt; parse_addr(&[*byte; 300]).is_none());
+    }
 }
 
-const PREFIXES: &[(&[u8], Option<([u16; 8], u8)>)] = &[
-    (
-        b"2001:db8::ff/32",
-        Some(([0x2001, 0xdb8, 0, 0, 0, 0, 0, 0], 32)),
-    ),
-    (
-        b"2001:db8::/32",
-        Some(([0x2001, 0xdb8, 0, 0, 0, 0, 0, 0], 32)),
-    ),
-    (
-        b"2001:db8::ff",
-        Some(([0x2001, 0xdb8, 0, 0, 0, 0, 0, 0xff], 128)),
-    ),
+const PREFIXES: &[(&[u8], [u16; 8], u8)] = &[
+    (b"2001:db8::ff/32", [0x2001, 0xdb8, 0, 0, 0, 0, 0, 0], 32),
+    (b"2001:db8::/32", [0x2001, 0xdb8, 0, 0, 0, 0, 0, 0], 32),
+    (b"2001:db8::ff", [0x2001, 0xdb8, 0, 0, 0, 0, 0, 0xff], 128),
     (
         b"2001:db8::ff/128",
-        Some(([0x2001, 0xdb8, 0, 0, 0, 0, 0, 0xff], 128)),
+        [0x2001, 0xdb8, 0, 0, 0, 0, 0, 0xff],
+        128,
     ),
     (
         b"2001:db8::ff/127",
-        Some(([0x2001, 0xdb8, 0, 0, 0, 0, 0, 0xfe], 127)),
+        [0x2001, 0xdb8, 0, 0, 0, 0, 0, 0xfe],
+        127,
     ),
     (
         b"1:2:3:ffff:ffff::/65",
-        Some(([1, 2, 3, 0xffff, 0x8000, 0, 0, 0], 65)),
+        [1, 2, 3, 0xffff, 0x8000, 0, 0, 0],
+        65,
     ),
-    (
-        b"1:2:3:ffff:ffff::/64",
-        Some(([1, 2, 3, 0xffff, 0, 0, 0, 0], 64)),
-    ),
-    (
-        b"1:2:3:ffff:ffff::/63",
-        Some(([1, 2, 3, 0xfffe, 0, 0, 0, 0], 63)),
-    ),
-    (b"FFFF::/0", Some(([0, 0, 0, 0, 0, 0, 0, 0], 0))),
-    (b"ffff::/1", Some(([0x8000, 0, 0, 0, 0, 0, 0, 0], 1))),
-    (b"::/129", None),
-    (b"::/256", None),
-    (b"::/064", None),
-    (b"::/", None),
-    (b"::/64/64", None),
-    (b"/64", None),
-    (b"2001:db8/32", None),
-    (b"::1.2.3.4/96", None),
+    (b"1:2:3:ffff:ffff::/64", [1, 2, 3, 0xffff, 0, 0, 0, 0], 64),
+    (b"1:2:3:ffff:ffff::/63", [1, 2, 3, 0xfffe, 0, 0, 0, 0], 63),
+    (b"FFFF::/0", [0, 0, 0, 0, 0, 0, 0, 0], 0),
+    (b"ffff::/1", [0x8000, 0, 0, 0, 0, 0, 0, 0], 1),
 ];
 
 #[test]
 fn prefixes_are_read(rt: HostRuntime) {
-    for &(text, wanted) in PREFIXES {
+    for &(text, address, bits) in PREFIXES {
         let told = parse_prefix(text).map(|prefix| (prefix.addr(), prefix.bits()));
-        let wanted = wanted.map(|(address, bits)| (groups(address), bits));
-        holds!(rt; told == wanted, text);
+        holds!(rt; told == Some((groups(address), bits)), text);
     }
 }
 

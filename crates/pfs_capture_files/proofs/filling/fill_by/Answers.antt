@@ -1,6 +1,6 @@
 -- Answer of fill_by: also where there was no memory to keep them, few bytes were read (`few`).
 use Rattle.std.proofs.Common.{arith, rules, ◌≤◌, ◌+◌, ℕ, List, length, take, length-take}
-use Rattle.pfs_capture_files.proofs.Chunks.{left-after}
+use Rattle.pfs_streams.proofs.Chunks.{left-after}
 use Rattle.pfs_capture_files.proofs.filling.fill_by.Goals as goal
 
 pub returns-then-is_err-clause-few : goal.returns-then-is_err-clause-few

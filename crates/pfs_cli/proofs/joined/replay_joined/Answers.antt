@@ -1,5 +1,5 @@
 -- Answers of replay_joined: what is written is the report of the two parts of the joined text (`reports`), and refused rules have their fault (`refused`).
-use Rattle.std.proofs.Common.{◌≡◌, ◌<◌, [], Err, arith}
+use Rattle.std.proofs.Common.{◌≡◌, ◌<◌, [], arith}
 use Rattle.pfs_streams.specs.Joined.{split_joined}
 use Rattle.pfs_cli.specs.declared.faults.ReplayFault.TheVariants as fault
 use Rattle.pfs_cli.proofs.Telling.{Appends-nothing, Appends-kept}

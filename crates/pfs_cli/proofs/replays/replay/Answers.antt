@@ -1,6 +1,6 @@
 -- Answers of replay: the report, also of refused rules (`reports`), their fault (`refused`, `rules_alone`), a feed that gives no more (`read`,
 -- `endless`, `memory`, `waits`), and what is flushed (`shows`).
-use Rattle.std.proofs.Common.{◌≡◌, ◌∙◌, ◌<◌, [], Err, arith, refl, inr}
+use Rattle.std.proofs.Common.{◌≡◌, ◌<◌, [], arith, refl, inr}
 use Rattle.pfs_cli.specs.declared.faults.ReplayFault.TheVariants as fault
 use Rattle.pfs_cli.proofs.Replaying.{lent-gives, rules-cut, text-refused, told-refused}
 use Rattle.pfs_cli.proofs.Telling.{Appends-nothing, Appends-kept}

@@ -1,88 +1,70 @@
 -- Each visit keeps what is left of the walk, and its end has nothing left.
 use Rattle.std.proofs.Common.{◌<◌, length, arith, inl, inr, refl}
 use Rattle.std.proofs.lemmas.Option.{slice_get-get_or, slice_get_read}
-use Rattle.pfs_eval.proofs.Visiting.{Tells, left-start, lines_of, visit, walk_end}
+use Rattle.pfs_eval.specs.Matching.{matches_item}
+use Rattle.pfs_eval.specs.Visits.{is_left_with}
+use Rattle.pfs_eval.proofs.Visiting.{IsFound, IsVisit, Tells, left-start, lines_of, visit, walk_end}
 use Rattle.pfs_eval.proofs.books.Book.walk.Goals as goal
+use Rattle.pfs_eval.proofs.books.Book.walk.Goals.{After-on-walk}
 
 pub loop-walk-init : goal.loop-walk-init
 loop-walk-init c = record { left = left-start _ _ _ _; few = omega arith }
 
-pub loop-walk-smaller : goal.loop-walk-smaller
-loop-walk-smaller c =
+-- one visit
+visited : (c : After-on-walk)
+    → IsVisit (is_left_with c.args.tables.now.entries c.args.packet.now) (matches_item c.args.tables.now.entries c.args.packet.now) c.args.self.now c.loop-walk.walk c.on-walk.result c.failing-failed.new.visits c.args.meter.now
+visited c =
     let lines = c.as_slice-lines.result.now in
     let are = lines_of c.self.invariant c.self.view_is c.as_slice-lines.ensures.value in
     let within : c.loop-walk.walk.place < length lines = omega arith in
     let told : Tells c.args.tables.now.entries c.args.packet.now c.index-lines-walk-in-loop-walk.result c.failing-failed.result = record { first = c.failing-failed.ensures.first; answer = c.failing-failed.ensures.answer } in
-    let v = visit c.args.tables.now.entries c.args.packet.now c.args.self.now lines c.loop-walk.walk c.on-walk.result _ c.index-lines-walk-in-loop-walk.result c.failing-failed.result c.loop-walk.meter c.failing-failed.new.visits c.args.meter.now are
+    visit c.args.tables.now.entries c.args.packet.now c.args.self.now lines c.loop-walk.walk c.on-walk.result _ c.index-lines-walk-in-loop-walk.result c.failing-failed.result c.loop-walk.meter c.failing-failed.new.visits c.args.meter.now are
     (slice_get-get_or lines c.loop-walk.walk.place _ within)
     (slice_get_read lines _ c.loop-walk.walk.place _ refl within c.index-lines-walk-in-loop-walk.is)
-    c.if-walk-lines.true told c.on-walk.ensures c.failing-failed.ensures.visit c.loop-walk.invariant.left in
-    omega (arith, v.forward)
+    c.if-walk-lines.true told c.on-walk.ensures c.failing-failed.ensures.visit c.loop-walk.invariant.left
+
+pub loop-walk-smaller : goal.loop-walk-smaller
+loop-walk-smaller c = omega (arith, (visited (goal.at.loop-walk-smaller c).After-on-walk).forward)
 
 pub loop-walk-preserved : goal.loop-walk-preserved
 loop-walk-preserved c =
-    let lines = c.as_slice-lines.result.now in
-    let are = lines_of c.self.invariant c.self.view_is c.as_slice-lines.ensures.value in
-    let within : c.loop-walk.walk.place < length lines = omega arith in
-    let told : Tells c.args.tables.now.entries c.args.packet.now c.index-lines-walk-in-loop-walk.result c.failing-failed.result = record { first = c.failing-failed.ensures.first; answer = c.failing-failed.ensures.answer } in
-    let v = visit c.args.tables.now.entries c.args.packet.now c.args.self.now lines c.loop-walk.walk c.on-walk.result _ c.index-lines-walk-in-loop-walk.result c.failing-failed.result c.loop-walk.meter c.failing-failed.new.visits c.args.meter.now are
-    (slice_get-get_or lines c.loop-walk.walk.place _ within)
-    (slice_get_read lines _ c.loop-walk.walk.place _ refl within c.index-lines-walk-in-loop-walk.is)
-    c.if-walk-lines.true told c.on-walk.ensures c.failing-failed.ensures.visit c.loop-walk.invariant.left in
+    let v = visited (goal.at.loop-walk-preserved c).After-on-walk in
     record { left = v.left; few = omega (arith, v.forward) }
 
-pub returns-else-walk-lines-clause-verdict : goal.returns-else-walk-lines-clause-verdict
-returns-else-walk-lines-clause-verdict c =
+-- the end at an item that is not deep enough
+stopped : (c : goal.Else-walk-lines) → IsFound c.args.tables.now.entries c.args.packet.now c.args.self.now c.loop-walk.walk.found c.loop-walk.meter c.args.meter.now
+stopped c =
     let lines = c.as_slice-lines.result.now in
     let are = lines_of c.self.invariant c.self.view_is c.as_slice-lines.ensures.value in
     let within : c.loop-walk.walk.place < length lines = omega arith in
-    let k = walk_end are (inr (_, slice_get-get_or lines c.loop-walk.walk.place _ within, c.if-walk-lines.false)) c.loop-walk.invariant.left in
-    k.verdict
+    walk_end are (inr (_, slice_get-get_or lines c.loop-walk.walk.place _ within, c.if-walk-lines.false)) c.loop-walk.invariant.left
+
+-- and after the last line
+passed : (c : goal.After-loop-walk) → IsFound c.args.tables.now.entries c.args.packet.now c.args.self.now c.loop-walk.walk.found c.loop-walk.meter c.args.meter.now
+passed c =
+    let are = lines_of c.self.invariant c.self.view_is c.as_slice-lines.ensures.value in
+    walk_end are (inl c.loop-walk-test.false) c.loop-walk.invariant.left
+
+pub returns-else-walk-lines-clause-verdict : goal.returns-else-walk-lines-clause-verdict
+returns-else-walk-lines-clause-verdict c = (stopped c).verdict
 
 pub returns-after-loop-walk-clause-verdict : goal.returns-after-loop-walk-clause-verdict
-returns-after-loop-walk-clause-verdict c =
-    let are = lines_of c.self.invariant c.self.view_is c.as_slice-lines.ensures.value in
-    let k = walk_end are (inl c.loop-walk-test.false) c.loop-walk.invariant.left in
-    k.verdict
+returns-after-loop-walk-clause-verdict c = (passed c).verdict
 
 pub returns-else-walk-lines-clause-visits : goal.returns-else-walk-lines-clause-visits
-returns-else-walk-lines-clause-visits c =
-    let lines = c.as_slice-lines.result.now in
-    let are = lines_of c.self.invariant c.self.view_is c.as_slice-lines.ensures.value in
-    let within : c.loop-walk.walk.place < length lines = omega arith in
-    let k = walk_end are (inr (_, slice_get-get_or lines c.loop-walk.walk.place _ within, c.if-walk-lines.false)) c.loop-walk.invariant.left in
-    k.visits
+returns-else-walk-lines-clause-visits c = (stopped c).visits
 
 pub returns-after-loop-walk-clause-visits : goal.returns-after-loop-walk-clause-visits
-returns-after-loop-walk-clause-visits c =
-    let are = lines_of c.self.invariant c.self.view_is c.as_slice-lines.ensures.value in
-    let k = walk_end are (inl c.loop-walk-test.false) c.loop-walk.invariant.left in
-    k.visits
+returns-after-loop-walk-clause-visits c = (passed c).visits
 
 pub returns-else-walk-lines-clause-least : goal.returns-else-walk-lines-clause-least
-returns-else-walk-lines-clause-least c =
-    let lines = c.as_slice-lines.result.now in
-    let are = lines_of c.self.invariant c.self.view_is c.as_slice-lines.ensures.value in
-    let within : c.loop-walk.walk.place < length lines = omega arith in
-    let k = walk_end are (inr (_, slice_get-get_or lines c.loop-walk.walk.place _ within, c.if-walk-lines.false)) c.loop-walk.invariant.left in
-    k.least
+returns-else-walk-lines-clause-least c = (stopped c).least
 
 pub returns-after-loop-walk-clause-least : goal.returns-after-loop-walk-clause-least
-returns-after-loop-walk-clause-least c =
-    let are = lines_of c.self.invariant c.self.view_is c.as_slice-lines.ensures.value in
-    let k = walk_end are (inl c.loop-walk-test.false) c.loop-walk.invariant.left in
-    k.least
+returns-after-loop-walk-clause-least c = (passed c).least
 
 pub returns-else-walk-lines-clause-most : goal.returns-else-walk-lines-clause-most
-returns-else-walk-lines-clause-most c =
-    let lines = c.as_slice-lines.result.now in
-    let are = lines_of c.self.invariant c.self.view_is c.as_slice-lines.ensures.value in
-    let within : c.loop-walk.walk.place < length lines = omega arith in
-    let k = walk_end are (inr (_, slice_get-get_or lines c.loop-walk.walk.place _ within, c.if-walk-lines.false)) c.loop-walk.invariant.left in
-    k.most
+returns-else-walk-lines-clause-most c = (stopped c).most
 
 pub returns-after-loop-walk-clause-most : goal.returns-after-loop-walk-clause-most
-returns-after-loop-walk-clause-most c =
-    let are = lines_of c.self.invariant c.self.view_is c.as_slice-lines.ensures.value in
-    let k = walk_end are (inl c.loop-walk-test.false) c.loop-walk.invariant.left in
-    k.most
+returns-after-loop-walk-clause-most c = (passed c).most
