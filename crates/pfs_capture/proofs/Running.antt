@@ -158,12 +158,12 @@ ends-many remaining run before now before2 now2 turn account cs h many =
     (trace_text h.seen, answers_text h.seen, h.trace, h.answers, ended-here remaining run before now before2 now2 turn account cs (Some stop.TooMany) h (left-none most_items turn h.runs many))
 
 -- memory is refused
-pub ends-first : {R : Type 0} (remaining : FeedView R → Option (List ℕ)) (run : Run) (before now before2 now2 : Option (List ℕ)) (turn : ℕ) (account : Account) (cs : List (Capture R)) (f : TraceStop)
-    → SoFar remaining run before now before2 now2 turn account cs → f ≡ stop.Memory
-    → IsEnded run before now before2 now2 account (Err f)
-ends-first remaining run before now before2 now2 turn account cs f h memory =
-    subst (λ (g : TraceStop). IsEnded run before now before2 now2 account (Err g)) (sym memory)
-    (trace_text h.seen, answers_text h.seen, h.trace, h.answers, tells-first run (merged (most_items - turn) h.runs) h.seen account h.split h.counts)
+pub ends-first : {R : Type 0} (remaining : FeedView R → Option (List ℕ)) (run : Run) (before now before2 now2 : Option (List ℕ)) (turn : ℕ) (account account2 : Account) (cs : List (Capture R)) (f : TraceStop)
+    → SoFar remaining run before now before2 now2 turn account cs → account2 ≡ account → f ≡ stop.Memory
+    → IsEnded run before now before2 now2 account2 (Err f)
+ends-first remaining run before now before2 now2 turn account account2 cs f h kept memory =
+    subst (λ (g : TraceStop). IsEnded run before now before2 now2 account2 (Err g)) (sym memory)
+    (trace_text h.seen, answers_text h.seen, h.trace, h.answers, tells-first run (merged (most_items - turn) h.runs) h.seen account2 h.split (kept ∙ h.counts))
 
 -- a capture stops
 pub ends-asked : {R : Type 0} (remaining : FeedView R → Option (List ℕ)) (run : Run) (before now before2 now2 : Option (List ℕ)) (turn : ℕ) (account : Account) (cs : List (Capture R)) (f : TraceStop)
@@ -173,7 +173,7 @@ pub ends-asked : {R : Type 0} (remaining : FeedView R → Option (List ℕ)) (ru
 ends-asked remaining run before now before2 now2 turn account cs stop.Write h few reading stops = absurd (cc reading)
 ends-asked remaining run before now before2 now2 turn account cs stop.Told h few reading stops = absurd (cc reading)
 ends-asked remaining run before now before2 now2 turn account cs stop.Memory h few reading stops =
-    ends-first remaining run before now before2 now2 turn account cs stop.Memory h refl
+    ends-first remaining run before now before2 now2 turn account account cs stop.Memory h refl refl
 ends-asked remaining run before now before2 now2 turn account cs stop.Moment h few reading stops =
     let next = stops h.runs h.aheads refl in
     (trace_text h.seen, answers_text h.seen, h.trace, h.answers, ended-here remaining run before now before2 now2 turn account cs (Some stop.Moment) h (left-turn most_items turn h.runs (Stops stop.Moment) few next))
@@ -218,7 +218,7 @@ split-frame run seen turn runs rest j few split comes =
 pub counted : {R : Type 0} (remaining : FeedView R → Option (List ℕ)) (run : Run) (before now before2 now2 : Option (List ℕ)) (turn : ℕ) (account account2 : Account) (cs ds : List (Capture R)) (j : Judged) (rest : List Run) (row answer : List ℕ)
     → (h : SoFar remaining run before now before2 now2 turn account cs) → turn < most_items
     → coming_of h.runs ≡ Comes j rest → Aheads remaining ds rest
-    → TakesFrame (frame_taken account j) (Ok account2) row answer
+    → TakesFrame (frame_taken account j) (Ok tt) account2 row answer
     → Counted remaining run before now before2 now2 (turn + 1) account2 ds row answer
 counted remaining run before now before2 now2 turn account account2 cs ds j rest row answer h few comes left taken = record {
   seen = h.seen;

@@ -21,10 +21,10 @@ frame_taken account j = record {
   answer = answer_text (account.records + 1) j.outcome;
 }
 
--- a call returns and leaves what a frame makes, unless memory was refused
-abbrev pub TakesFrame : Taken → Result Account TraceStop → List ℕ → List ℕ → Type 0
-TakesFrame taken (Ok account) row answer = taken ≡ record { account = account; row = row; answer = answer }
-TakesFrame taken (Err f) row answer = f ≡ stop.Memory
+-- a call leaves what a frame makes, unless memory was refused
+abbrev pub TakesFrame : Taken → Result Unit TraceStop → Account → List ℕ → List ℕ → Type 0
+TakesFrame taken (Ok u) account row answer = taken ≡ record { account = account; row = row; answer = answer }
+TakesFrame taken (Err f) account row answer = f ≡ stop.Memory
 
 -- a text is written whole, or a front of it
 abbrev pub IsFront : List ℕ → List ℕ → Type 0

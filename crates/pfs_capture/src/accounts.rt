@@ -1,6 +1,6 @@
 //! How many frames there were, and what became of them.
 
-ghost use Rattle.std.specs.Prelude.{◌≡◌, ◌+◌, ◌<◌, ◌^◌, if◌then◌else◌, Some};
+ghost use Rattle.std.specs.Prelude.{◌≡◌, ◌<◌, ◌^◌, Some};
 ghost use Rattle.pfs_capture.specs.Accounts.{AddsUp, account_text, frame_counted, no_frames, reason_counted, record_counted};
 
 use crate::directions::Directions;
@@ -54,61 +54,49 @@ impl Account {
         }
     }
 
-    /// The account of one frame more, which is a record, or is none for a reason; and whether it was seen before the frame in front.
-    pub fn with(self, outcome: &Result<Found, Reason>, is_late: bool) -> Account
-        requires few { self.frames < 2 ^ 63 }
-        requires sum { AddsUp self }
-        ensures is { result ≡ frame_counted self is_late outcome.now }
-        ensures sum { AddsUp result }
+    /// Counts one frame more, which is a record, or is none for a reason; and whether it was seen before the frame in front.
+    pub fn count(&mut self, outcome: &Result<Found, Reason>, is_late: bool)
+        requires few { self.old.frames < 2 ^ 63 }
+        requires sum { AddsUp self.old }
+        ensures is { self.new ≡ frame_counted self.old is_late outcome.now }
+        ensures sum { AddsUp self.new }
     {
         match outcome {
-            Ok(found) => self.with_record(found.way.heading, is_late),
-            Err(reason) => self.without(*reason),
+            Ok(found) => self.count_record(found.way.heading, is_late),
+            Err(reason) => self.count_left_out(*reason),
         }
     }
 
-    /// The account of one record more.
-    fn with_record(self, heading: Heading, is_late: bool) -> Account
-        requires few { self.frames < 2 ^ 63 }
-        requires sum { AddsUp self }
-        ensures is { result ≡ record_counted self is_late heading }
-        ensures sum { AddsUp result }
+    /// Counts one record more.
+    fn count_record(&mut self, heading: Heading, is_late: bool)
+        requires few { self.old.frames < 2 ^ 63 }
+        requires sum { AddsUp self.old }
+        ensures is { self.new ≡ record_counted self.old is_late heading }
+        ensures sum { AddsUp self.new }
     {
-        let mut account = self;
-        account.frames += 1;
-        account.records += 1;
-        account.late = counted(self.late, is_late);
-        account.directions = self.directions.with(heading);
-        account
+        self.frames += 1;
+        self.records += 1;
+        self.late += u64::from(is_late);
+        self.directions.count(heading);
     }
 
-    /// The account of one frame more that is no record for this reason.
-    fn without(self, reason: Reason) -> Account
-        requires few { self.frames < 2 ^ 63 }
-        requires sum { AddsUp self }
-        ensures is { result ≡ reason_counted self reason }
-        ensures sum { AddsUp result }
+    /// Counts one frame more that is no record for this reason.
+    fn count_left_out(&mut self, reason: Reason)
+        requires few { self.old.frames < 2 ^ 63 }
+        requires sum { AddsUp self.old }
+        ensures is { self.new ≡ reason_counted self.old reason }
+        ensures sum { AddsUp self.new }
     {
-        let mut account = self;
-        account.frames += 1;
+        self.frames += 1;
         match reason {
-            Reason::LinkType => account.link_types += 1,
-            Reason::NotIp => account.not_ip += 1,
-            Reason::LaterFragment => account.later_fragments += 1,
-            Reason::Cut => account.cut += 1,
-            Reason::TooShort => account.too_short += 1,
-            Reason::NeitherWay => account.neither_way += 1,
+            Reason::LinkType => self.link_types += 1,
+            Reason::NotIp => self.not_ip += 1,
+            Reason::LaterFragment => self.later_fragments += 1,
+            Reason::Cut => self.cut += 1,
+            Reason::TooShort => self.too_short += 1,
+            Reason::NeitherWay => self.neither_way += 1,
         }
-        account
     }
-}
-
-/// A count with one more, where it counts.
-fn counted(count: u64, counts: bool) -> u64
-    requires { count < 2 ^ 63 }
-    ensures { result ≡ count + (if counts then 1 else 0) }
-{
-    count + u64::from(counts)
 }
 
 impl fmt::Display for Account {

@@ -35,22 +35,20 @@ impl Directions {
         }
     }
 
-    /// Those of one record more.
-    pub fn with(self, heading: Heading) -> Directions
-        requires { AreFew self }
-        ensures is { result ≡ directions_with self heading }
-        ensures sum { records_told result ≡ records_told self + 1 }
-        ensures few { result.contradicted ≤ self.contradicted + 1 }
+    /// Counts that of one record more.
+    pub fn count(&mut self, heading: Heading)
+        requires { AreFew self.old }
+        ensures is { self.new ≡ directions_with self.old heading }
+        ensures sum { records_told self.new ≡ records_told self.old + 1 }
+        ensures few { self.new.contradicted ≤ self.old.contradicted + 1 }
     {
-        let mut directions = self;
         match heading.by {
-            Evidence::Log => directions.log += 1,
-            Evidence::Cooked => directions.cooked += 1,
-            Evidence::Mac => directions.mac += 1,
-            Evidence::Networks => directions.networks += 1,
+            Evidence::Log => self.log += 1,
+            Evidence::Cooked => self.cooked += 1,
+            Evidence::Mac => self.mac += 1,
+            Evidence::Networks => self.networks += 1,
         }
-        directions.contradicted += u64::from(heading.is_contradicted);
-        directions
+        self.contradicted += u64::from(heading.is_contradicted);
     }
 }
 

@@ -11,16 +11,14 @@ ghost use Rattle.pfs_capture.specs.Runs.{Run};
 use crate::captures::{Capture, Next};
 use crate::faults::TraceStop;
 use crate::instants::Instant;
-use pfs_capture_files::Frame;
 use std::alloc::Global;
 use std::io::Read;
 
-/// The next frame of a capture, and which of the captures it is of.
+/// Which of the captures a next frame is of, and its moment.
 #[derive(Clone, Copy)]
 pub struct Place {
     pub index: usize,
     pub instant: Instant,
-    pub frame: Frame,
 }
 
 /// Reads how each capture begins.
@@ -69,15 +67,14 @@ fn earliest_from_last<R>(captures: &[Capture<R>]) -> Option<Place>
     place
 }
 
-/// The next frame of the capture of this index, if it waits.
+/// The place of the next frame of the capture of this index, if it waits.
 fn waiting_at<R>(capture: &Capture<R>, index: usize) -> Option<Place>
     ensures { result ≡ waiting_at index capture.now.last capture.now.next }
 {
     match capture.next {
-        Next::Waits(frame) => Some(Place {
+        Next::Waits(_) => Some(Place {
             index,
             instant: capture.last,
-            frame,
         }),
         Next::Ended | Next::Unasked => None,
     }

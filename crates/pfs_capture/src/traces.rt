@@ -1,11 +1,12 @@
 //! The trace of captures, row by row, and in another file what pf answered.
 
-ghost use Rattle.std.specs.Prelude.{◌≡◌, ◌⊎◌, ◌<◌, ◌≤◌, ◌^◌, ◌+◌, ◌++◌, ℕ, List, Err, IfErr, IfOk, OnOk, length, slice_get, slice_set};
+ghost use Rattle.std.specs.Prelude.{◌≡◌, ◌⊎◌, ◌<◌, ◌≤◌, ◌^◌, ◌+◌, ◌++◌, ℕ, List, Err, IfErr, IfOk, OnErr, OnOk, length, slice_get, slice_set};
 ghost use Rattle.std.specs.Io.KnownBytes.{Appends};
 ghost use Rattle.pfs_capture_files.specs.declared.faults.FileFault.TheVariants as fault;
 ghost use Rattle.pfs_streams.specs.Feeds.{unread};
 ghost use Rattle.pfs_streams.specs.Sinks.{bytes_held, write_failures};
 ghost use Rattle.pfs_capture.specs.Accounts.{AddsUp};
+ghost use Rattle.pfs_capture.specs.Aheads.{frame_of};
 ghost use Rattle.pfs_capture.specs.Captures.{frame_bytes, seen_of};
 ghost use Rattle.pfs_capture.specs.Merging.{Given};
 ghost use Rattle.pfs_capture.specs.Readers.{AreGiven, SomeFailed, failures_of, lefts_of};
@@ -19,7 +20,7 @@ use crate::accounts::Account;
 use crate::captures::{Capture, MOST_ITEMS, Next};
 use crate::faults::TraceStop;
 use crate::instants::is_before;
-use crate::merging::{Place, ask_all, begin_all, earliest};
+use crate::merging::{ask_all, begin_all, earliest};
 use crate::points::CapturePoint;
 use crate::sorting::{Found, sort};
 use pfs_capture_answers::{ANSWER_HEADER, push_answer};
@@ -83,7 +84,7 @@ pub fn write_trace<R: Read, W: Write, T: Write>(
             Some(place) => place,
             None => return Ok(()),
         };
-        *account = take_next(captures, place, *account, &mut lines)?;
+        take_next(captures, place.index, account, &mut lines)?;
         send(out, answers, &lines.row, &lines.answer)?;
     }
     Err(TraceStop::TooMany)
@@ -123,43 +124,46 @@ fn send<W: Write, T: Write>(
     }
 }
 
-/// The account of one frame more, whose texts are in the lines. It is the next one of its capture, which is then asked for another.
+/// Counts the next frame of the capture of this index, which is then asked for another. The frame's texts are then in the lines.
 fn take_next<R>(
     captures: &mut [Capture<R>],
-    place: Place,
-    account: Account,
+    index: usize,
+    account: &mut Account,
     lines: &mut Lines,
-) -> Result<Account, TraceStop>
-    requires few { account.frames < 2 ^ 63 }
-    requires sum { AddsUp account }
-    requires within { place.index < length captures.old }
-    ensures takes { (c : Capture R) → slice_get captures.old place.index ≡ Some c →
-        TakesFrame (frame_taken account (judged_at c.points.items (seen_of place.frame c.held.items) c.last)) result lines.new.row.items lines.new.answer.items }
-    ensures asks { (c : Capture R) → slice_get captures.old place.index ≡ Some c →
-        captures.new ≡ slice_set captures.old place.index (record c { next = Next.Unasked }) }
+) -> Result<(), TraceStop>
+    requires few { account.old.frames < 2 ^ 63 }
+    requires sum { AddsUp account.old }
+    requires within { index < length captures.old }
+    ensures takes { (c : Capture R) → slice_get captures.old index ≡ Some c →
+        TakesFrame (frame_taken account.old (judged_at c.points.items (seen_of (frame_of c.next) c.held.items) c.last)) result account.new lines.new.row.items lines.new.answer.items }
+    ensures asks { (c : Capture R) → slice_get captures.old index ≡ Some c →
+        captures.new ≡ slice_set captures.old index (record c { next = Next.Unasked }) }
     ensures same { failures_of captures.new ≡ failures_of captures.old }
-    ensures sum { IfOk result AddsUp }
-    ensures one { IfOk result (λ a. a.frames ≡ account.frames + 1) }
+    ensures sum { AddsUp account.new }
+    ensures one { OnOk result (account.new.frames ≡ account.old.frames + 1) }
+    ensures kept { OnErr result (account.new ≡ account.old) }
     ensures fails { IfErr result (λ f. f ≡ TraceStop.Memory) }
 {
-    let capture = &mut captures[place.index];
+    let capture = &mut captures[index];
+    let frame = capture.next.frame();
     capture.next = Next::Unasked;
-    take_frame(capture, place.frame, account, lines)
+    take_frame(capture, frame, account, lines)
 }
 
-/// The account of one frame more of a capture, whose texts are in the lines.
+/// Counts one frame more of a capture. Its texts are then in the lines.
 fn take_frame<R>(
     capture: &Capture<R>,
     frame: Frame,
-    account: Account,
+    account: &mut Account,
     lines: &mut Lines,
-) -> Result<Account, TraceStop>
-    requires few { account.frames < 2 ^ 63 }
-    requires sum { AddsUp account }
-    ensures takes { TakesFrame (frame_taken account (judged_at capture.now.points.items (seen_of frame capture.now.held.items) capture.now.last))
-        result lines.new.row.items lines.new.answer.items }
-    ensures sum { IfOk result AddsUp }
-    ensures one { IfOk result (λ a. a.frames ≡ account.frames + 1) }
+) -> Result<(), TraceStop>
+    requires few { account.old.frames < 2 ^ 63 }
+    requires sum { AddsUp account.old }
+    ensures takes { TakesFrame (frame_taken account.old (judged_at capture.now.points.items (seen_of frame capture.now.held.items) capture.now.last))
+        result account.new lines.new.row.items lines.new.answer.items }
+    ensures sum { AddsUp account.new }
+    ensures one { OnOk result (account.new.frames ≡ account.old.frames + 1) }
+    ensures kept { OnErr result (account.new ≡ account.old) }
     ensures fails { IfErr result (λ f. f ≡ TraceStop.Memory) }
 {
     lines.row.clear();
@@ -168,8 +172,9 @@ fn take_frame<R>(
     let moment = frame.moment;
     let outcome = outcome_of(capture, frame);
     write_row(&outcome, second, &mut lines.row)?;
-    write_answer(&outcome, account, &mut lines.answer)?;
-    Ok(account.with(&outcome, is_before(moment, second)))
+    write_answer(&outcome, account.records + 1, &mut lines.answer)?;
+    account.count(&outcome, is_before(moment, second));
+    Ok(())
 }
 
 /// Writes the row of a frame's packet into the line, if it has one.
@@ -197,15 +202,13 @@ fn write_row(
     }
 }
 
-/// Writes what pf answered for the record after those of this account into the line, if it is of a log.
+/// Writes what pf answered for the record of this number into the line, if it is of a log.
 fn write_answer(
     outcome: &Result<Found, Reason>,
-    account: Account,
+    number: u64,
     line: &mut Vec<u8>,
 ) -> Result<(), TraceStop>
-    requires few { account.frames < 2 ^ 63 }
-    requires sum { AddsUp account }
-    ensures text { OnOk result (line.new.items ≡ line.old.items ++ answer_text (account.records + 1) outcome.now) }
+    ensures text { OnOk result (line.new.items ≡ line.old.items ++ answer_text number outcome.now) }
     ensures fails { IfErr result (λ f. f ≡ TraceStop.Memory) }
 {
     let Ok(found) = outcome else {
@@ -214,7 +217,7 @@ fn write_answer(
     let Some(answer) = &found.answer else {
         return Ok(());
     };
-    match push_answer(line, account.records + 1, answer) {
+    match push_answer(line, number, answer) {
         Ok(()) => Ok(()),
         Err(_) => Err(TraceStop::Memory),
     }

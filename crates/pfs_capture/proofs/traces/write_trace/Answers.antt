@@ -2,7 +2,7 @@
 use Rattle.std.proofs.Common.{◌≡◌, ◌+◌, ◌∙◌, List, Ok, Err, inr, sym, ap, arith, subst}
 use Rattle.std.proofs.lemmas.Result.{err_from_is_err_and}
 use Rattle.pfs_streams.specs.Feeds.{unread}
-use Rattle.pfs_capture.specs.Aheads.{Aheads}
+use Rattle.pfs_capture.specs.Aheads.{Aheads, frame_of}
 use Rattle.pfs_capture.specs.Captures.{seen_of}
 use Rattle.pfs_capture.specs.Merging.{captures_run}
 use Rattle.pfs_capture.specs.Runs.{judged_at}
@@ -80,17 +80,18 @@ returns-in-None-clause-tells g c gs given =
 pub returns-in-None-clause-first_read : goal.returns-in-None-clause-first_read
 returns-in-None-clause-first_read g c = inr (kept-ok _ _ c.in_ok-ask_all.ensures.sound ∙ c.loop-turn.invariant.reads)
 
-pub returns-in_err-account-clause-tells : goal.returns-in_err-account-clause-tells
-returns-in_err-account-clause-tells g c gs given =
+pub returns-in_err-take_next-clause-tells : goal.returns-in_err-take_next-clause-tells
+returns-in_err-take_next-clause-tells g c gs given =
     let begun = c.in_ok-begin_all.ensures.begin gs given in
-    let f = c.in_err-account.field-0.0 in
-    let p = err_from_is_err_and c.from_residual-in_err-account.result c.from_residual-in_err-account.ensures.1 in
-    rw (p.1, p.2) (captured-run gs _ _ _ _ _ c.loop-turn.account (Err f) begun.1
-    (ends-first (unread g.R.Read.remaining) (captures_run gs) _ _ _ _ c.loop-turn._turn c.loop-turn.account c.loop-turn.captures f (c.loop-turn.invariant.so_far gs given) c.in_err-account.ensures.fails))
+    let f = c.in_err-take_next.field-0.0 in
+    let p = err_from_is_err_and c.from_residual-in_err-take_next.result c.from_residual-in_err-take_next.ensures.1 in
+    rw (p.1, p.2) (captured-run gs _ _ _ _ _ c.take_next.new.account (Err f) begun.1
+    (ends-first (unread g.R.Read.remaining) (captures_run gs) _ _ _ _ c.loop-turn._turn c.loop-turn.account c.take_next.new.account c.loop-turn.captures f (c.loop-turn.invariant.so_far gs given)
+    c.in_err-take_next.ensures.kept c.in_err-take_next.ensures.fails))
 
-pub returns-in_err-account-clause-first_read : goal.returns-in_err-account-clause-first_read
-returns-in_err-account-clause-first_read g c =
-    inr (c.in_err-account.ensures.same ∙ (kept-ok _ _ c.in_ok-ask_all.ensures.sound ∙ c.loop-turn.invariant.reads))
+pub returns-in_err-take_next-clause-first_read : goal.returns-in_err-take_next-clause-first_read
+returns-in_err-take_next-clause-first_read g c =
+    inr (c.in_err-take_next.ensures.same ∙ (kept-ok _ _ c.in_ok-ask_all.ensures.sound ∙ c.loop-turn.invariant.reads))
 
 pub returns-in_err-send-2-clause-tells : goal.returns-in_err-send-2-clause-tells
 returns-in_err-send-2-clause-tells g c gs given =
@@ -107,17 +108,17 @@ returns-in_err-send-2-clause-tells g c gs given =
     let which = chosen-here rem c.ask_all.new.captures h.runs place next in
     let row = c.take_next.new.lines.row.items in
     let answer = c.take_next.new.lines.answer.items in
-    let left = subst (λ (cs : List _). Aheads rem cs next.rest) (sym (c.in_ok-account.ensures.asks next.capture which.0)) which.1 in
-    rw (p.1, p.2) (captured-run gs _ _ _ _ _ c.in_ok-account.field-0 (Err f) begun.1
-    (ends-send rem run _ _ _ _ _ _ (c.loop-turn._turn + 1) c.in_ok-account.field-0 c.take_next.new.captures row answer t u f
-    (counted rem run _ _ _ _ c.loop-turn._turn c.loop-turn.account c.in_ok-account.field-0 c.ask_all.new.captures c.take_next.new.captures
-    (judged_at next.capture.points.items (seen_of place.frame next.capture.held.items) next.capture.last) next.rest row answer h c.loop-turn-test.true next.comes left
-    (c.in_ok-account.ensures.takes next.capture which.0)) trace answers
+    let left = subst (λ (cs : List _). Aheads rem cs next.rest) (sym (c.in_ok-take_next.ensures.asks next.capture which.0)) which.1 in
+    rw (p.1, p.2) (captured-run gs _ _ _ _ _ c.take_next.new.account (Err f) begun.1
+    (ends-send rem run _ _ _ _ _ _ (c.loop-turn._turn + 1) c.take_next.new.account c.take_next.new.captures row answer t u f
+    (counted rem run _ _ _ _ c.loop-turn._turn c.loop-turn.account c.take_next.new.account c.ask_all.new.captures c.take_next.new.captures
+    (judged_at next.capture.points.items (seen_of (frame_of next.capture.next) next.capture.held.items) next.capture.last) next.rest row answer h c.loop-turn-test.true next.comes left
+    (c.in_ok-take_next.ensures.takes next.capture which.0)) trace answers
     (sends-these _ _ row answer t u (Err f) c.deref.ensures.value c.deref-in-loop-turn.ensures.value sends)))
 
 pub returns-in_err-send-2-clause-first_read : goal.returns-in_err-send-2-clause-first_read
 returns-in_err-send-2-clause-first_read g c =
-    inr (c.in_ok-account.ensures.same ∙ (kept-ok _ _ c.in_ok-ask_all.ensures.sound ∙ c.loop-turn.invariant.reads))
+    inr (c.in_ok-take_next.ensures.same ∙ (kept-ok _ _ c.in_ok-ask_all.ensures.sound ∙ c.loop-turn.invariant.reads))
 
 pub returns-in_err-send-2-clause-first_write : goal.returns-in_err-send-2-clause-first_write
 returns-in_err-send-2-clause-first_write g c =
@@ -132,15 +133,15 @@ returns-in_err-send-2-clause-first_told g c =
 pub loop-turn-preserved : goal.loop-turn-preserved
 loop-turn-preserved g c =
     let inv = c.loop-turn.invariant in
-    let one = c.in_ok-account.ensures.one in
+    let one = c.in_ok-take_next.ensures.one in
     let (t, u, trace, answers, sends) = c.in_ok-send-2.ensures.sends in
     let row = c.take_next.new.lines.row.items in
     let answer = c.take_next.new.lines.answer.items in
     let rem = unread g.R.Read.remaining in
     record {
       few = omega (arith, inv.few, one);
-      sum = c.in_ok-account.ensures.sum;
-      reads = c.in_ok-account.ensures.same ∙ (kept-ok _ _ c.in_ok-ask_all.ensures.sound ∙ inv.reads);
+      sum = c.in_ok-take_next.ensures.sum;
+      reads = c.in_ok-take_next.ensures.same ∙ (kept-ok _ _ c.in_ok-ask_all.ensures.sound ∙ inv.reads);
       writes = kept-ok _ _ c.in_ok-send-2.ensures.first_write ∙ inv.writes;
       tells = kept-ok _ _ c.in_ok-send-2.ensures.first_told ∙ inv.tells;
       so_far = λ gs given.
@@ -150,11 +151,11 @@ loop-turn-preserved g c =
           let place = c.in-Some.place in
           let next = chosen rem c.ask_all.new.captures h.runs 0 place c.in_ok-ask_all.ensures.asked (sym c.in-Some.ensures.is) h.aheads in
           let which = chosen-here rem c.ask_all.new.captures h.runs place next in
-          let left = subst (λ (cs : List _). Aheads rem cs next.rest) (sym (c.in_ok-account.ensures.asks next.capture which.0)) which.1 in
-          so_far-frame rem run _ _ _ _ _ _ (c.loop-turn._turn + 1) c.in_ok-account.field-0 c.take_next.new.captures row answer t u
-          (counted rem run _ _ _ _ c.loop-turn._turn c.loop-turn.account c.in_ok-account.field-0 c.ask_all.new.captures c.take_next.new.captures
-          (judged_at next.capture.points.items (seen_of place.frame next.capture.held.items) next.capture.last) next.rest row answer h c.loop-turn-test.true next.comes left
-          (c.in_ok-account.ensures.takes next.capture which.0)) trace answers
+          let left = subst (λ (cs : List _). Aheads rem cs next.rest) (sym (c.in_ok-take_next.ensures.asks next.capture which.0)) which.1 in
+          so_far-frame rem run _ _ _ _ _ _ (c.loop-turn._turn + 1) c.take_next.new.account c.take_next.new.captures row answer t u
+          (counted rem run _ _ _ _ c.loop-turn._turn c.loop-turn.account c.take_next.new.account c.ask_all.new.captures c.take_next.new.captures
+          (judged_at next.capture.points.items (seen_of (frame_of next.capture.next) next.capture.held.items) next.capture.last) next.rest row answer h c.loop-turn-test.true next.comes left
+          (c.in_ok-take_next.ensures.takes next.capture which.0)) trace answers
           (sends-these _ _ row answer t u (Ok tt) c.deref.ensures.value c.deref-in-loop-turn.ensures.value sends);
     }
 
