@@ -2,7 +2,7 @@
 
 ghost use Rattle.pfs_capture_report.specs.Reported.{CaptureIsReported, TraceIsRead};
 
-use pfs_conf_values::{Config, LimitName};
+use pfs_conf_values::Config;
 
 /// The trace of captures is read as the packets of those of their frames that are records: all of them, in the order of their
 /// moments, each in its second, and no record is faulty. Of ICMP a record is a skip. It holds of every interface with a name, of
@@ -11,8 +11,7 @@ use pfs_conf_values::{Config, LimitName};
 pub fn trace_again(config: &Config)
     ensures { TraceIsRead config.now }
 {
-    // This call states to the proof that the configuration keeps the load rules.
-    let _limit = config.limit(LimitName::States);
+    config.keeps_load_rules();
 }
 
 /// The report of the trace of captures is the one that the machine over plain lists defines for the packets that are found in
@@ -20,6 +19,5 @@ pub fn trace_again(config: &Config)
 pub fn capture_report(config: &Config)
     ensures { CaptureIsReported config.now }
 {
-    // This call states to the proof that the configuration keeps the load rules.
-    let _limit = config.limit(LimitName::States);
+    config.keeps_load_rules();
 }

@@ -15,6 +15,5 @@ pub fn reads_again(config: &Config)
     ensures same { CanBeSaid config.now → Reads (text_of config.now) config.now }
     ensures only { (other : Conf) → CanBeSaid config.now → Reads (text_of config.now) other → other ≡ config.now }
 {
-    // This call states to the proof that the configuration keeps the load rules.
-    let _count = config.item_count();
+    config.keeps_load_rules();
 }

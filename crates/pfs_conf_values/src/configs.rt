@@ -19,9 +19,9 @@ use std::marker::Model;
 
 /// What an accepted rules text says: limits, timeouts, tables and items, with defaults filled in.
 ///
-/// Clauses see a `Conf`. Every one keeps `IsConfig`, the load rules; `limit`, `item_count` and `table_count` state them
-/// to callers, and `item`, `rule`, `options` and `table` state what they give keeps of them. No reader takes memory.
-/// Each takes constant time but for `table_named`, which goes through the tables.
+/// Clauses see a `Conf`. Every one keeps `IsConfig`, the load rules: `keeps_load_rules` states them to a proof, as do
+/// `limit`, `item_count` and `table_count`, and `item`, `rule`, `options` and `table` state what they give keeps of
+/// them. No reader takes memory. Each takes constant time but for `table_named`, which goes through the tables.
 #[derive(Debug, Drop)]
 pub struct Config {
     limits: Limits,
@@ -65,6 +65,13 @@ impl Config {
             items,
             hasher,
         }
+    }
+
+    /// The configuration keeps the load rules: a fact for proofs, which computes nothing.
+    pub fn keeps_load_rules(&self)
+        ensures { IsConfig self.now }
+    {
+        let _ = &self.items;
     }
 
     /// How many rules and anchors there are: at most 10,000.

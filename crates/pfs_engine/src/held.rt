@@ -57,8 +57,7 @@ impl<S: Store + Drop> Held<S> {
         ensures held { IfOk result (λ h. h.held ≡ (start config).held) }
         ensures sound { IsConfig config }
     {
-        // This call states to the proof that the configuration keeps the load rules.
-        let _limit = config.limit(LimitName::States);
+        config.keeps_load_rules();
         let book = Book::new(alloc, &config)?;
         let tables = Tables::new(alloc, &config)?;
         Ok(Held {

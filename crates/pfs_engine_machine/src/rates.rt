@@ -5,7 +5,7 @@ ghost use Rattle.pfs_engine_machine.specs.RateMemory.{RateIsRemembered, ScoreIsR
 ghost use Rattle.pfs_engine_machine.specs.Runs.{IsInOrder};
 
 use crate::events::Event;
-use pfs_conf_values::{Config, LimitName};
+use pfs_conf_values::Config;
 
 /// At each handshake of a rule with `max-src-conn-rate`, the score that is compared with the limit is the one of all
 /// handshakes of the source in the run up to then, however often its source node was purged and made again; so the rate is
@@ -15,6 +15,5 @@ pub fn rate_memory(config: &Config, events: &[Event])
     ensures score { ScoreIsRemembered config.now events.now }
     ensures kill { RateIsRemembered config.now events.now }
 {
-    // This call states to the proof that the configuration keeps the load rules.
-    let _limit = config.limit(LimitName::States);
+    config.keeps_load_rules();
 }

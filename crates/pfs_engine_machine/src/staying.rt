@@ -7,7 +7,7 @@ ghost use Rattle.pfs_engine_machine.specs.Machine.{start, machine_after};
 ghost use Rattle.pfs_engine_machine.specs.Runs.{IsInOrder};
 
 use crate::events::Event;
-use pfs_conf_values::{Config, LimitName};
+use pfs_conf_values::Config;
 
 /// Whatever arrives, a state that is expired at each of `2 * interval` purges in a row, and of whose key no packet comes
 /// meanwhile, is gone after the last of them; so is a source node that has no state and is past its retention at each.
@@ -17,8 +17,7 @@ pub fn staleness(config: &Config, events: &[Event])
     ensures states { StatesGo config.now events.now }
     ensures nodes { NodesGo config.now events.now }
 {
-    // This call states to the proof that the configuration keeps the load rules.
-    let _limit = config.limit(LimitName::States);
+    config.keeps_load_rules();
 }
 
 /// After each purge, each packet and each command of a run whose moments do not fall, states, source nodes and
@@ -28,6 +27,5 @@ pub fn within_limits(config: &Config, events: &[Event])
     requires order { IsInOrder None events.now }
     ensures { StaysWithinLimits config.now events.now }
 {
-    // This call states to the proof that the configuration keeps the load rules.
-    let _limit = config.limit(LimitName::States);
+    config.keeps_load_rules();
 }

@@ -204,8 +204,7 @@ fn rate_of(config: &Config, rule: RuleNo) -> Option<Rate>
     ensures value { result ≡ (options_of config.now rule.0).max_src_conn_rate }
     ensures sound { IfSome result IsRate }
 {
-    // This call states to the proof that the options of each rule keep the load rules.
-    let _count = config.item_count();
+    config.keeps_load_rules();
     match config.options(rule) {
         Some(options) => options.max_src_conn_rate,
         None => None,

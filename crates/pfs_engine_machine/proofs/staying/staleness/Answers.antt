@@ -9,7 +9,7 @@ pub returns-clause-run : goal.returns-clause-run
 returns-clause-run c = acts-done c.args.config.now (start c.args.config.now) c.args.events.now
 
 pub returns-clause-states : goal.returns-clause-states
-returns-clause-states c = states-go c.args.config.now c.args.events.now c.limit-limit.ensures.sound
+returns-clause-states c = states-go c.args.config.now c.args.events.now c.keeps_load_rules.ensures
 
 pub returns-clause-nodes : goal.returns-clause-nodes
-returns-clause-nodes c = nodes-go c.args.config.now c.args.events.now c.limit-limit.ensures.sound
+returns-clause-nodes c = nodes-go c.args.config.now c.args.events.now c.keeps_load_rules.ensures

@@ -3,4 +3,4 @@ use Rattle.pfs_engine_machine.proofs.Within.{stays-within}
 use Rattle.pfs_engine_machine.proofs.staying.within_limits.Goals as goal
 
 pub returns : goal.returns
-returns c = stays-within c.args.config.now c.args.events.now c.limit-limit.ensures.sound c.requires.order
+returns c = stays-within c.args.config.now c.args.events.now c.keeps_load_rules.ensures c.requires.order
