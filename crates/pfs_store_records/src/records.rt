@@ -225,36 +225,27 @@ fn walk_range<T: Lifetimes>(
     let mut last = round.cursor;
     let mut until = u64::MAX;
     let mut known: Option<Stay> = None;
-    while stayed < share {
+    let leaver = loop {
+        if stayed == share {
+            break None;
+        }
         let Some((number, place)) = rest.next() else {
-            return Walk {
-                stayed,
-                last,
-                until,
-                leaver: None,
-            };
+            break None;
         };
         let kept = look(slab, *place as usize, meter);
         let stay = stay_of(lifetimes, kept, known);
         known = Some(stay);
         match stays_until(kept, stay.seconds, now) {
             Some(moment) => until = until.min(moment),
-            None => {
-                return Walk {
-                    stayed,
-                    last,
-                    until,
-                    leaver: Some(kept.state()),
-                };
-            }
+            None => break Some(kept.state()),
         }
         stayed += 1;
         last = *number;
-    }
+    };
     Walk {
         stayed,
         last,
         until,
-        leaver: None,
+        leaver,
     }
 }

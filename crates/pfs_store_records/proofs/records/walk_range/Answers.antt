@@ -1,11 +1,13 @@
 -- Answers of walk_range: one more that stays, and each end: a leaver, the range's end, the share's (`walk`).
-use Rattle.std.proofs.Common.{◌∙◌, None, Some, arith, subst, sym}
+use Rattle.std.proofs.Common.{◌∙◌, Option, None, Some, arith, subst, sym}
 use Rattle.pfs_track.specs.Lifetimes.{is_expired}
+use Rattle.pfs_store_contract.specs.declared.records.State.{State}
 use Rattle.pfs_store_records.specs.Keeping.{values_at, record_in}
 use Rattle.pfs_store_records.specs.Records.{states_of}
-use Rattle.pfs_store_records.specs.Walks.{end_of, state_has_expired}
+use Rattle.pfs_store_records.specs.Walks.{IsLeaver, IsWalk, end_of, state_has_expired}
 use Rattle.pfs_store_records.proofs.Walking.{Each, Stays, Until, each-empty, is-walk, next-leaves, next-there, none-leaves, one-stays, share-used, until-more, until-states, walking-init, walking-step}
 use Rattle.pfs_store_records.proofs.records.walk_range.Goals as goal
+use Rattle.pfs_store_records.proofs.records.walk_range.Goals.{then-stayed-share, else-stayed-share+in_default, else-stayed-share+in-Some+in-None}
 
 pub loop-stayed-init : goal.loop-stayed-init
 loop-stayed-init g c = record {
@@ -16,26 +18,10 @@ loop-stayed-init g c = record {
   looks = omega arith;
 }
 
-pub returns-in_default-clause-walk : goal.returns-in_default-clause-walk
-returns-in_default-clause-walk g c =
-    let w = c.loop-stayed.invariant.walking in
-    is-walk (state_has_expired (g.T.Lifetimes.lifetime c.args.lifetimes.now) c.args.now) c.args.slab.now c.args.places.now.entries c.loop-stayed.rest c.args.round.cursor c.loop-stayed.last c.args.round.mark c.args.share c.loop-stayed.stayed None
-    c.requires.kept w c.loop-stayed.invariant.share
-    (none-leaves (state_has_expired (g.T.Lifetimes.lifetime c.args.lifetimes.now) c.args.now) c.args.slab.now c.args.places.now.entries c.loop-stayed.last c.args.round.mark c.args.share c.loop-stayed.stayed c.requires.kept
-    (sym c.in_default.ensures.steps.0 ∙ w.rest))
-
 pub look-kept-requires-clause-held : goal.look-kept-requires-clause-held
 look-kept-requires-clause-held g c =
     next-there c.args.slab.now c.args.places.now.entries _ c.loop-stayed.last c.args.round.mark c.in-Some.number.now c.in-Some.place.now c.requires.kept
     (sym c.in-Some.ensures.steps ∙ c.loop-stayed.invariant.walking.rest)
-
-pub returns-in-None-clause-walk : goal.returns-in-None-clause-walk
-returns-in-None-clause-walk g c =
-    let w = c.loop-stayed.invariant.walking in
-    rw c.state.ensures.value (is-walk (state_has_expired (g.T.Lifetimes.lifetime c.args.lifetimes.now) c.args.now) c.args.slab.now c.args.places.now.entries c.loop-stayed.rest c.args.round.cursor c.loop-stayed.last c.args.round.mark c.args.share c.loop-stayed.stayed (Some c.look-kept.result.now)
-    c.requires.kept w c.loop-stayed.invariant.share
-    (next-leaves (state_has_expired (g.T.Lifetimes.lifetime c.args.lifetimes.now) c.args.now) c.args.slab.now c.args.places.now.entries _ c.loop-stayed.last c.args.round.mark c.args.share c.loop-stayed.stayed c.in-Some.number.now c.in-Some.place.now c.look-kept.result.now
-    c.requires.kept (sym c.in-Some.ensures.steps ∙ w.rest) c.look-kept.ensures.value ((λ i. is_expired (sym c.stay_of-stay.ensures.value i) c.look-kept.result.now.last c.args.now) ∙ c.stays_until.ensures.none c.in-None.is) (omega arith)))
 
 pub loop-stayed-preserved : goal.loop-stayed-preserved
 loop-stayed-preserved g c =
@@ -54,17 +40,24 @@ loop-stayed-preserved g c =
 
 pub returns-clause-walk : goal.returns-clause-walk
 returns-clause-walk g c =
-    is-walk (state_has_expired (g.T.Lifetimes.lifetime c.args.lifetimes.now) c.args.now) c.args.slab.now c.args.places.now.entries c.loop-stayed.rest c.args.round.cursor c.loop-stayed.last c.args.round.mark c.args.share c.loop-stayed.stayed None
-    c.requires.kept c.loop-stayed.invariant.walking c.loop-stayed.invariant.share
-    (share-used (state_has_expired (g.T.Lifetimes.lifetime c.args.lifetimes.now) c.args.now) (states_of (values_at (record_in c.args.slab.now) c.args.places.now.entries)) c.loop-stayed.last c.args.round.mark c.args.share c.loop-stayed.stayed (omega arith))
-
-pub returns-in_default-clause-until : goal.returns-in_default-clause-until
-returns-in_default-clause-until g c =
-    until-states (end_of (g.T.Lifetimes.lifetime c.args.lifetimes.now)) c.args.slab.now c.args.round.cursor c.loop-stayed.last c.loop-stayed.until c.args.places.now.entries c.requires.kept c.loop-stayed.invariant.until
-
-pub returns-in-None-clause-until : goal.returns-in-None-clause-until
-returns-in-None-clause-until g c =
-    until-states (end_of (g.T.Lifetimes.lifetime c.args.lifetimes.now)) c.args.slab.now c.args.round.cursor c.loop-stayed.last c.loop-stayed.until c.args.places.now.entries c.requires.kept c.loop-stayed.invariant.until
+    let test = state_has_expired (g.T.Lifetimes.lifetime c.args.lifetimes.now) c.args.now in
+    let slab = c.args.slab.now in
+    let entries = c.args.places.now.entries in
+    let w = c.loop-stayed.invariant.walking in
+    let walked : (leaver : Option State) → IsLeaver test (states_of (values_at (record_in slab) entries)) c.loop-stayed.last c.args.round.mark c.loop-stayed.stayed c.args.share leaver
+        → IsWalk test (states_of (values_at (record_in slab) entries)) c.args.round.cursor c.args.round.mark c.args.share c.loop-stayed.stayed c.loop-stayed.last leaver =
+        λ leaver. is-walk test slab entries c.loop-stayed.rest c.args.round.cursor c.loop-stayed.last c.args.round.mark c.args.share c.loop-stayed.stayed leaver c.requires.kept w c.loop-stayed.invariant.share in
+    elim c.if-stayed-share.branch [
+      | then-stayed-share b ↦
+          rw b.leaver-is (walked None (share-used test (states_of (values_at (record_in slab) entries)) c.loop-stayed.last c.args.round.mark c.args.share c.loop-stayed.stayed (omega (arith, b.if-stayed-share.true))))
+      | else-stayed-share+in_default b ↦
+          rw b.leaver-is (walked None (none-leaves test slab entries c.loop-stayed.last c.args.round.mark c.args.share c.loop-stayed.stayed c.requires.kept (sym b.in_default.ensures.steps.0 ∙ w.rest)))
+      | else-stayed-share+in-Some+in-None b ↦
+          rw (b.leaver-is, b.state.ensures.value) (walked (Some b.look-kept.result.now)
+          (next-leaves test slab entries _ c.loop-stayed.last c.args.round.mark c.args.share c.loop-stayed.stayed b.in-Some.number.now b.in-Some.place.now b.look-kept.result.now
+          c.requires.kept (sym b.in-Some.ensures.steps ∙ w.rest) b.look-kept.ensures.value ((λ i. is_expired (sym b.stay_of-stay.ensures.value i) b.look-kept.result.now.last c.args.now) ∙ b.stays_until.ensures.none b.in-None.is)
+          (omega (arith, b.if-stayed-share.false, c.loop-stayed.invariant.share))))
+    ]
 
 pub returns-clause-until : goal.returns-clause-until
 returns-clause-until g c =
