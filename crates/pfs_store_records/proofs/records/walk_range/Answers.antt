@@ -45,8 +45,8 @@ returns-clause-walk g c =
     let entries = c.args.places.now.entries in
     let w = c.loop-stayed.invariant.walking in
     let walked : (leaver : Option State) → IsLeaver test (states_of (values_at (record_in slab) entries)) c.loop-stayed.last c.args.round.mark c.loop-stayed.stayed c.args.share leaver
-        → IsWalk test (states_of (values_at (record_in slab) entries)) c.args.round.cursor c.args.round.mark c.args.share c.loop-stayed.stayed c.loop-stayed.last leaver =
-        λ leaver. is-walk test slab entries c.loop-stayed.rest c.args.round.cursor c.loop-stayed.last c.args.round.mark c.args.share c.loop-stayed.stayed leaver c.requires.kept w c.loop-stayed.invariant.share in
+    → IsWalk test (states_of (values_at (record_in slab) entries)) c.args.round.cursor c.args.round.mark c.args.share c.loop-stayed.stayed c.loop-stayed.last leaver =
+    λ leaver. is-walk test slab entries c.loop-stayed.rest c.args.round.cursor c.loop-stayed.last c.args.round.mark c.args.share c.loop-stayed.stayed leaver c.requires.kept w c.loop-stayed.invariant.share in
     elim c.if-stayed-share.branch [
       | then-stayed-share b ↦
           rw b.leaver-is (walked None (share-used test (states_of (values_at (record_in slab) entries)) c.loop-stayed.last c.args.round.mark c.args.share c.loop-stayed.stayed (omega (arith, b.if-stayed-share.true))))
