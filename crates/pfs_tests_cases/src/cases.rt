@@ -48,21 +48,27 @@ pub const NOT_REMOVED: &str = "delete - removed=0";
 
 const FLUSHED: &str = "kill:max-src-conn @1 overload=added killed=2";
 
-/// All cases, each part behind a first line of rules. They are tried as events of engines, and as replays of texts.
-pub const SCENARIOS: &[(&str, &[Case])] = &[
-    (UNSCALED, ADMISSIONS),
-    (UNSCALED, REFUSALS),
-    (UNSCALED, CONNECTIONS),
-    (UNSCALED, RATES),
-    (UNSCALED, KEPT),
-    (UNSCALED, OVERLOADS),
-    (UNSCALED, LIVES),
-    (UNSCALED, ROUNDS),
-    (UNSCALED, EXPIRIES),
-    (UNSCALED, ENTRIES),
-    (UNSCALED, AMOUNTS),
-    ("", SCALED),
-];
+/// How many scenarios there are.
+pub const SCENARIO_COUNT: usize = 12;
+
+/// The cases of a scenario, which events and replays are tried with, and a first line of rules for each of them; none past the last.
+pub fn scenario(number: usize) -> Option<(&'static str, &'static [Case])> {
+    match number {
+        0 => Some((UNSCALED, ADMISSIONS)),
+        1 => Some((UNSCALED, REFUSALS)),
+        2 => Some((UNSCALED, CONNECTIONS)),
+        3 => Some((UNSCALED, RATES)),
+        4 => Some((UNSCALED, KEPT)),
+        5 => Some((UNSCALED, OVERLOADS)),
+        6 => Some((UNSCALED, LIVES)),
+        7 => Some((UNSCALED, ROUNDS)),
+        8 => Some((UNSCALED, EXPIRIES)),
+        9 => Some((UNSCALED, ENTRIES)),
+        10 => Some((UNSCALED, AMOUNTS)),
+        11 => Some(("", SCALED)),
+        _ => None,
+    }
+}
 
 // ---- limits on states and source nodes
 

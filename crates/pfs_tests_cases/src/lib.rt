@@ -13,8 +13,8 @@ mod scripts;
 mod texts;
 
 pub use crate::cases::{
-    FLOOD, FLUSH, FLUSH_GLOBAL, NOT_REMOVED, REMOVED, RETENTION, SCENARIOS, SECOND_CONNECTION,
-    THIRD_STATE,
+    FLOOD, FLUSH, FLUSH_GLOBAL, NOT_REMOVED, REMOVED, RETENTION, SCENARIO_COUNT, SECOND_CONNECTION,
+    THIRD_STATE, scenario,
 };
 pub use crate::conditions::{are_allowed, is_in_order, is_in_time, may_change, may_come};
 pub use crate::errors::CaseError;
