@@ -1,5 +1,5 @@
 -- What is asked of parameters that have been read. (own)
-use Rattle.std.specs.Prelude.{ℕ, Bool, false, not, ◌&&◌, ◌||◌, List, Option, Some, None, is_some, unwrap_or}
+use Rattle.std.specs.Prelude.{ℕ, Bool, not, ◌&&◌, ◌||◌, List, None, is_some, unwrap_or}
 use Rattle.pfs_conf_values.specs.Bounds.{asks_ports}
 use Rattle.pfs_conf_values.specs.declared.filters.Host.TheVariants as host
 use Rattle.pfs_conf_values.specs.declared.filters.Side.{Side}

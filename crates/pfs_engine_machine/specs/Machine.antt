@@ -8,7 +8,6 @@ use Rattle.pfs_eval.specs.Entries.{Entry}
 use Rattle.pfs_eval.specs.Matching.{matches_item}
 use Rattle.pfs_eval.specs.Tables.{added_to, config_entries, deleted_count, entered_to, entries_after, entries_entered, entries_expired, entries_without, entry_count, expired_count}
 use Rattle.pfs_eval.specs.Verdict.{verdict}
-use Rattle.pfs_eval.specs.declared.entries.TableEntry.{TableEntry}
 use Rattle.pfs_eval.specs.declared.tables.Added.{Added}
 use Rattle.pfs_conf_values.specs.Configs.{Conf, limit_of, options_of, rule_of}
 use Rattle.pfs_conf_values.specs.declared.actions.Action.{Action}

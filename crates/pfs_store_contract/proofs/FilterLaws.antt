@@ -1,5 +1,5 @@
 -- Lists that are filtered.
-use Rattle.std.proofs.Common.{◌≡◌, ◌≤◌, ◌∷◌, [], ℕ, suc, Bool, true, false, List, length, filter, if◌then◌else◌, refl, ap, arith}
+use Rattle.std.proofs.Common.{◌≡◌, ◌≤◌, ◌∷◌, [], suc, Bool, true, false, List, length, filter, if◌then◌else◌, refl, ap, arith}
 use Rattle.std.proofs.lemmas.List.Sums.{count_by-le-length, length-filter}
 
 -- a filter that keeps as many keeps all
