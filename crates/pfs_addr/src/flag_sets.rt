@@ -25,15 +25,16 @@ pub fn parse_flags(text: &[u8]) -> Option<Flags>
 fn with_letter(flags: Flags, letter: u8) -> Flags
     ensures { result ≡ with_letter flags letter }
 {
-    Flags {
-        fin: flags.fin || letter == b'F',
-        syn: flags.syn || letter == b'S',
-        rst: flags.rst || letter == b'R',
-        psh: flags.psh || letter == b'P',
-        ack: flags.ack || letter == b'A',
-        urg: flags.urg || letter == b'U',
-        ece: flags.ece || letter == b'E',
-        cwr: flags.cwr || letter == b'W',
+    match letter {
+        b'F' => Flags { fin: true, ..flags },
+        b'S' => Flags { syn: true, ..flags },
+        b'R' => Flags { rst: true, ..flags },
+        b'P' => Flags { psh: true, ..flags },
+        b'A' => Flags { ack: true, ..flags },
+        b'U' => Flags { urg: true, ..flags },
+        b'E' => Flags { ece: true, ..flags },
+        b'W' => Flags { cwr: true, ..flags },
+        _ => flags,
     }
 }
 

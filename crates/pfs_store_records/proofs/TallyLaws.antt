@@ -6,7 +6,10 @@ use Rattle.pfs_store_contract.specs.declared.records.NodeScope.{NodeScope}
 use Rattle.pfs_store_contract.specs.declared.records.State.{State}
 use Rattle.pfs_store_records.specs.Tallies.{nodes_of}
 use Rattle.pfs_store_records.specs.declared.nodes.Tally.{Tally}
-use Rattle.pfs_store_records.specs.Changes.{is_at, left_of, at_node, met_by, joined_of}
+use Rattle.pfs_store_records.specs.Changes.{is_at, left_by, left_of, at_node, changed_by, met_by, joined_of}
+use Rattle.pfs_store_records.specs.declared.changes.Change.{Change}
+use Rattle.pfs_store_records.specs.declared.changes.Change.TheVariants as change
+use Rattle.pfs_track.specs.StatePhases.{is_done}
 use Rattle.pfs_store_records.proofs.OneNode.{IsFaithful}
 use Rattle.pfs_store_records.proofs.Rising.{IsRisingBy}
 use Rattle.pfs_conf_values.specs.declared.actions.Rate.{Rate}
@@ -27,19 +30,25 @@ joined-faithful = record { scope = λ t. refl; source = λ t. refl; number = λ 
 -- ---- a state leaves
 
 -- the change leaves what a node is
-pub left-node : {Y : Type 0} (part : Node → Y) (s : State) (now : ℕ) (t : Tally) → part (record t.node { idle = now }) ≡ part t.node → part (left_of s now t).node ≡ part t.node
-left-node part s now t h = go (t.states - 1 == 0)
+left_by-node : {Y : Type 0} (part : Node → Y) (c : Bool) (now : ℕ) (t : Tally) → part (record t.node { idle = now }) ≡ part t.node → part (left_by c now t).node ≡ part t.node
+left_by-node part c now t h = go (t.states - 1 == 0)
   where
     go : (b : Bool) → part (if b then record t.node { idle = now } else t.node) ≡ part t.node
     go true = h
     go false = refl
 
-pub left-faithful : (s : State) (now : ℕ) → IsFaithful (left_of s now)
-left-faithful s now = record {
-  scope = λ t. left-node (λ n. n.scope) s now t refl;
-  source = λ t. left-node (λ n. n.source) s now t refl;
-  number = λ t. left-node (λ n. n.number) s now t refl;
+left_by-faithful : (c : Bool) (now : ℕ) → IsFaithful (left_by c now)
+left_by-faithful c now = record {
+  scope = λ t. left_by-node (λ n. n.scope) c now t refl;
+  source = λ t. left_by-node (λ n. n.source) c now t refl;
+  number = λ t. left_by-node (λ n. n.number) c now t refl;
 }
+
+pub left-node : {Y : Type 0} (part : Node → Y) (s : State) (now : ℕ) (t : Tally) → part (record t.node { idle = now }) ≡ part t.node → part (left_of s now t).node ≡ part t.node
+left-node part s now t h = left_by-node part (is_done s.phase) now t h
+
+pub left-faithful : (s : State) (now : ℕ) → IsFaithful (left_of s now)
+left-faithful s now = left_by-faithful (is_done s.phase) now
 
 -- ---- a packet of a state
 
@@ -55,6 +64,12 @@ met-faithful rate now c = record {
   source = λ t. met-node (λ n. n.source) rate now c t (λ s. refl);
   number = λ t. met-node (λ n. n.number) rate now c t (λ s. refl);
 }
+
+-- each change
+pub changed-faithful : (ch : Change) → IsFaithful (changed_by ch)
+changed-faithful change.Joined = joined-faithful
+changed-faithful (change.Left c now) = left_by-faithful c now
+changed-faithful (change.Completed rate now) = met-faithful rate now true
 
 -- a packet that completes no handshake changes no tally
 pub unmet : (o : Option NodeScope) (a : Addr) (rate : Option Rate) (now : ℕ) (c : Bool) → c ≡ false → (ts : List Tally) → ts ≡ map (at_node o a (met_by rate now c)) ts

@@ -1,7 +1,8 @@
 -- What states do to the tallies of source nodes: when one comes, when a packet of it comes, and when it leaves. (own)
-use Rattle.std.specs.Prelude.{ℕ, ◌≡◌, ◌+◌, ◌-◌, ◌<◌, ◌≤◌, ◌^◌, ◌==◌, Bool, true, false, if◌then◌else◌, Option, Some, None, is_some, unwrap_or, List, [], ◌∷◌, ◌++◌, map, option_map}
+use Rattle.std.specs.Prelude.{ℕ, ◌≡◌, ◌+◌, ◌-◌, ◌<◌, ◌≤◌, ◌^◌, ◌==◌, Bool, true, false, if◌then◌else◌, Option, Some, None, IfSome, is_some, unwrap_or, List, [], ◌∷◌, ◌++◌, map, option_map}
 use Rattle.std.specs.List.{find, list_any}
 use Rattle.pfs_addr_values.specs.declared.addresses.Addr.{Addr}
+use Rattle.pfs_conf_values.specs.Bounds.{IsRate}
 use Rattle.pfs_conf_values.specs.Configs.{Conf, scope_of}
 use Rattle.pfs_conf_values.specs.declared.actions.Rate.{Rate}
 use Rattle.pfs_conf_values.specs.declared.actions.Scope.TheVariants as scope
@@ -15,6 +16,8 @@ use Rattle.pfs_store_contract.specs.declared.records.NodeScope.{NodeScope}
 use Rattle.pfs_store_contract.specs.declared.records.NodeScope.TheVariants as node_scope
 use Rattle.pfs_store_contract.specs.declared.records.State.{State}
 use Rattle.pfs_store_records.specs.Tallies.{is_tally}
+use Rattle.pfs_store_records.specs.declared.changes.Change.{Change}
+use Rattle.pfs_store_records.specs.declared.changes.Change.TheVariants as change
 use Rattle.pfs_store_records.specs.declared.nodes.Tally.{Tally}
 
 -- ---- the counts of nodes
@@ -46,13 +49,16 @@ HasTally conf tallies s = (scope : NodeScope) → node_scope_of conf s.rule.0 �
 
 -- ---- a state leaves
 
--- the counts of a node after one of its states left
-abbrev pub left_of : State → ℕ → Tally → Tally
-left_of s now t = record {
+-- the counts of a node after one of its states left: a connection, or one whose handshake had not completed
+abbrev pub left_by : Bool → ℕ → Tally → Tally
+left_by connection now t = record {
   node = if t.states - 1 == 0 then record t.node { idle = now } else t.node;
   states = t.states - 1;
-  connections = t.connections - (if is_done s.phase then 1 else 0);
+  connections = t.connections - (if connection then 1 else 0);
 }
+
+abbrev pub left_of : State → ℕ → Tally → Tally
+left_of s now t = left_by (is_done s.phase) now t
 
 -- ---- a state comes
 
@@ -99,3 +105,17 @@ score_at (Some scope) source tallies = unwrap_or (option_map (λ (t : Tally). t.
 -- the counts of a node can rise
 abbrev pub IsFew : Tally → Type 0
 IsFew t = (t.states < 2 ^ 63) × (t.connections < 2 ^ 63)
+
+-- ---- each change
+
+-- the tally of a node after a change
+abbrev pub changed_by : Change → Tally → Tally
+changed_by change.Joined t = joined_of t
+changed_by (change.Left connection now) t = left_by connection now t
+changed_by (change.Completed rate now) t = met_by rate now true t
+
+-- no number of the tally passes its bound by a change, and no handshake came after it
+abbrev pub CanChange : Change → Tally → Type 0
+CanChange change.Joined t = IsFew t
+CanChange (change.Left connection now) t = Unit {0}
+CanChange (change.Completed rate now) t = IsFew t × IsScored t × (t.node.score.last ≤ now) × IfSome rate IsRate

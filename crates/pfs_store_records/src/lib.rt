@@ -2,6 +2,7 @@
 //! are found.
 #![tactic(auto)]
 
+mod changes;
 mod kept;
 mod nodes;
 mod records;

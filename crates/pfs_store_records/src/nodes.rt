@@ -5,12 +5,15 @@ ghost use Rattle.std.specs.List.{AllByRecursion, find, list_any};
 ghost use Rattle.std.specs.Map.{keys_of};
 ghost use Rattle.pfs_store_contract.specs.Counts.{scope_nodes};
 ghost use Rattle.pfs_store_contract.specs.Purging.{node_numbers};
+ghost use Rattle.pfs_store_records.specs.Changes.{CanChange, at_node, changed_by};
 ghost use Rattle.pfs_store_records.specs.Keeping.{Anywhere, AreInPlace, number_of_node, tally_in, values_at};
 ghost use Rattle.pfs_store_records.specs.Records.{IsAbove, IsRising, between};
 ghost use Rattle.pfs_store_records.specs.Retaining.{IsKeptUntil, is_past};
-ghost use Rattle.pfs_store_records.specs.Tallies.{IsOrderly, IsTallied, has_node_number, is_tally, nodes_of, other_node, put_tally};
+ghost use Rattle.pfs_store_records.specs.Tallies.{IsOrderly, has_node_number, is_tally, nodes_of, other_node};
+ghost use Rattle.pfs_store_records.specs.declared.nodes.Tally.{Tally};
 ghost use Rattle.pfs_store_records.specs.Walks.{IsPassing};
 
+use crate::changes::{Change, changed};
 use crate::records::short;
 use crate::retaining::stays_until;
 use crate::scope_counts::ScopeCounts;
@@ -182,19 +185,22 @@ impl<S: BuildHasher> Nodes<S> {
         }
     }
 
-    /// Writes a tally in place of the one that its node has. It takes no memory.
-    pub fn write(&mut self, tally: Tally)
-        requires { IsTallied tally self.old }
-        ensures nodes { self.new ≡ map (put_tally tally) self.old }
-        ensures orderly { IsOrderly self.new }
+    /// Changes the tally of the node of a scope and source, where there is one, and returns it: one search. It takes no
+    /// memory.
+    pub(crate) fn change(&mut self, scope: NodeScope, source: Addr, change: Change) -> Option<Tally>
+        requires can { (t : Tally) → find (is_tally scope source) self.old ≡ Some t → CanChange change t }
+        ensures nodes { self.new ≡ map (at_node (Some scope) source (changed_by change)) self.old }
+        ensures tally { result ≡ option_map (changed_by change) (find (is_tally scope source) self.old) }
+        ensures absent { result ≡ None → (self.new ≡ self.old) × (find (is_tally scope source) self.old ≡ None) }
     {
-        let source = Tracked {
-            scope: tally.node.scope,
-            source: tally.node.source,
-        };
-        match self.table.get(&source) {
-            Some(place) => self.slab[*place as usize] = tally,
-            None => unreachable!(),
+        match self.table.get(&Tracked { scope, source }) {
+            Some(place) => {
+                let place = *place as usize;
+                let tally = changed(self.slab[place], change);
+                self.slab[place] = tally;
+                Some(tally)
+            }
+            None => None,
         }
     }
 
@@ -218,6 +224,7 @@ impl<S: BuildHasher> Nodes<S> {
     }
 }
 
+#[inline(never)]
 fn pass_range(
     slab: &Slab<Tally>,
     order: &BTreeMap<u64, u32>,
@@ -242,10 +249,12 @@ fn pass_range(
         let Some(tally) = slab.get(*place as usize) else {
             break;
         };
-        let Some(moment) = stays_until(config, tally, now) else {
-            break;
-        };
-        until = until.min(moment);
+        if tally.states == 0 {
+            let Some(moment) = stays_until(config, tally, now) else {
+                break;
+            };
+            until = until.min(moment);
+        }
         stayed += 1;
         last = *number;
     }

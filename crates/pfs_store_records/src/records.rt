@@ -202,6 +202,7 @@ fn look<'a>(slab: &'a Slab<Kept>, place: usize, meter: &mut Meter) -> &'a Kept
     &slab[place]
 }
 
+#[inline(never)]
 fn walk_range<T: Lifetimes>(
     slab: &Slab<Kept>,
     places: &BTreeMap<u64, u32>,

@@ -14,8 +14,8 @@ use pfs_track::is_expired;
 #[derive(Clone, Copy)]
 pub(crate) struct Stay {
     pub(crate) rule: RuleNo,
-    pub(crate) timeout: TimeoutName,
     pub(crate) seconds: u64,
+    pub(crate) timeout: TimeoutName,
 }
 
 impl Stay {
@@ -32,15 +32,23 @@ pub(crate) fn stay_of<T: Lifetimes>(lifetimes: &T, kept: &Kept, known: Option<St
     ensures value { result.seconds ≡ T.lifetime lifetimes.now kept.now.rule (slot kept.now.phase) }
     ensures known { IsStay (T.lifetime lifetimes.now) result }
 {
-    let rule = kept.rule();
-    let timeout = kept.timeout();
     match known {
-        Some(stay) if stay.is_of(rule, timeout) => stay,
-        _ => Stay {
-            rule,
-            timeout,
-            seconds: lifetimes.seconds(rule, kept.phase()),
-        },
+        Some(stay) if stay.is_of(kept.rule(), kept.timeout()) => stay,
+        _ => computed(lifetimes, kept),
+    }
+}
+
+/// How long the state of a record may stay, computed anew. Not inlined: so a walk over states of one kind has few steps.
+#[inline(never)]
+fn computed<T: Lifetimes>(lifetimes: &T, kept: &Kept) -> Stay
+    ensures value { result.seconds ≡ T.lifetime lifetimes.now kept.now.rule (slot kept.now.phase) }
+    ensures known { IsStay (T.lifetime lifetimes.now) result }
+{
+    let rule = kept.rule();
+    Stay {
+        rule,
+        seconds: lifetimes.seconds(rule, kept.phase()),
+        timeout: kept.timeout(),
     }
 }
 

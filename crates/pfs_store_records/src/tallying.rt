@@ -1,6 +1,6 @@
 //! What a state does to the tally of its node: when it comes, when a packet of it comes, and when it leaves.
 
-ghost use Rattle.std.specs.Prelude.{◌≡◌, ◌≤◌, [], IfSome, OnErr, OnOk, Some, map, true};
+ghost use Rattle.std.specs.Prelude.{◌≡◌, [], IfSome, OnErr, OnOk, Some, map, true};
 ghost use Rattle.std.specs.List.{AllByRecursion, find, list_any};
 ghost use Rattle.pfs_conf_values.specs.Configs.{options_of};
 ghost use Rattle.pfs_conf_values.specs.Bounds.{IsRate};
@@ -9,8 +9,9 @@ ghost use Rattle.pfs_store_contract.specs.Purging.{node_numbers};
 ghost use Rattle.pfs_store_contract.specs.Worlds.{IsUpToNow, lists};
 ghost use Rattle.pfs_store_records.specs.Records.{IsAbove};
 ghost use Rattle.pfs_store_records.specs.Tallies.{is_tally, nodes_of};
-ghost use Rattle.pfs_store_records.specs.Changes.{HasTally, IsFew, IsScored, at_node, connections_at, tallies_with_state, left_of, met_by, score_at, scored_by};
+ghost use Rattle.pfs_store_records.specs.Changes.{HasTally, IsFew, IsScored, at_node, connections_at, tallies_with_state, left_of, met_by, score_at};
 
+use crate::changes::Change;
 use crate::nodes::{Nodes, Tally};
 use pfs_addr_values::{Addr, NoMemory};
 use pfs_conf_values::{Config, Rate, RuleNo};
@@ -37,17 +38,10 @@ pub fn join<S: BuildHasher>(
     ensures ok { OnOk result (nodes.new ≡ tallies_with_state scope state.now nodes.old) }
     ensures err { OnErr result (nodes.new ≡ nodes.old) }
 {
-    nodes.are_orderly();
     match scope {
         None => Ok(()),
-        Some(scope) => match nodes.get(scope, state.source) {
-            Some(tally) => {
-                nodes.write(Tally {
-                    states: tally.states + 1,
-                    ..tally
-                });
-                Ok(())
-            }
+        Some(scope) => match nodes.change(scope, state.source, Change::Joined) {
+            Some(_) => Ok(()),
             None => nodes.push(Tally {
                 node: Node {
                     number: state.number,
@@ -72,33 +66,12 @@ pub fn leave<S: BuildHasher>(
 )
     ensures { nodes.new ≡ map (at_node scope state.now.source (left_of state.now now)) nodes.old }
 {
-    nodes.are_orderly();
     match scope {
         None => {}
-        Some(scope) => match nodes.get(scope, state.source) {
-            Some(tally) => nodes.write(left(tally, state, now)),
-            None => {}
-        },
-    }
-}
-
-fn left(tally: Tally, state: &State, now: u64) -> Tally
-    ensures { result ≡ left_of state.now now tally }
-{
-    let states = tally.states.saturating_sub(1);
-    Tally {
-        node: if states == 0 {
-            Node {
-                idle: now,
-                ..tally.node
-            }
-        } else {
-            tally.node
-        },
-        states,
-        connections: tally
-            .connections
-            .saturating_sub(if state.phase.done() { 1 } else { 0 }),
+        Some(scope) => {
+            let connection = state.phase.done();
+            nodes.change(scope, state.source, Change::Left { connection, now });
+        }
     }
 }
 
@@ -153,49 +126,14 @@ fn meet_at<S: BuildHasher>(
     ensures nodes { nodes.new ≡ map (at_node (Some scope) source (met_by rate now completed)) nodes.old }
     ensures tally { find (is_tally scope source) nodes.new ≡ Some result }
 {
-    nodes.are_orderly();
-    match nodes.get(scope, source) {
-        Some(tally) => {
-            let met = after_packet(tally, rate, completed, now);
-            if completed {
-                nodes.write(met);
-            }
-            met
-        }
-        None => unreachable!(),
-    }
-}
-
-fn after_packet(tally: Tally, rate: Option<Rate>, completed: bool, now: u64) -> Tally
-    requires few { IsFew tally }
-    requires scored { IsScored tally }
-    requires order { tally.node.score.last ≤ now }
-    requires rate { IfSome rate IsRate }
-    ensures { result ≡ met_by rate now completed tally }
-{
-    if completed {
-        Tally {
-            node: scored(tally.node, rate, now),
-            states: tally.states,
-            connections: tally.connections + 1,
-        }
+    let tally = if completed {
+        nodes.change(scope, source, Change::Completed { rate, now })
     } else {
-        tally
-    }
-}
-
-fn scored(node: Node, rate: Option<Rate>, now: u64) -> Node
-    requires scored { node.score.value ≤ 4294968000 }
-    requires order { node.score.last ≤ now }
-    requires rate { IfSome rate IsRate }
-    ensures { result ≡ scored_by rate now node }
-{
-    match rate {
-        Some(rate) => Node {
-            score: node.score.add(now, u64::from(rate.seconds)),
-            ..node
-        },
-        None => node,
+        nodes.get(scope, source)
+    };
+    match tally {
+        Some(tally) => tally,
+        None => unreachable!(),
     }
 }
 

@@ -1,53 +1,62 @@
 -- Answers of meet_at: the node is there, and it alone changes by the packet (`nodes`, `tally`).
-use Rattle.std.proofs.Common.{◌∙◌, Some, ap, sym}
+use Rattle.std.proofs.Common.{◌≡◌, ◌∙◌, List, Option, Some, None, ap, map, option_map, refl, sym, true}
 use Rattle.std.specs.List.{find}
+use Rattle.pfs_addr_values.specs.declared.addresses.Addr.{Addr}
+use Rattle.pfs_store_contract.specs.declared.records.NodeScope.{NodeScope}
 use Rattle.pfs_store_records.specs.Tallies.{is_tally}
 use Rattle.pfs_store_records.specs.declared.nodes.Tally.{Tally}
-use Rattle.pfs_store_records.specs.Changes.{IsFew, IsScored, met_by}
-use Rattle.pfs_store_records.proofs.TallyLaws.{met-faithful, unmet, rising-tallies}
-use Rattle.pfs_store_records.proofs.OneNode.{find-at, put-at, scored-found, tallied-at}
+use Rattle.pfs_store_records.specs.Changes.{IsFew, IsScored, at_node, met_by}
+use Rattle.pfs_store_records.proofs.TallyLaws.{met-faithful, unmet}
+use Rattle.pfs_store_records.proofs.OneNode.{IsFaithful, find-at, scored-found}
 use Rattle.pfs_store_records.proofs.Searches.{found-all, none-any}
 use Rattle.pfs_store_records.proofs.tallying.meet_at.Goals as goal
+use Rattle.pfs_store_records.proofs.tallying.meet_at.Goals.{then-completed, else-completed}
 
-pub after_packet-met-requires-clause-few : goal.after_packet-met-requires-clause-few
-after_packet-met-requires-clause-few g c = found-all IsFew (is_tally c.args.scope c.args.source) c.in-Some.tally c.args.nodes.now c.requires.few (sym c.in-Some.ensures)
+-- the changed tally is found
+found-changed : (sc : NodeScope) (a : Addr) (f : Tally → Tally) → IsFaithful f → (r : Tally) (ts : List Tally) → Some r ≡ option_map f (find (is_tally sc a) ts)
+    → find (is_tally sc a) (map (at_node (Some sc) a f) ts) ≡ Some r
+found-changed sc a f k r ts h = go (find (is_tally sc a) ts) refl h
+  where
+    go : (o : Option Tally) → find (is_tally sc a) ts ≡ o → Some r ≡ option_map f o → find (is_tally sc a) (map (at_node (Some sc) a f) ts) ≡ Some r
+    go None l e = absurd cc
+    go (Some t) l e = find-at sc a f k t ts l ∙ sym e
 
-pub after_packet-met-requires-clause-scored : goal.after_packet-met-requires-clause-scored
-after_packet-met-requires-clause-scored g c = found-all IsScored (is_tally c.args.scope c.args.source) c.in-Some.tally c.args.nodes.now c.requires.scored (sym c.in-Some.ensures)
-
-pub after_packet-met-requires-clause-order : goal.after_packet-met-requires-clause-order
-after_packet-met-requires-clause-order g c = scored-found c.args.now c.args.scope c.args.source c.in-Some.tally c.args.nodes.now c.requires.order (sym c.in-Some.ensures)
-
-pub write-requires : goal.write-requires
-write-requires g c =
-    let k = met-faithful c.args.rate c.args.now c.args.completed in
-    let t = c.in-Some.tally in
-    let e = c.after_packet-met.ensures in
-    tallied-at c.args.scope c.args.source c.after_packet-met.result t c.args.nodes.now (sym c.in-Some.ensures)
-    (ap (λ (u : Tally). u.node.scope) e ∙ k.scope t) (ap (λ (u : Tally). u.node.source) e ∙ k.source t) (ap (λ (u : Tally). u.node.number) e ∙ k.number t)
-
-pub returns-then-completed-clause-nodes : goal.returns-then-completed-clause-nodes
-returns-then-completed-clause-nodes g c =
-    let k = met-faithful c.args.rate c.args.now c.args.completed in
-    let t = c.in-Some.tally in
-    let e = c.after_packet-met.ensures in
-    c.write.ensures.nodes
-    ∙ put-at c.args.scope c.args.source c.after_packet-met.result t (met_by c.args.rate c.args.now c.args.completed) c.args.nodes.now (rising-tallies c.args.nodes.now c.are_orderly.ensures.rising) c.are_orderly.ensures.distinct
-    (sym c.in-Some.ensures) (ap (λ (u : Tally). u.node.number) e ∙ k.number t) (sym e)
-
-pub returns-then-completed-clause-tally : goal.returns-then-completed-clause-tally
-returns-then-completed-clause-tally g c =
-    ap (λ ts. find (is_tally c.args.scope c.args.source) ts) (returns-then-completed-clause-nodes g c)
-    ∙ find-at c.args.scope c.args.source (met_by c.args.rate c.args.now c.args.completed) (met-faithful c.args.rate c.args.now c.args.completed) c.in-Some.tally c.args.nodes.now (sym c.in-Some.ensures)
-    ∙ ap Some (sym c.after_packet-met.ensures)
+pub change-tally-requires : goal.change-tally-requires
+change-tally-requires g c = record {
+  can = λ t f. (
+    found-all IsFew (is_tally c.args.scope c.args.source) t c.args.nodes.now c.requires.few f,
+    found-all IsScored (is_tally c.args.scope c.args.source) t c.args.nodes.now c.requires.scored f,
+    scored-found c.args.now c.args.scope c.args.source t c.args.nodes.now c.requires.order f,
+    c.requires.rate,
+  );
+}
 
 pub unreachable-requires : goal.unreachable-requires
-unreachable-requires g c = let z = none-any (is_tally c.args.scope c.args.source) c.args.nodes.now (sym c.in-None.ensures) in cc (z, c.requires.has)
+unreachable-requires g c = elim c.if-completed.branch [
+  | then-completed b ↦
+      let n = (b.change-tally.ensures.absent (sym b.tally-is ∙ c.in-None.is)).1 in
+      let z = none-any (is_tally c.args.scope c.args.source) c.args.nodes.now n in
+      cc (z, c.requires.has)
+  | else-completed b ↦
+      let z = none-any (is_tally c.args.scope c.args.source) c.args.nodes.now (sym b.get-tally.ensures ∙ sym b.tally-is ∙ c.in-None.is) in
+      cc (z, c.requires.has)
+]
 
-pub returns-else-completed-clause-nodes : goal.returns-else-completed-clause-nodes
-returns-else-completed-clause-nodes g c = unmet (Some c.args.scope) c.args.source c.args.rate c.args.now c.args.completed c.if-completed.false c.args.nodes.now
+pub returns-clause-nodes : goal.returns-clause-nodes
+returns-clause-nodes g c = elim c.if-completed.branch [
+  | then-completed b ↦
+      b.nodes-is ∙ b.change-tally.ensures.nodes
+      ∙ ap (λ x. map (at_node (Some c.args.scope) c.args.source (met_by c.args.rate c.args.now x)) c.args.nodes.now) (sym b.if-completed.true)
+  | else-completed b ↦
+      b.nodes-is ∙ unmet (Some c.args.scope) c.args.source c.args.rate c.args.now c.args.completed b.if-completed.false c.args.nodes.now
+]
 
-pub returns-else-completed-clause-tally : goal.returns-else-completed-clause-tally
-returns-else-completed-clause-tally g c =
-    sym c.in-Some.ensures
-    ∙ ap Some (sym (c.after_packet-met.ensures ∙ ap (λ b. met_by c.args.rate c.args.now b c.in-Some.tally) c.if-completed.false))
+pub returns-clause-tally : goal.returns-clause-tally
+returns-clause-tally g c = elim c.if-completed.branch [
+  | then-completed b ↦
+      ap (find (is_tally c.args.scope c.args.source)) (b.nodes-is ∙ b.change-tally.ensures.nodes)
+      ∙ found-changed c.args.scope c.args.source (met_by c.args.rate c.args.now true) (met-faithful c.args.rate c.args.now true) c.in-Some.tally c.args.nodes.now
+      (sym c.in-Some.is ∙ b.tally-is ∙ b.change-tally.ensures.tally)
+  | else-completed b ↦
+      ap (find (is_tally c.args.scope c.args.source)) b.nodes-is ∙ sym b.get-tally.ensures ∙ sym b.tally-is ∙ c.in-Some.is
+]

@@ -1,0 +1,74 @@
+//! How the tally of a source node changes with its states.
+
+ghost use Rattle.std.specs.Prelude.{◌≡◌, ◌≤◌, IfSome};
+ghost use Rattle.pfs_conf_values.specs.Bounds.{IsRate};
+ghost use Rattle.pfs_store_records.specs.Changes.{CanChange, changed_by, left_by, scored_by};
+
+use crate::nodes::Tally;
+use pfs_conf_values::Rate;
+use pfs_store_contract::Node;
+
+/// What happens to the tally of a source node.
+#[derive(Clone, Copy)]
+pub(crate) enum Change {
+    /// A state comes.
+    Joined,
+    /// A state leaves: a connection, or one whose handshake has not completed.
+    Left { connection: bool, now: u64 },
+    /// The handshake of a state completes, whose rule may have a rate.
+    Completed { rate: Option<Rate>, now: u64 },
+}
+
+/// The tally after a change.
+pub(crate) fn changed(tally: Tally, change: Change) -> Tally
+    requires { CanChange change tally }
+    ensures { result ≡ changed_by change tally }
+{
+    match change {
+        Change::Joined => Tally {
+            states: tally.states + 1,
+            ..tally
+        },
+        Change::Left { connection, now } => left(tally, connection, now),
+        Change::Completed { rate, now } => Tally {
+            node: scored(tally.node, rate, now),
+            states: tally.states,
+            connections: tally.connections + 1,
+        },
+    }
+}
+
+fn left(tally: Tally, connection: bool, now: u64) -> Tally
+    ensures { result ≡ left_by connection now tally }
+{
+    let states = tally.states.saturating_sub(1);
+    Tally {
+        node: if states == 0 {
+            Node {
+                idle: now,
+                ..tally.node
+            }
+        } else {
+            tally.node
+        },
+        states,
+        connections: tally
+            .connections
+            .saturating_sub(if connection { 1 } else { 0 }),
+    }
+}
+
+fn scored(node: Node, rate: Option<Rate>, now: u64) -> Node
+    requires scored { node.score.value ≤ 4294968000 }
+    requires order { node.score.last ≤ now }
+    requires rate { IfSome rate IsRate }
+    ensures { result ≡ scored_by rate now node }
+{
+    match rate {
+        Some(rate) => Node {
+            score: node.score.add(now, u64::from(rate.seconds)),
+            ..node
+        },
+        None => node,
+    }
+}
