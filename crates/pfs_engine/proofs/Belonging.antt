@@ -1,5 +1,5 @@
 -- A packet of a held state: there is room in the overload table where it completes a handshake, and what comes of its touch.
-use Rattle.std.proofs.Common.{◌≡◌, ℕ, true, Option, None, Some, ap, ◌∙◌, sym, subst, refl}
+use Rattle.std.proofs.Common.{◌≡◌, ℕ, Bool, true, false, Option, None, Some, ap, ◌∙◌, sym, subst, refl}
 use Rattle.std.specs.Prelude.{option_map}
 use Rattle.pfs_addr_values.specs.Keys.{key_of}
 use Rattle.pfs_addr_values.specs.Packets.{PacketView}
@@ -9,7 +9,7 @@ use Rattle.pfs_eval.specs.Holdings.{Holdings}
 use Rattle.pfs_conf_values.specs.Configs.{Conf, options_of}
 use Rattle.pfs_conf_values.specs.declared.items.RuleNo.{RuleNo}
 use Rattle.pfs_store_contract.specs.Counts.{is_of_source}
-use Rattle.pfs_store_contract.specs.Calls.{source_states, touch_of, world_touched, state_number, state_rule}
+use Rattle.pfs_store_contract.specs.Calls.{renewal_of, source_states, told_at, touch_of, world_touched, state_number, state_rule}
 use Rattle.pfs_store_contract.specs.Touching.{completes_at, numbered_state_after, world_after_touch}
 use Rattle.pfs_store_contract.specs.Worlds.{World, state_with}
 use Rattle.pfs_store_contract.specs.declared.records.State.{State}
@@ -34,13 +34,13 @@ found_state (Some s) number e = let same : state_number s ≡ number = cc in (s,
 pub room_after : (conf store_conf : Conf) (m : Held) (p : PacketView) (now : ℕ) (number : StateNo) (t : Touched) (rule : RuleNo) (tables : Holdings)
     → IsKept conf m now → option_map state_number (state_with (key_of p) m.world) ≡ Some number
     → option_map state_rule (state_with (key_of p) m.world) ≡ Some rule
-    → Some t ≡ option_map (touch_of store_conf m.world p now) (state_with (key_of p) m.world)
+    → Some t ≡ option_map (renewal_of store_conf m.world p now) (state_with (key_of p) m.world)
     → (is_tcp p.proto ≡ true → HasRoomFor tables (options_of conf rule.0).overload)
     → t.completed ≡ true → HasRoomFor tables (options_of conf t.rule.0).overload
 room_after conf store_conf m p now number t rule tables kept e rule_is touch_is room done =
     let (s, found, same) = found_state (state_with (key_of p) m.world) number e in
-    let told : Some t ≡ Some (touch_of store_conf m.world p now s) = touch_is ∙ ap (option_map (touch_of store_conf m.world p now)) found in
-    let t_is : t ≡ touch_of store_conf m.world p now s = cc in
+    let told : Some t ≡ Some (renewal_of store_conf m.world p now s) = touch_is ∙ ap (option_map (renewal_of store_conf m.world p now)) found in
+    let t_is : t ≡ renewal_of store_conf m.world p now s = cc in
     let completes : completes_at p s ≡ true = sym (ap (λ (x : Touched). x.completed) t_is) ∙ done in
     let at : Some rule ≡ Some s.rule = sym rule_is ∙ ap (option_map state_rule) found in
     let same_rule : rule ≡ s.rule = cc in
@@ -50,34 +50,42 @@ room_after conf store_conf m p now number t rule tables kept e rule_is touch_is 
 -- the source of the state has as many states as before
 pub beside_after : (store_conf : Conf) (w after : World) (p : PacketView) (now : ℕ) (number : StateNo) (t : Touched)
     → option_map state_number (state_with (key_of p) w) ≡ Some number → after ≡ world_touched store_conf w p now (state_with (key_of p) w)
-    → Some t ≡ option_map (touch_of store_conf w p now) (state_with (key_of p) w)
+    → Some t ≡ option_map (renewal_of store_conf w p now) (state_with (key_of p) w)
     → source_states t.source after.states ≡ states_beside w (state_with (key_of p) w)
 beside_after store_conf w after p now number t e is touch_is =
     let (s, found, same) = found_state (state_with (key_of p) w) number e in
-    let told : Some t ≡ Some (touch_of store_conf w p now s) = touch_is ∙ ap (option_map (touch_of store_conf w p now)) found in
-    let t_is : t ≡ touch_of store_conf w p now s = cc in
+    let told : Some t ≡ Some (renewal_of store_conf w p now s) = touch_is ∙ ap (option_map (renewal_of store_conf w p now)) found in
+    let t_is : t ≡ renewal_of store_conf w p now s = cc in
     let after_is : after ≡ world_after_touch store_conf w s p now = is ∙ ap (world_touched store_conf w p now) found in
     ap (λ (a : Addr). source_states a after.states) (ap (λ (x : Touched). x.source) t_is)
     ∙ (ap (λ (v : World). source_states s.source v.states) after_is
     ∙ (count-map (is_of_source s.source) (numbered_state_after s.number p now) (λ (x : State). ap (λ (a : Addr). same_addr a s.source) (renewed-same s.number p now x).source) w.states
     ∙ sym (ap (states_beside w) found)))
 
+-- what is not told of a packet that completes no handshake, the answer does not ask
+told_where : (conf : Conf) (h : Held) (number now : ℕ) (done : Bool) (t : Touched) → t.completed ≡ done → answer_of_touch conf h number now (told_at done t) ≡ answer_of_touch conf h number now t
+told_where conf h number now true t e = refl
+told_where conf h number now false t e = rw e refl
+
 -- what a packet of the state makes of the machine is what comes of its touch
 pub told_after : (conf store_conf : Conf) (m : Held) (after : World) (p : PacketView) (now : ℕ) (number : StateNo) (t : Touched) → store_conf ≡ conf
     → option_map state_number (state_with (key_of p) m.world) ≡ Some number → after ≡ world_touched store_conf m.world p now (state_with (key_of p) m.world)
-    → Some t ≡ option_map (touch_of store_conf m.world p now) (state_with (key_of p) m.world)
+    → Some t ≡ option_map (renewal_of store_conf m.world p now) (state_with (key_of p) m.world)
     → answer_of_touch conf (held_of after m.tables) number.0 now t ≡ answer_to_packet conf m p now
 told_after conf store_conf m after p now number t made_for e is touch_is =
     let (s, found, same) = found_state (state_with (key_of p) m.world) number e in
-    let told : Some t ≡ Some (touch_of store_conf m.world p now s) = touch_is ∙ ap (option_map (touch_of store_conf m.world p now)) found in
-    let t_is : t ≡ touch_of store_conf m.world p now s = cc in
+    let told : Some t ≡ Some (renewal_of store_conf m.world p now s) = touch_is ∙ ap (option_map (renewal_of store_conf m.world p now)) found in
+    let t_is : t ≡ renewal_of store_conf m.world p now s = cc in
     let after_is : after ≡ world_after_touch store_conf m.world s p now = is ∙ ap (world_touched store_conf m.world p now) found in
     let number_is : number.0 ≡ s.number = sym same in
-    let first : answer_of_touch conf (held_of after m.tables) number.0 now t ≡ answer_of_touch conf (held_of (world_after_touch store_conf m.world s p now) m.tables) s.number now (touch_of store_conf m.world p now s) =
+    let first : answer_of_touch conf (held_of after m.tables) number.0 now t ≡ answer_of_touch conf (held_of (world_after_touch store_conf m.world s p now) m.tables) s.number now (renewal_of store_conf m.world p now s) =
     (λ i. answer_of_touch conf (held_of (after_is i) m.tables) (number_is i) now (t_is i)) in
-    let second : answer_of_touch conf (held_of (world_after_touch store_conf m.world s p now) m.tables) s.number now (touch_of store_conf m.world p now s) ≡ answer_of_state conf m p now (Some s) =
+    let second : answer_of_touch conf (held_of (world_after_touch store_conf m.world s p now) m.tables) s.number now (renewal_of store_conf m.world p now s)
+    ≡ answer_of_touch conf (held_of (world_after_touch store_conf m.world s p now) m.tables) s.number now (touch_of store_conf m.world p now s) =
+    told_where conf (held_of (world_after_touch store_conf m.world s p now) m.tables) s.number now (completes_at p s) (touch_of store_conf m.world p now s) refl in
+    let third : answer_of_touch conf (held_of (world_after_touch store_conf m.world s p now) m.tables) s.number now (touch_of store_conf m.world p now s) ≡ answer_of_state conf m p now (Some s) =
     ap (λ (k : Conf). answer_of_touch conf (held_of (world_after_touch k m.world s p now) m.tables) s.number now (touch_of k m.world p now s)) made_for in
-    first ∙ (second ∙ sym (ap (answer_of_state conf m p now) found))
+    first ∙ (second ∙ (third ∙ sym (ap (answer_of_state conf m p now) found)))
 
 -- ---- what is held, opened after room was made
 

@@ -53,7 +53,7 @@ pub(crate) fn take_packet_of_state<S: Store>(
     ensures looks { AreLooksOf S.counts held.old.config held.old.held.world packet.now result looks.new }
 {
     make_room(held, found.rule, packet)?;
-    let touched = held.store.touch(found, packet, now, looks);
+    let touched = held.store.renew(found, packet, now, looks);
     Ok(complete_handshake(held, found, &touched, now, looks))
 }
 

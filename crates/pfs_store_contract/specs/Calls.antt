@@ -1,9 +1,10 @@
 -- What the calls of a store answer and leave, by the definitions of the machine.
-use Rattle.std.specs.Prelude.{ℕ, ◌+◌, ◌-◌, ◌==◌, not, Bool, Option, Some, None, List, length, filter, take, Result, Ok, Err}
+use Rattle.std.specs.Prelude.{ℕ, ◌+◌, ◌-◌, ◌==◌, not, Bool, if◌then◌else◌, Option, Some, None, List, length, filter, take, Result, Ok, Err}
 use Rattle.pfs_addr_values.specs.Packets.{PacketView}
 use Rattle.pfs_addr_values.specs.declared.addresses.Addr.{Addr}
 use Rattle.pfs_conf_values.specs.Configs.{Conf}
 use Rattle.pfs_conf_values.specs.declared.items.RuleNo.{RuleNo}
+use Rattle.pfs_track.specs.Scores.{zero_score}
 use Rattle.pfs_store_contract.specs.Admission.{world_after_admission, limit_met}
 use Rattle.pfs_store_contract.specs.Counts.{is_of_source, node_scope_of}
 use Rattle.pfs_store_contract.specs.Leaving.{is_flushed, world_without}
@@ -55,6 +56,13 @@ touch_of conf w p now s = record {
   connections = connections_in conf s.source (world_after_touch conf w s p now).states (node_scope_of conf s.rule.0);
   score = score_in s.source (world_after_touch conf w s p now).nodes (node_scope_of conf s.rule.0);
 }
+
+-- the same, where the connections and the score are told at these packets alone; at others they are 0
+abbrev pub told_at : Bool → Touched → Touched
+told_at told t = record t { connections = if told then t.connections else 0; score = if told then t.score else zero_score }
+
+abbrev pub renewal_of : Conf → World → PacketView → ℕ → State → Touched
+renewal_of conf w p now s = told_at (completes_at p s) (touch_of conf w p now s)
 
 -- ---- states are killed or flushed
 

@@ -1,5 +1,8 @@
 //! What is held: states and source nodes, and what calls report of them.
 
+ghost use Rattle.std.specs.Prelude.{◌≡◌};
+ghost use Rattle.pfs_store_contract.specs.Calls.{told_at};
+
 use pfs_addr_values::{Addr, Dir, FlowKey};
 use pfs_conf_values::RuleNo;
 use pfs_track::{Score, StatePhase};
@@ -91,6 +94,23 @@ pub struct Touched {
     pub connections: u64,
     /// The score of the source's node after it; 0 at moment 0 for a rule that tracks no sources.
     pub score: Score,
+}
+
+impl Touched {
+    /// What is told where the connections and the score are told at a completed handshake alone. It takes no memory.
+    pub(crate) fn told_where_completed(self) -> Touched
+        ensures { result ≡ told_at self.completed self }
+    {
+        if self.completed {
+            self
+        } else {
+            Touched {
+                connections: 0,
+                score: Score::default(),
+                ..self
+            }
+        }
+    }
 }
 
 /// What one slice of a round did.

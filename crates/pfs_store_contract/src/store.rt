@@ -4,7 +4,7 @@ ghost use Rattle.std.specs.Prelude.{◌≡◌, ◌+◌, ◌<◌, ◌≤◌, ◌^
 ghost use Rattle.pfs_addr_values.specs.Keys.{key_of};
 ghost use Rattle.pfs_addr_values.specs.Packets.{run_limit};
 ghost use Rattle.pfs_conf_values.specs.Configs.{Conf, options_at};
-ghost use Rattle.pfs_store_contract.specs.Calls.{packet_limit, answer_at, world_at, source_states, world_flushed, flushed_count, world_killed, node_slice_of, state_slice_of, touch_of, world_touched, state_number, state_rule};
+ghost use Rattle.pfs_store_contract.specs.Calls.{packet_limit, answer_at, world_at, source_states, world_flushed, flushed_count, world_killed, node_slice_of, state_slice_of, renewal_of, touch_of, world_touched, state_number, state_rule};
 ghost use Rattle.pfs_store_contract.specs.Purging.{node_slice, state_slice};
 ghost use Rattle.pfs_store_contract.specs.Quiet.{NodesStay, StatesStay, world_after_quiet};
 ghost use Rattle.pfs_store_contract.specs.Worlds.{IsUpToNow, World, holds_number, state_with};
@@ -98,6 +98,26 @@ pub trait Store {
         ensures uncounted { counts ≡ false → meter.new ≡ meter.old }
         ensures most { meter.new ≤ meter.old + run_limit }
         ensures config { config self.new ≡ config self.old };
+
+    /// Takes a packet as `touch` does. Where the handshake does not complete it need not look for the source's node: it tells no
+    /// connections then, and the score 0 at moment 0. (own)
+    fn renew(&mut self, found: Found, packet: &Packet, now: u64, meter: &mut Meter) -> Touched
+        requires held { option_map state_number (state_with (key_of packet.now) (world self.old)) ≡ Some found.number }
+        requires reached { reaches self.old found ≡ true }
+        requires order { IsUpToNow now (world self.old) }
+        requires meter { meter.old ≤ 2 ^ 63 }
+        ensures answer { Some result
+            ≡ option_map (renewal_of (config self.old) (world self.old) packet.now now) (state_with (key_of packet.now) (world self.old)) }
+        ensures world { world self.new
+            ≡ world_touched (config self.old) (world self.old) packet.now now (state_with (key_of packet.now) (world self.old)) }
+        ensures reached { reaches self.new found ≡ true }
+        ensures looks { counts ≡ true → meter.new ≡ meter.old + 1 }
+        ensures uncounted { counts ≡ false → meter.new ≡ meter.old }
+        ensures most { meter.new ≤ meter.old + run_limit }
+        ensures config { config self.new ≡ config self.old }
+    {
+        self.touch(found, packet, now, meter).told_where_completed()
+    }
 
     /// Takes out the state that was found. A node that loses its last state has been idle since `now`. It looks at one record.
     fn kill(&mut self, found: Found, now: u64, meter: &mut Meter)

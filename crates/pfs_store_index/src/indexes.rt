@@ -1,6 +1,6 @@
 //! What is held, and what finds it: each index and each count is tied to the records.
 
-ghost use Rattle.std.specs.Prelude.{◌≡◌, ◌+◌, ◌-◌, ◌<◌, ◌≤◌, ◌^◌, ◌==◌, ◌++◌, ◌∷◌, [], IfOk, IfSome, IsSome, None, OnErr, OnOk, Some, filter, is_some, length, map, not, option_map, slice_get, true};
+ghost use Rattle.std.specs.Prelude.{◌≡◌, ◌+◌, ◌-◌, ◌<◌, ◌≤◌, ◌^◌, ◌==◌, ◌||◌, ◌++◌, ◌∷◌, [], IfOk, IfSome, IsSome, None, OnErr, OnOk, Some, filter, is_some, length, map, not, option_map, slice_get, true};
 ghost use Rattle.std.specs.List.{AllByRecursion, find};
 ghost use Rattle.indexmap.specs.IndexMap.{get};
 ghost use Rattle.pfs_addr_values.specs.Keys.{key_of};
@@ -10,7 +10,7 @@ ghost use Rattle.pfs_conf_values.specs.Configs.{options_at};
 ghost use Rattle.pfs_store_contract.specs.Admission.{nodes_with};
 ghost use Rattle.pfs_store_contract.specs.Counts.{has_node, node_scope_of, node_states, rule_states, scope_nodes};
 ghost use Rattle.pfs_store_contract.specs.Leaving.{node_after_leaving};
-ghost use Rattle.pfs_store_contract.specs.Calls.{other_than, touch_of, state_number, state_rule};
+ghost use Rattle.pfs_store_contract.specs.Calls.{other_than, told_at, touch_of, state_number, state_rule};
 ghost use Rattle.pfs_store_contract.specs.Plain.{AreCounts};
 ghost use Rattle.pfs_store_contract.specs.Purging.{is_over, node_numbers, state_numbers};
 ghost use Rattle.pfs_store_contract.specs.Quiet.{NodeStays};
@@ -303,11 +303,13 @@ impl<S: BuildHasher> Indexes<S> {
         }
     }
 
-    /// Takes a packet of the state that was found by its key: one look, and no search by key.
+    /// Takes a packet of the state that was found by its key: one look, and no search by key. What the source's node has is told
+    /// where the handshake completes, and where it is asked for.
     pub(crate) fn renew(
         &mut self,
         found: Found,
         packet: &Packet,
+        asked: bool,
         now: u64,
         meter: &mut Meter,
     ) -> Renewed
@@ -320,8 +322,8 @@ impl<S: BuildHasher> Indexes<S> {
         ensures states { self.new.states ≡ map (numbered_state_after result.before.number packet.now now) self.old.states }
         ensures nodes { self.new.nodes
             ≡ nodes_touched self.old.config self.old.nodes result.before now (completes_at packet.now result.before) }
-        ensures told { result.touched
-            ≡ touch_of self.old.config (lists self.old.states self.old.nodes [] [] 0) packet.now now result.before }
+        ensures told { result.touched ≡ told_at (asked || completes_at packet.now result.before)
+            (touch_of self.old.config (lists self.old.states self.old.nodes [] [] 0) packet.now now result.before) }
         ensures reached { is_reached self.new.records found ≡ true }
         ensures config { self.new.config ≡ self.old.config }
         ensures looks { meter.new ≡ meter.old + 1 }
@@ -330,7 +332,7 @@ impl<S: BuildHasher> Indexes<S> {
         let state = self.records.read_at(found.place, meter);
         let (after, completed) = stepped(&state, packet, now);
         self.records.write_at(found.place, after);
-        let met = meet(&self.config, &mut self.nodes, &state, completed, now);
+        let met = meet(&self.config, &mut self.nodes, &state, completed, asked, now);
         Renewed {
             before: state,
             touched: Touched {

@@ -1,11 +1,13 @@
 //! A store by indexes.
 
-ghost use Rattle.std.specs.Prelude.{◌≡◌, ◌+◌, ◌<◌, [], IfOk, IsSome, None, OnErr, OnOk, true};
+ghost use Rattle.std.specs.Prelude.{◌≡◌, ◌+◌, ◌<◌, ◌≤◌, ◌^◌, ◌||◌, [], IfOk, IsSome, None, Some, OnErr, OnOk, option_map, true};
 ghost use Rattle.pfs_addr_values.specs.Keys.{key_of};
 ghost use Rattle.pfs_addr_values.specs.Packets.{run_limit};
 ghost use Rattle.pfs_conf_values.specs.Configs.{options_at};
 ghost use Rattle.pfs_store_contract.specs.Admission.{world_after_admission};
-ghost use Rattle.pfs_store_contract.specs.Worlds.{empty_world, state_with};
+ghost use Rattle.pfs_store_contract.specs.Calls.{state_number, told_at, touch_of, world_touched};
+ghost use Rattle.pfs_store_contract.specs.Touching.{completes_at};
+ghost use Rattle.pfs_store_contract.specs.Worlds.{IsUpToNow, empty_world, state_with};
 ghost use Rattle.pfs_store_index.specs.Holdings.{is_reached};
 
 use crate::expiring::counted_rules;
@@ -123,6 +125,34 @@ impl<S: BuildHasher> IndexStore<S> {
     }
 }
 
+impl<S: BuildHasher> IndexStore<S> {
+    /// Takes a packet of the state that was found by its key. What the source's node has is told where the handshake completes,
+    /// and where it is asked for.
+    fn take(
+        &mut self,
+        found: Found,
+        packet: &Packet,
+        asked: bool,
+        now: u64,
+        meter: &mut Meter,
+    ) -> Touched
+        requires held { option_map state_number (state_with (key_of packet.now) self.old.world) ≡ Some found.number }
+        requires reached { is_reached self.old.records found ≡ true }
+        requires order { IsUpToNow now self.old.world }
+        requires meter { meter.old ≤ 2 ^ 63 }
+        ensures answer { Some result
+            ≡ option_map (λ s. told_at (asked || completes_at packet.now s) (touch_of self.old.config self.old.world packet.now now s)) (state_with (key_of packet.now) self.old.world) }
+        ensures world { self.new.world
+            ≡ world_touched self.old.config self.old.world packet.now now (state_with (key_of packet.now) self.old.world) }
+        ensures reached { is_reached self.new.records found ≡ true }
+        ensures looks { meter.new ≡ meter.old + 1 }
+        ensures config { self.new.config ≡ self.old.config }
+    {
+        self.indexes.state_numbers_rise();
+        self.indexes.renew(found, packet, asked, now, meter).touched
+    }
+}
+
 impl<S: BuildHasher> Store for IndexStore<S> {
     ghost world = { λ s. s.world };
 
@@ -172,8 +202,11 @@ impl<S: BuildHasher> Store for IndexStore<S> {
     }
 
     fn touch(&mut self, found: Found, packet: &Packet, now: u64, meter: &mut Meter) -> Touched {
-        self.indexes.state_numbers_rise();
-        self.indexes.renew(found, packet, now, meter).touched
+        self.take(found, packet, true, now, meter)
+    }
+
+    fn renew(&mut self, found: Found, packet: &Packet, now: u64, meter: &mut Meter) -> Touched {
+        self.take(found, packet, false, now, meter)
     }
 
     fn kill(&mut self, found: Found, now: u64, meter: &mut Meter) {

@@ -1,9 +1,10 @@
 //! What a state does to the tally of its node: when it comes, when a packet of it comes, and when it leaves.
 
-ghost use Rattle.std.specs.Prelude.{◌≡◌, [], IfSome, OnErr, OnOk, Some, map, true};
+ghost use Rattle.std.specs.Prelude.{◌≡◌, ◌||◌, [], IfSome, OnErr, OnOk, Some, if◌then◌else◌, map, true};
 ghost use Rattle.std.specs.List.{AllByRecursion, find, list_any};
 ghost use Rattle.pfs_conf_values.specs.Configs.{options_of};
 ghost use Rattle.pfs_conf_values.specs.Bounds.{IsRate};
+ghost use Rattle.pfs_track.specs.Scores.{zero_score};
 ghost use Rattle.pfs_store_contract.specs.Counts.{node_scope_of};
 ghost use Rattle.pfs_store_contract.specs.Purging.{node_numbers};
 ghost use Rattle.pfs_store_contract.specs.Worlds.{IsUpToNow, lists};
@@ -20,11 +21,22 @@ use pfs_store_rules::node_scope;
 use pfs_track::Score;
 use std::hash::BuildHasher;
 
-/// What is reported of a node after a packet of one of its states; 0 where there is none.
+/// What is told of a node after a packet of one of its states; 0 where there is none, and where nothing is asked.
 #[derive(Clone, Copy)]
 pub struct Met {
     pub connections: u64,
     pub score: Score,
+}
+
+impl Met {
+    fn none() -> Met
+        ensures { result ≡ record { connections = 0; score = zero_score } }
+    {
+        Met {
+            connections: 0,
+            score: Score::default(),
+        }
+    }
 }
 
 /// A state comes: its node has one more, or is made with it. Where memory for a new node is refused, nothing changes.
@@ -76,12 +88,13 @@ pub fn leave<S: BuildHasher>(
 }
 
 /// A packet of a state comes, which completes its handshake or does not: a connection more of its node, and the score where
-/// its rule has a rate.
+/// its rule has a rate. Where it completes none, the node is looked up only if what it has is asked for.
 pub fn meet<S: BuildHasher>(
     config: &Config,
     nodes: &mut Nodes<S>,
     state: &State,
     completed: bool,
+    asked: bool,
     now: u64,
 ) -> Met
     requires has { HasTally config.now nodes.old state.now }
@@ -90,14 +103,16 @@ pub fn meet<S: BuildHasher>(
     requires order { IsUpToNow now (lists [] (nodes_of nodes.old) [] [] 0) }
     ensures nodes { nodes.new
         ≡ map (at_node (node_scope_of config.now state.now.rule.0) state.now.source (met_by (options_of config.now state.now.rule.0).max_src_conn_rate now completed)) nodes.old }
-    ensures connections { result.connections ≡ connections_at (node_scope_of config.now state.now.rule.0) state.now.source nodes.new }
-    ensures score { result.score ≡ score_at (node_scope_of config.now state.now.rule.0) state.now.source nodes.new }
+    ensures connections { result.connections
+        ≡ (if asked || completed then connections_at (node_scope_of config.now state.now.rule.0) state.now.source nodes.new else 0) }
+    ensures score { result.score
+        ≡ (if asked || completed then score_at (node_scope_of config.now state.now.rule.0) state.now.source nodes.new else zero_score) }
 {
+    if !(asked || completed) {
+        return Met::none();
+    }
     match node_scope(config, state.rule) {
-        None => Met {
-            connections: 0,
-            score: Score::default(),
-        },
+        None => Met::none(),
         Some(scope) => {
             let rate = rate_of(config, state.rule);
             let tally = meet_at(nodes, scope, state.source, rate, completed, now);

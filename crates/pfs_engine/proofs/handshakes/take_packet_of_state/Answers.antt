@@ -4,7 +4,7 @@ use Rattle.std.specs.Prelude.{option_map}
 use Rattle.pfs_addr_values.specs.Keys.{key_of}
 use Rattle.pfs_conf_values.specs.Configs.{Conf, options_of}
 use Rattle.pfs_store_contract.specs.Worlds.{state_with}
-use Rattle.pfs_store_contract.specs.Calls.{state_number, touch_of, world_touched}
+use Rattle.pfs_store_contract.specs.Calls.{state_number, renewal_of, world_touched}
 use Rattle.pfs_engine_machine.specs.Looks.{AreLooks, states_beside}
 use Rattle.pfs_engine_machine.specs.Machine.{Held, answer_to_packet, held_of}
 use Rattle.pfs_engine.specs.Held.{HeldView, tables_held, view_of}
@@ -12,18 +12,18 @@ use Rattle.pfs_engine.specs.Rooms.{HasRoomFor}
 use Rattle.pfs_engine.proofs.Belonging.{beside_after, opened, room_after, told_after}
 use Rattle.pfs_engine.proofs.handshakes.take_packet_of_state.Goals as goal
 
-pub touch-touched-requires-clause-held : goal.touch-touched-requires-clause-held
-touch-touched-requires-clause-held g c =
+pub renew-touched-requires-clause-held : goal.renew-touched-requires-clause-held
+renew-touched-requires-clause-held g c =
     let inside = c.held.inside in
     let same = opened c.args.held.now c.make_room.new.held inside.config inside.store (g.S.Store.world inside.store) inside.tables c.held.view_is c.in_ok-make_room.ensures.same in
     subst (λ (h : Held). option_map state_number (state_with (key_of c.args.packet.now) h.world) ≡ Some c.args.found.number) (sym same.1) c.requires.found.number
 
-pub touch-touched-requires-clause-reached : goal.touch-touched-requires-clause-reached
-touch-touched-requires-clause-reached g c =
+pub renew-touched-requires-clause-reached : goal.renew-touched-requires-clause-reached
+renew-touched-requires-clause-reached g c =
     ap (λ (v : HeldView _). g.S.Store.reaches v.store c.args.found) c.held.view_is ∙ (ap (λ x. g.S.Store.reaches x c.args.found) c.in_ok-make_room.ensures.store ∙ c.requires.found.reached)
 
 pub complete_handshake-requires-clause-reached : goal.complete_handshake-requires-clause-reached
-complete_handshake-requires-clause-reached g c = c.touch-touched.ensures.reached
+complete_handshake-requires-clause-reached g c = c.renew-touched.ensures.reached
 
 pub complete_handshake-requires-clause-room : goal.complete_handshake-requires-clause-room
 complete_handshake-requires-clause-room g c =
@@ -32,9 +32,9 @@ complete_handshake-requires-clause-room g c =
     let store_conf = g.S.Store.config inside.store in
     let was = c.args.held.now in
     let p = c.args.packet.now in
-    let t = c.touch-touched.result in
+    let t = c.renew-touched.result in
     let same = opened was c.make_room.new.held inside.config inside.store w inside.tables c.held.view_is c.in_ok-make_room.ensures.same in
-    let answer = subst (λ (h : Held). Some t ≡ option_map (touch_of store_conf h.world p c.args.now) (state_with (key_of p) h.world)) same.1 c.touch-touched.ensures.answer in
+    let answer = subst (λ (h : Held). Some t ≡ option_map (renewal_of store_conf h.world p c.args.now) (state_with (key_of p) h.world)) same.1 c.renew-touched.ensures.answer in
     let room = room_after was.config store_conf was.held p c.args.now c.args.found.number t c.args.found.rule (tables_held c.make_room.new.held) c.requires.kept c.requires.found.number c.requires.found.rule answer c.in_ok-make_room.ensures.room in
     λ done. subst (λ (k : Conf). HasRoomFor (tables_held (view_of inside.config inside.store w inside.tables)) (options_of k t.rule.0).overload) (sym same.0)
     (subst (λ (v : HeldView _). HasRoomFor (tables_held v) (options_of was.config t.rule.0).overload) (sym c.held.view_is) (room done))
@@ -46,7 +46,7 @@ returns-clause-answered g c =
     let store_conf = g.S.Store.config inside.store in
     let was = c.args.held.now in
     let p = c.args.packet.now in
-    let t = c.touch-touched in
+    let t = c.renew-touched in
     let same = opened was c.make_room.new.held inside.config inside.store w inside.tables c.held.view_is c.in_ok-make_room.ensures.same in
     let m = held_of w inside.tables.entries in
     let found = subst (λ (h : Held). option_map state_number (state_with (key_of p) h.world) ≡ Some c.args.found.number) (sym same.1) c.requires.found.number in
@@ -64,10 +64,10 @@ returns-clause-looks g c =
     let store_conf = g.S.Store.config inside.store in
     let was = c.args.held.now in
     let p = c.args.packet.now in
-    let t = c.touch-touched in
+    let t = c.renew-touched in
     let same = opened was c.make_room.new.held inside.config inside.store w inside.tables c.held.view_is c.in_ok-make_room.ensures.same in
     let is = subst (λ (h : Held). g.S.Store.world t.new.self ≡ world_touched store_conf h.world p c.args.now (state_with (key_of p) h.world)) same.1 t.ensures.world in
-    let answer = subst (λ (h : Held). Some t.result ≡ option_map (touch_of store_conf h.world p c.args.now) (state_with (key_of p) h.world)) same.1 t.ensures.answer in
+    let answer = subst (λ (h : Held). Some t.result ≡ option_map (renewal_of store_conf h.world p c.args.now) (state_with (key_of p) h.world)) same.1 t.ensures.answer in
     let beside = beside_after store_conf was.held.world (g.S.Store.world t.new.self) p c.args.now c.args.found.number t.result c.requires.found.number is answer in
     let further = c.complete_handshake.ensures.looks in
     record {

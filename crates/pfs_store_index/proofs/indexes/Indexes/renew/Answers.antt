@@ -1,10 +1,12 @@
 -- Answers of Indexes::renew: a packet's state is found and renewed, what is reported of it, and all stays tied.
-use Rattle.std.proofs.Common.{◌≡◌, ◌∙◌, ◌≤◌, List, [], length, map, ap, subst, sym, arith}
+use Rattle.std.proofs.Common.{◌≡◌, ◌∙◌, ◌≤◌, ◌||◌, if◌then◌else◌, List, [], length, map, ap, subst, sym, arith}
 use Rattle.std.specs.List.{find, list_any}
 use Rattle.pfs_addr_values.specs.Keys.{key_of}
 use Rattle.pfs_addr_values.specs.Packets.{run_limit}
 use Rattle.pfs_addr_values.specs.Sameness.{same_key}
 use Rattle.pfs_conf_values.specs.Configs.{Conf, options_of}
+use Rattle.pfs_track.specs.Scores.{zero_score}
+use Rattle.pfs_track.specs.declared.scores.Score.{Score}
 use Rattle.pfs_store_contract.specs.Counts.{node_scope_of}
 use Rattle.pfs_store_contract.specs.Touching.{completes_at, connections_in, nodes_touched, numbered_state_after, score_in}
 use Rattle.pfs_store_contract.specs.Worlds.{IsUpToNow, lists}
@@ -121,14 +123,18 @@ returns-clause-told g c =
     let f = number-found k c.args.found.place s rs h q c.numbers_rise.ensures in
     let has : HasTally c.self.inside.config c.self.inside.nodes s =
     all-found state_number (HasTally c.self.inside.config c.self.inside.nodes) s.number s (states_of rs) c.self.invariant.noded f in
+    let here = c.args.asked || c.stepped-completed.result.1 in
     let n = c.meet-met.ensures.connections
-    ∙ told-connections conf sc s.source (states_of c.write_at.new.self) c.meet-met.new.nodes tied.counted
+    ∙ ap (λ x. if here then x else 0) (told-connections conf sc s.source (states_of c.write_at.new.self) c.meet-met.new.nodes tied.counted
     (λ own e. ap (list_any (is_tally own s.source)) m ∙ tally-at own s.source sc s.source (met_by rate c.args.now done) (met-faithful rate c.args.now done) c.self.inside.nodes ∙ has own e)
     ∙ ap (λ xs. connections_in conf s.source xs sc) (returns-clause-states g c)
-    ∙ ap (λ (x : Conf). connections_in x s.source (map (numbered_state_after s.number c.args.packet.now c.args.now) c.args.self.now.states) (node_scope_of x s.rule.0)) (ap (λ (x : Holding). x.config) c.self.view_is) in
-    let z = c.meet-met.ensures.score ∙ told-score sc s.source c.meet-met.new.nodes
+    ∙ ap (λ (x : Conf). connections_in x s.source (map (numbered_state_after s.number c.args.packet.now c.args.now) c.args.self.now.states) (node_scope_of x s.rule.0)) (ap (λ (x : Holding). x.config) c.self.view_is))
+    ∙ ap (λ b. if c.args.asked || b then connections_in c.args.self.now.config s.source (map (numbered_state_after s.number c.args.packet.now c.args.now) c.args.self.now.states) (node_scope_of c.args.self.now.config s.rule.0) else 0) c.stepped-completed.ensures.completes in
+    let z = c.meet-met.ensures.score
+    ∙ ap (λ (x : Score). if here then x else zero_score) (told-score sc s.source c.meet-met.new.nodes
     ∙ ap (λ ns. score_in s.source ns sc) (returns-clause-nodes g c)
-    ∙ ap (λ (x : Conf). score_in s.source (nodes_touched c.args.self.now.config c.args.self.now.nodes s c.args.now (completes_at c.args.packet.now s)) (node_scope_of x s.rule.0)) (ap (λ (x : Holding). x.config) c.self.view_is) in
+    ∙ ap (λ (x : Conf). score_in s.source (nodes_touched c.args.self.now.config c.args.self.now.nodes s c.args.now (completes_at c.args.packet.now s)) (node_scope_of x s.rule.0)) (ap (λ (x : Holding). x.config) c.self.view_is))
+    ∙ ap (λ b. if c.args.asked || b then score_in s.source (nodes_touched c.args.self.now.config c.args.self.now.nodes s c.args.now (completes_at c.args.packet.now s)) (node_scope_of c.args.self.now.config s.rule.0) else zero_score) c.stepped-completed.ensures.completes in
     (λ j. record { rule = s.rule; source = s.source; completed = c.stepped-completed.ensures.completes j; connections = n j; score = z j })
 
 pub returns-clause-reached : goal.returns-clause-reached
