@@ -48,9 +48,9 @@ type Row = (u64, Step);
 fn shake<S: Store>(rt: &impl Abort, tried: &mut Tried<S>, port: u16) -> Result<Touched, Fail> {
     let answer = tried.admit(rt, &packet(&Sent::Tcp(80, SYN), A1, port)?, RuleNo(0))?;
     assert!(rt; answer.is_ok());
-    let second = tried.touch(&packet(&Sent::Answer(SYN_ACK), A1, port)?)?;
-    assert!(rt; !second.completed);
-    tried.touch(&packet(&Sent::Tcp(80, ACK), A1, port)?)
+    let second = tried.renew(&packet(&Sent::Answer(SYN_ACK), A1, port)?)?;
+    same!(rt; (second.completed, second.connections, second.score), (false, 0, Score::default()));
+    tried.renew(&packet(&Sent::Tcp(80, ACK), A1, port)?)
 }
 
 fn numbered(answer: Result<StateNo, Limit>) -> Result<u64, Limit> {

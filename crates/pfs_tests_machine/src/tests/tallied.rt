@@ -73,6 +73,11 @@ impl<S: Store> Store for Tallied<S> {
         self.inner.touch(found, packet, now, meter)
     }
 
+    fn renew(&mut self, found: Found, packet: &Packet, now: u64, meter: &mut Meter) -> Touched {
+        self.tick();
+        self.inner.renew(found, packet, now, meter)
+    }
+
     fn kill(&mut self, found: Found, now: u64, meter: &mut Meter) {
         self.tick();
         self.inner.kill(found, now, meter)

@@ -78,6 +78,16 @@ impl<'a, S: Store> Tried<'a, S> {
         Ok(self.store.touch(found, packet, self.now, &mut meter))
     }
 
+    /// A packet of a held state comes, of which a node is told at a completed handshake alone.
+    pub fn renew(&mut self, packet: &Packet) -> Result<Touched, Fail> {
+        let found = self
+            .store
+            .find(&FlowKey::of(packet))
+            .ok_or("its key is not held")?;
+        let mut meter = Meter::new();
+        Ok(self.store.renew(found, packet, self.now, &mut meter))
+    }
+
     /// The state that has the key of a packet is killed: its number, if there is one.
     pub fn kill(&mut self, packet: &Packet) -> Option<StateNo> {
         let found = self.store.find(&FlowKey::of(packet))?;
