@@ -13,7 +13,7 @@ ghost use Rattle.pfs_store_records.specs.Walks.{IsWalk, StayUntil, end_of, state
 ghost use Rattle.pfs_store_records.specs.Records.{IsAbove, IsRecordAt, IsRising, is_placed, leaves_number, placed_at, put, put_state, stands_at, states_of};
 
 use crate::kept::Kept;
-use crate::stays::{Stay, stay_of, stays_until};
+use crate::stays::{Stay, stays_until};
 use crate::walks::{Lifetimes, Round, Walk};
 use pfs_addr_values::{Meter, NoMemory};
 use pfs_store_contract::State;
@@ -225,7 +225,7 @@ fn walk_range<T: Lifetimes>(
     let mut stayed = 0;
     let mut last = round.cursor;
     let mut until = u64::MAX;
-    let mut known: Option<Stay> = None;
+    let mut known = Stay::unknown();
     let leaver = loop {
         if stayed == share {
             break None;
@@ -234,9 +234,10 @@ fn walk_range<T: Lifetimes>(
             break None;
         };
         let kept = look(slab, *place as usize, meter);
-        let stay = stay_of(lifetimes, kept, known);
-        known = Some(stay);
-        match stays_until(kept, stay.seconds, now) {
+        if !known.is_of(kept) {
+            known = Stay::of(lifetimes, kept);
+        }
+        match stays_until(kept, known.seconds, now) {
             Some(moment) => until = until.min(moment),
             None => break Some(kept.state()),
         }

@@ -10,45 +10,48 @@ use crate::walks::Lifetimes;
 use pfs_conf_values::{RuleNo, TimeoutName};
 use pfs_track::is_expired;
 
-/// For how many seconds states of a rule may stay in a phase of a timeout.
+/// For how many seconds states of a rule may stay in phases of a timeout, as far as it is known.
 #[derive(Clone, Copy)]
 pub(crate) struct Stay {
     pub(crate) rule: RuleNo,
     pub(crate) seconds: u64,
     pub(crate) timeout: TimeoutName,
+    pub(crate) is_known: bool,
 }
 
 impl Stay {
-    fn is_of(&self, rule: RuleNo, timeout: TimeoutName) -> bool
-        ensures { result ≡ true → (self.now.rule ≡ rule) × (self.now.timeout ≡ timeout) }
+    /// Nothing is known.
+    pub(crate) fn unknown() -> Stay
+        ensures { result.is_known ≡ false }
     {
-        self.rule == rule && self.timeout == timeout
+        Stay {
+            rule: RuleNo(0),
+            seconds: 0,
+            timeout: TimeoutName::Interval,
+            is_known: false,
+        }
     }
-}
 
-/// How long the state of a record may stay. The lifetime is computed only where what is known is of another rule or timeout.
-pub(crate) fn stay_of<T: Lifetimes>(lifetimes: &T, kept: &Kept, known: Option<Stay>) -> Stay
-    requires known { IfSome known (λ stay. IsStay (T.lifetime lifetimes.now) stay) }
-    ensures value { result.seconds ≡ T.lifetime lifetimes.now kept.now.rule (slot kept.now.phase) }
-    ensures known { IsStay (T.lifetime lifetimes.now) result }
-{
-    match known {
-        Some(stay) if stay.is_of(kept.rule(), kept.timeout()) => stay,
-        _ => computed(lifetimes, kept),
+    /// How long the state of a record may stay. It is not inlined, so that a walk over states of one kind takes few steps.
+    #[inline(never)]
+    pub(crate) fn of<T: Lifetimes>(lifetimes: &T, kept: &Kept) -> Stay
+        ensures value { result.seconds ≡ T.lifetime lifetimes.now kept.now.rule (slot kept.now.phase) }
+        ensures known { IsStay (T.lifetime lifetimes.now) result }
+    {
+        let rule = kept.rule();
+        Stay {
+            rule,
+            seconds: lifetimes.seconds(rule, kept.phase()),
+            timeout: kept.timeout(),
+            is_known: true,
+        }
     }
-}
 
-/// How long the state of a record may stay, computed anew. Not inlined: so a walk over states of one kind has few steps.
-#[inline(never)]
-fn computed<T: Lifetimes>(lifetimes: &T, kept: &Kept) -> Stay
-    ensures value { result.seconds ≡ T.lifetime lifetimes.now kept.now.rule (slot kept.now.phase) }
-    ensures known { IsStay (T.lifetime lifetimes.now) result }
-{
-    let rule = kept.rule();
-    Stay {
-        rule,
-        seconds: lifetimes.seconds(rule, kept.phase()),
-        timeout: kept.timeout(),
+    /// It is known of the rule and the timeout of a record.
+    pub(crate) fn is_of(&self, kept: &Kept) -> bool
+        ensures { result ≡ true → (self.now.is_known ≡ true) × (self.now.rule ≡ kept.now.rule) × (self.now.timeout ≡ slot kept.now.phase) }
+    {
+        self.is_known && self.rule == kept.rule() && self.timeout == kept.timeout()
     }
 }
 
