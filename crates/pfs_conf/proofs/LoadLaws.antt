@@ -26,7 +26,7 @@ use Rattle.pfs_conf.specs.Giving.{Comes}
 use Rattle.pfs_conf.specs.Statements.{nothing}
 use Rattle.pfs_conf.specs.Reading.{statement_at, statements_at, text_at}
 use Rattle.pfs_conf.specs.Reads.{Reads}
-use Rattle.pfs_conf.specs.Answers.{IsTold}
+use Rattle.pfs_conf.specs.Answers.{IsReported}
 use Rattle.pfs_conf.specs.Faults as faults
 use Rattle.pfs_conf.specs.Loads.{IsFaultRead, long, memory, breaks, stops, IsLoad}
 use Rattle.pfs_conf.proofs.OnlineLaws.{online_text, statement_shrinks}
@@ -95,7 +95,7 @@ told_fault text e b n s h (breaks {rule = rule} {line = line} l g k) =
     inl (k ∙ (ap (λ (z : ℕ). fault z (kind_of_rule rule)) m ∙ ap (λ (z : LoadRule). fault n (kind_of_rule z)) r))
 told_fault text e b n s h (stops l g k) = let same = sym g ∙ h in absurd cc
 
-pub told_broken : (text : List ℕ) (r : Result Conf LoadFault) (b : LoadRule) (n : ℕ) → IsLoad r text → length text ≤ text_limit → Breaks (tokens_of text) b n → IsTold r (fault n (kind_of_rule b))
+pub told_broken : (text : List ℕ) (r : Result Conf LoadFault) (b : LoadRule) (n : ℕ) → IsLoad r text → length text ≤ text_limit → Breaks (tokens_of text) b n → IsReported r (fault n (kind_of_rule b))
 told_broken text (Ok c) b n h s k = let same = sym h.reads ∙ breaks_told k in absurd cc
 told_broken text (Err e) b n h s k = told_fault text e b n s (breaks_told k) h
 

@@ -10,6 +10,6 @@ IsTooLong (Ok conf) = ⊥
 IsTooLong (Err given) = given ≡ too_long
 
 -- the fault of a broken load rule is reported, unless memory runs out before it
-abbrev pub IsTold : Result Conf LoadFault → LoadFault → Type 0
-IsTold (Ok conf) e = ⊥
-IsTold (Err given) e = (given ≡ e) ⊎ (given ≡ no_memory)
+abbrev pub IsReported : Result Conf LoadFault → LoadFault → Type 0
+IsReported (Ok conf) e = ⊥
+IsReported (Err given) e = (given ≡ e) ⊎ (given ≡ no_memory)

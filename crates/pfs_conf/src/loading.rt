@@ -8,7 +8,7 @@ ghost use Rattle.pfs_conf.specs.Kinds.{fault, kind_of_rule, no_memory};
 ghost use Rattle.pfs_conf.specs.Faults.{Breaks, IsFault};
 ghost use Rattle.pfs_conf.specs.Loads.{IsLoad};
 ghost use Rattle.pfs_conf.specs.Reads.{Reads};
-ghost use Rattle.pfs_conf.specs.Answers.{IsTold, IsTooLong};
+ghost use Rattle.pfs_conf.specs.Answers.{IsReported, IsTooLong};
 
 use crate::faults::LoadFault;
 use crate::kinds::Kind;
@@ -34,7 +34,7 @@ pub fn load(alloc: Global, text: &[u8]) -> Result<Config, LoadFault>
     // A text that is too long is reported as such, and nothing else of it.
     ensures long { text_limit < length text.now → IsTooLong result }
     // The first load rule that is broken is reported, unless memory runs out.
-    ensures broken { (r : LoadRule) (n : ℕ) → length text.now ≤ text_limit → Breaks (tokens_of text.now) r n → IsTold result (fault n (kind_of_rule r)) }
+    ensures broken { (r : LoadRule) (n : ℕ) → length text.now ≤ text_limit → Breaks (tokens_of text.now) r n → IsReported result (fault n (kind_of_rule r)) }
     // Every fault that is reported is true. Where no accepted text goes on, its line is that of a token before which all is read.
     ensures fault { IfErr result (λ e. IsFault text.now e) }
 {

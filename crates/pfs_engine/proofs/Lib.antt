@@ -1,4 +1,5 @@
 mod Belonging
 mod Free
+mod Fewer
 mod Keeping
 mod Watching

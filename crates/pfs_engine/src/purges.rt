@@ -1,12 +1,12 @@
 //! The purges that are due when time passes.
 
-ghost use Rattle.std.specs.Prelude.{◌≡◌, ◌+◌, ◌<◌, ◌≤◌, ◌^◌, ◌==◌, ◌&&◌, not, if◌then◌else◌, max};
+ghost use Rattle.std.specs.Prelude.{◌≡◌, ◌+◌, ◌<◌, ◌≤◌, ◌^◌, ◌==◌, ◌&&◌, if◌then◌else◌, max};
 ghost use Rattle.std.specs.Option.{ForSome};
 ghost use Rattle.pfs_engine_machine.specs.Machine.{due, world_after_purges};
 ghost use Rattle.pfs_engine_machine.specs.Shares.{seconds};
 ghost use Rattle.pfs_engine.specs.Calls.{IsWorkOfSeconds};
 ghost use Rattle.pfs_engine.specs.Meters.{CountsOn, IsWorkOfPurges};
-ghost use Rattle.pfs_engine.specs.Watches.{IsOnTheWay, IsWatched};
+ghost use Rattle.pfs_engine.specs.Watches.{IsOnTheWay, IsWatched, all_until};
 
 use crate::watches::Watch;
 use crate::works::Work;
@@ -53,8 +53,8 @@ fn purge_each<S: Store>(store: &mut S, from: u64, to: u64) -> Work
     let mut at = Passage {
         second: from,
         work: Work::none(),
-        states: Watch::none(),
-        nodes: Watch::none(),
+        states: Watch::none(false),
+        nodes: Watch::none(false),
     };
     while at.second < to {
         let done = purge_second(store, at, to);
@@ -78,12 +78,11 @@ fn purge_second<S: Store>(store: &mut S, at: Passage, to: u64) -> Passage
     let mut looks = Meter::new();
     let states = store.watch_states(second, &mut looks);
     let nodes = store.watch_nodes(second);
-    let left = has_left(states.slice, nodes.slice);
     Passage {
         second: second_after(second, to, states.slice, nodes.slice),
         work: greater(at.work, looks.count(), states.slice, nodes.slice),
-        states: at.states.after(left, &states),
-        nodes: at.nodes.after(left, &nodes),
+        states: at.states.after(&states),
+        nodes: at.nodes.of_nodes(states.slice.removed).after(&nodes),
     }
 }
 
@@ -96,13 +95,6 @@ fn second_after(second: u64, to: u64, states: Slice, nodes: Slice) -> u64
     } else {
         second
     }
-}
-
-/// Whether something left in a second.
-fn has_left(states: Slice, nodes: Slice) -> bool
-    ensures { result ≡ not ((states.removed == 0) && (nodes.removed == 0)) }
-{
-    !(states.removed == 0 && nodes.removed == 0)
 }
 
 /// Passes over the seconds before anything can leave, as far as the store can.
@@ -124,8 +116,8 @@ fn pass_over<S: Store>(store: &mut S, at: Passage, to: u64) -> Passage
     Passage {
         second: at.second + passed,
         work: at.work,
-        states: Watch::none(),
-        nodes: Watch::none(),
+        states: Watch::none(at.states.begun),
+        nodes: Watch::none(at.nodes.begun),
     }
 }
 
@@ -133,10 +125,10 @@ fn pass_over<S: Store>(store: &mut S, at: Passage, to: u64) -> Passage
 fn quiet_seconds(at: Passage, to: u64) -> u64
     requires order { at.second ≤ to }
     ensures order { at.second + result ≤ to }
-    ensures states { 0 < result → at.second + result < at.states.whole }
-    ensures nodes { 0 < result → at.second + result < at.nodes.whole }
+    ensures states { 0 < result → at.second + result < all_until at.states }
+    ensures nodes { 0 < result → at.second + result < all_until at.nodes }
 {
-    let until = at.states.whole.min(at.nodes.whole);
+    let until = at.states.all_until().min(at.nodes.all_until());
     let last = to.min(until.saturating_sub(1));
     last.saturating_sub(at.second)
 }

@@ -1,13 +1,14 @@
 -- Seconds that change nothing but the rounds of the purge, and how it is known that they do not. (own)
-use Rattle.std.specs.Prelude.{ℕ, zero, suc, ◌≡◌, ◌≤◌, ◌+◌, true, List, length, take, drop}
+use Rattle.std.specs.Prelude.{ℕ, zero, suc, ◌≡◌, ◌<◌, ◌≤◌, ◌+◌, IfSome, List, length, drop}
 use Rattle.std.specs.List.{AllByRecursion}
 use Rattle.pfs_conf_values.specs.Configs.{Conf}
 use Rattle.pfs_track.specs.Lifetimes.{scaled_lifetime}
 use Rattle.pfs_store_contract.specs.Counts.{node_states, rule_states}
-use Rattle.pfs_store_contract.specs.Purging.{is_among, node_numbers, node_retention, node_round, node_share, round, state_numbers, state_round, state_share}
+use Rattle.pfs_store_contract.specs.Purging.{node_numbers, node_retention, node_share, round, state_numbers, state_share}
 use Rattle.pfs_store_contract.specs.Worlds.{World}
 use Rattle.pfs_store_contract.specs.declared.records.Node.{Node}
 use Rattle.pfs_store_contract.specs.declared.records.State.{State}
+use Rattle.pfs_store_contract.specs.declared.records.Staying.{Staying}
 
 -- ---- the rounds go on
 
@@ -33,12 +34,15 @@ StateStays conf states until s = until ≤ s.last + scaled_lifetime conf s.rule.
 abbrev pub NodeStays : Conf → List State → ℕ → Node → Type 0
 NodeStays conf states until n = node_states conf n.scope n.source states ≡ 0 → until ≤ n.idle + node_retention conf n.scope
 
--- of the states that a slice of this world examines, those of these stay up to a moment
-abbrev pub StatesStay : Conf → World → ℕ → List State → Type 0
-StatesStay conf w until states =
-    AllByRecursion (λ (s : State). is_among (take (state_share conf) (state_round w)) s.number ≡ true → StateStays conf w.states until s) states
+-- a number is one of those of which it is told that they stay
+pub record IsTold (staying : Staying) (number : ℕ) : Type 0 where
+  pub above : IfSome staying.above (λ a. a < number)
+  pub last : IfSome staying.last (λ l. number ≤ l)
 
--- the same of the nodes
-abbrev pub NodesStay : Conf → World → ℕ → List Node → Type 0
-NodesStay conf w until nodes =
-    AllByRecursion (λ (n : Node). is_among (take (node_share conf) (node_round w)) n.number ≡ true → NodeStays conf w.states until n) nodes
+-- these states stay as it is told, where these are held
+abbrev pub StatesStay : Conf → List State → Staying → List State → Type 0
+StatesStay conf held staying states = AllByRecursion (λ (s : State). IsTold staying s.number → StateStays conf held staying.until s) states
+
+-- these nodes stay as it is told, where these states are held
+abbrev pub NodesStay : Conf → List State → Staying → List Node → Type 0
+NodesStay conf held staying nodes = AllByRecursion (λ (n : Node). IsTold staying n.number → NodeStays conf held staying.until n) nodes

@@ -4,5 +4,7 @@
 mod records;
 mod store;
 
-pub use records::{Found, Limit, Node, NodeScope, Slice, State, StateNo, Touched, Watched};
+pub use records::{
+    Found, Limit, Node, NodeScope, Slice, State, StateNo, Staying, Touched, Watched,
+};
 pub use store::Store;

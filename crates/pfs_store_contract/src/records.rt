@@ -127,9 +127,33 @@ pub struct Slice {
 pub struct Watched {
     /// How many it examined, and how many of them left.
     pub slice: Slice,
-    /// A moment, in seconds, before which none of those that it examined leaves, as long as no other leaves and
-    /// nothing comes; 0 where none is known.
-    pub until: u64,
+    /// Up to when those stay that it examined, or more of them; of the numbers above the one at which the slice before it ended.
+    pub staying: Staying,
     /// The round is known to be over with it.
     pub over: bool,
+}
+
+/// That those stay that are held of the numbers above one and up to another.
+#[derive(Debug, Clone, Copy, PartialEq, Eq)]
+pub struct Staying {
+    /// The number above which they are; none where it is of the least number too.
+    pub above: Option<u64>,
+    /// The greatest of the numbers; none where it is of the greatest number too.
+    pub last: Option<u64>,
+    /// A moment, in seconds, before which none of them leaves, as long as nothing comes; and, of source nodes, as long as no state
+    /// leaves. It is 0 where none is known.
+    pub until: u64,
+}
+
+impl Staying {
+    /// That all stay up to the moment 0, which says nothing.
+    pub fn unknown() -> Staying
+        ensures { result ≡ record { above = None; last = None; until = 0 } }
+    {
+        Staying {
+            above: None,
+            last: None,
+            until: 0,
+        }
+    }
 }

@@ -10,7 +10,7 @@ ghost use Rattle.pfs_store_contract.specs.Quiet.{NodesStay, StatesStay, world_af
 ghost use Rattle.pfs_store_contract.specs.Worlds.{IsUpToNow, World, holds_number, state_with};
 ghost use Rattle.pfs_store_contract.specs.declared.records.Found.{Found};
 
-use crate::records::{Found, Limit, Slice, StateNo, Touched, Watched};
+use crate::records::{Found, Limit, Slice, StateNo, Staying, Touched, Watched};
 use pfs_addr_values::{Addr, FlowKey, Meter, NoMemory, Packet};
 use pfs_conf_values::RuleNo;
 
@@ -163,15 +163,16 @@ pub trait Store {
         ensures world { world self.new ≡ node_slice (config self.old) (world self.old) now }
         ensures config { config self.new ≡ config self.old };
 
-    /// Does the slice of `purge_states`. It also returns up to when the states that it examined stay, under the counts
-    /// before it, and whether the round is over. A kind of store that does not know it returns the moment 0.
+    /// Does the slice of `purge_states`. It also returns up to when states stay, under the counts before it: those that it
+    /// examined, by their numbers; and whether the round is over. A kind of store that does not know it returns the moment 0.
     /// (pf.conf(5), OPTIONS, "interval"; the rounds are own)
     fn watch_states(&mut self, now: u64, meter: &mut Meter) -> Watched
         requires meter { meter.old ≤ 2 ^ 63 }
         ensures answer { result.slice ≡ state_slice_of (config self.old) (world self.old) now }
         ensures world { world self.new ≡ state_slice (config self.old) (world self.old) now }
-        ensures until { StatesStay (config self.old) (world self.old) result.until (world self.new).states }
+        ensures staying { StatesStay (config self.old) (world self.old).states result.staying (world self.new).states }
         ensures over { result.over ≡ true → (world self.new).pending_states ≡ [] }
+        ensures fits { 0 < result.staying.until → length (world self.new).pending_states ≤ length (world self.new).states }
         ensures looks { counts ≡ true → meter.new ≡ meter.old + result.slice.examined }
         ensures uncounted { counts ≡ false → meter.new ≡ meter.old }
         ensures most { meter.new ≤ meter.old + run_limit }
@@ -179,24 +180,25 @@ pub trait Store {
     {
         Watched {
             slice: self.purge_states(now, meter),
-            until: 0,
+            staying: Staying::unknown(),
             over: false,
         }
     }
 
-    /// Does the slice of `purge_nodes`. It also returns up to when the source nodes that it examined stay, where they
-    /// get no state and lose none, and whether the round is over. A kind of store that does not know it returns the
-    /// moment 0. (pf.conf(5), OPTIONS, "src.track"; the rounds are own)
+    /// Does the slice of `purge_nodes`. It also returns up to when source nodes stay, where they get no state and lose none:
+    /// those that it examined, by their numbers, or more; and whether the round is over. A kind of store that does not know it
+    /// returns the moment 0. (pf.conf(5), OPTIONS, "src.track"; the rounds are own)
     fn watch_nodes(&mut self, now: u64) -> Watched
         ensures answer { result.slice ≡ node_slice_of (config self.old) (world self.old) now }
         ensures world { world self.new ≡ node_slice (config self.old) (world self.old) now }
-        ensures until { NodesStay (config self.old) (world self.old) result.until (world self.new).nodes }
+        ensures staying { NodesStay (config self.old) (world self.old).states result.staying (world self.new).nodes }
         ensures over { result.over ≡ true → (world self.new).pending_nodes ≡ [] }
+        ensures fits { 0 < result.staying.until → length (world self.new).pending_nodes ≤ length (world self.new).nodes }
         ensures config { config self.new ≡ config self.old }
     {
         Watched {
             slice: self.purge_nodes(now),
-            until: 0,
+            staying: Staying::unknown(),
             over: false,
         }
     }

@@ -12,6 +12,7 @@ mod Sources
 mod Stands
 mod Storing
 mod Stretches
+mod Told
 mod Turning
 mod Tying
 mod Untils

@@ -40,7 +40,7 @@ use Rattle.pfs_store_index.proofs.RisingWalks.{stays_by}
 node_number : Node → ℕ
 node_number n = n.number
 
-numbered-filter : {X : Type 0} (number : X → ℕ) (p : X → Bool) (made : ℕ) (xs : List X) → IsNumbered made (map number xs) → IsNumbered made (map number (filter p xs))
+pub numbered-filter : {X : Type 0} (number : X → ℕ) (p : X → Bool) (made : ℕ) (xs : List X) → IsNumbered made (map number xs) → IsNumbered made (map number (filter p xs))
 numbered-filter number p made [] h = tt
 numbered-filter number p made (x ∷ xs) (h, hs) = go (p x) (numbered-filter number p made xs hs)
   where

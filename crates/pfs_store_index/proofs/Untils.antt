@@ -38,14 +38,6 @@ module _ {X : Type 0} (number : X → ℕ) (Stays : ℕ → X → Type 0) where
       go true more = (h, more)
       go false more = more
 
-  pub one-filter : (p : X → Bool) (n until : ℕ) (xs : List X) → HoldOne n until xs → HoldOne n until (filter p xs)
-  one-filter p n until [] h = tt
-  one-filter p n until (x ∷ xs) (h, hs) = go (p x) (one-filter p n until xs hs)
-    where
-      go : (b : Bool) → HoldOne n until (filter p xs) → HoldOne n until (if b then x ∷ filter p xs else filter p xs)
-      go true more = (h, more)
-      go false more = more
-
   one-apart : (n until : ℕ) (xs : List X) → Apart number n xs → HoldOne n until xs
   one-apart n until [] a = tt
   one-apart n until (x ∷ xs) (a, more) = ((λ e. let f = flip_eq (number x) n false a in absurd (cc (e, f))), one-apart n until xs more)
@@ -61,6 +53,16 @@ module _ {X : Type 0} (number : X → ℕ) (Stays : ℕ → X → Type 0) where
           let a : Apart number n xs = subst (λ k. Apart number k xs) (same_number n (number x) t) (head-apart number x xs r) in
           ((λ e. subst (Stays until) (sym q) h), one-apart n until xs a)
       go more false t = ((λ e. let g = flip_eq (number x) n false t in absurd (cc (e, g))), more (rw t at f) h)
+
+  -- where it has left, there is none of its number
+  pub one-gone : (n until : ℕ) (xs : List X) → HoldOne n until (filter (λ x. not (number x == n)) xs)
+  one-gone n until [] = tt
+  one-gone n until (x ∷ xs) = go (number x == n) refl (one-gone n until xs)
+    where
+      go : (b : Bool) → (number x == n) ≡ b → HoldOne n until (filter (λ y. not (number y == n)) xs)
+          → HoldOne n until (if not b then x ∷ filter (λ y. not (number y == n)) xs else filter (λ y. not (number y == n)) xs)
+      go true e more = more
+      go false e more = ((λ k. let f = flip_eq (number x) n false e in absurd (cc (k, f))), more)
 
   pub one-among : (n until : ℕ) (xs : List X) → HoldOne n until xs → Hold (n ∷ []) until xs
   one-among n until [] h = tt

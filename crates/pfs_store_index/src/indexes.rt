@@ -1,6 +1,6 @@
 //! What is held, and what finds it: each index and each count is tied to the records.
 
-ghost use Rattle.std.specs.Prelude.{◌≡◌, ◌+◌, ◌-◌, ◌<◌, ◌≤◌, ◌^◌, ◌==◌, ◌||◌, ◌++◌, ◌∷◌, [], IfOk, IfSome, IsSome, None, OnErr, OnOk, Some, filter, is_some, length, map, not, option_map, slice_get, true};
+ghost use Rattle.std.specs.Prelude.{◌≡◌, ◌+◌, ◌-◌, ◌<◌, ◌≤◌, ◌^◌, ◌==◌, ◌||◌, ◌++◌, ◌∷◌, [], IfOk, IfSome, IsSome, None, OnErr, OnOk, Some, filter, is_some, length, map, not, option_map, slice_get, true, ℕ};
 ghost use Rattle.std.specs.List.{AllByRecursion, find};
 ghost use Rattle.indexmap.specs.IndexMap.{get};
 ghost use Rattle.pfs_addr_values.specs.Keys.{key_of};
@@ -148,6 +148,13 @@ impl<S: BuildHasher> Indexes<S> {
         ensures { nodes_of result.now ≡ self.now.nodes }
     {
         &self.nodes
+    }
+
+    /// Whether each source node has a state. So none leaves before a state does.
+    pub(crate) fn all_have_states(&self) -> bool
+        ensures { result ≡ true → (until : ℕ) → AllByRecursion (NodeStays self.now.config self.now.states until) self.now.nodes }
+    {
+        self.nodes.stateless() == 0
     }
 
     /// The state that has a key: one search.

@@ -9,11 +9,11 @@ ghost use Rattle.pfs_store_contract.specs.Counts.{node_states};
 ghost use Rattle.pfs_store_contract.specs.Leaving.{node_after_leaving};
 ghost use Rattle.pfs_store_contract.specs.Plain.{AreCounts};
 ghost use Rattle.pfs_store_contract.specs.Purging.{is_among, is_over, node_numbers, node_retention, node_stays, share, state_numbers, stays};
-ghost use Rattle.pfs_store_contract.specs.Quiet.{StateStays};
-ghost use Rattle.pfs_store_records.specs.Records.{IsRising};
+ghost use Rattle.pfs_store_contract.specs.Quiet.{IsTold, StateStays};
+ghost use Rattle.pfs_store_records.specs.Records.{IsRising, between};
 ghost use Rattle.pfs_store_records.specs.Walks.{IsWalk, StayUntil, looks_of};
 ghost use Rattle.pfs_store_index.specs.Staying.{NodeHolds, NodesHold, StatesHold};
-ghost use Rattle.pfs_store_index.specs.Stored.{AreUnread, due_at, is_due};
+ghost use Rattle.pfs_store_index.specs.Stored.{AreUnread, IsNumbered, due_at, is_due};
 ghost use Rattle.pfs_store_index.specs.Rounds.{IsExamined, node_survives, nodes_survive, states_survive, waiting};
 
 use crate::expiring::Scaled;
@@ -21,7 +21,7 @@ use crate::indexes::Indexes;
 use crate::rounds::is_over as is_round_over;
 use pfs_addr_values::Meter;
 use pfs_conf_values::{Config, TimeoutName};
-use pfs_store_contract::{Slice, Watched};
+use pfs_store_contract::{Slice, Staying, Watched};
 use pfs_store_records::{Round, Tally, Walk, is_over, kept_until};
 use std::collections::BTreeMap;
 use std::hash::BuildHasher;
@@ -35,17 +35,26 @@ pub(crate) struct Steps {
 }
 
 impl Steps {
-    /// What is told of a walk after which these numbers are held.
-    pub(crate) fn watched<V>(&self, places: &BTreeMap<u64, V>) -> Watched
+    /// What is told of the walk of a round that stood here before it, after which these numbers are held, of so many that were
+    /// made: those that it examined stay. Where it ends a round of all that were made, none of a greater number is held.
+    pub(crate) fn watched<V>(&self, places: &BTreeMap<u64, V>, from: Round, made: u64) -> Watched
         requires order { self.now.round.cursor ≤ self.now.round.mark }
+        requires numbered { IsNumbered made (keys_of places.now.entries) }
         ensures slice { result.slice ≡ self.now.slice }
-        ensures until { result.until ≡ self.now.until }
+        ensures until { result.staying.until ≡ self.now.until }
+        ensures told { AllByRecursion (λ n. IsTold result.staying n → between from.cursor self.now.round.cursor n ≡ true) (keys_of places.now.entries) }
         ensures over { result.over ≡ true → waiting self.now.round.cursor self.now.round.mark (keys_of places.now.entries) ≡ [] }
     {
+        let over = is_round_over(places, self.round);
+        let goes_on = !over || self.round.mark < made;
         Watched {
             slice: self.slice,
-            until: self.until,
-            over: is_round_over(places, self.round),
+            staying: Staying {
+                above: (from.cursor > 0).then_some(from.cursor),
+                last: goes_on.then_some(self.round.cursor),
+                until: self.until,
+            },
+            over,
         }
     }
 }
@@ -338,9 +347,10 @@ fn examine_node<S: BuildHasher>(indexes: &mut Indexes<S>, tally: &Tally, now: u6
 {
     indexes.node_numbers_rise();
     let config = indexes.config();
-    let until = kept_until(config, tally);
     if is_over(config, tally, now) {
         indexes.drop_node(tally.node);
+        u64::MAX
+    } else {
+        kept_until(config, tally)
     }
-    until
 }

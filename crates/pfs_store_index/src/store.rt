@@ -18,7 +18,7 @@ use crate::purging::{share_of, walk_nodes, walk_states};
 use crate::rounds::{next_between, turned, under_way};
 use pfs_addr_values::{Addr, FlowKey, Meter, NoMemory, Packet};
 use pfs_conf_values::{Config, LimitName, RuleNo, RulesHasher};
-use pfs_store_contract::{Found, Limit, Slice, State, StateNo, Store, Touched, Watched};
+use pfs_store_contract::{Found, Limit, Slice, State, StateNo, Staying, Store, Touched, Watched};
 use pfs_store_records::Round;
 use pfs_track::StatePhase;
 use std::alloc::Global;
@@ -240,7 +240,7 @@ impl<S: BuildHasher> Store for IndexStore<S> {
         let round = under_way(self.indexes.records().order(), self.states_round, self.made);
         let steps = walk_states(&mut self.indexes, &self.counts, round, share, now, meter);
         self.states_round = steps.round;
-        steps.watched(self.indexes.records().order())
+        steps.watched(self.indexes.records().order(), round, self.made)
     }
 
     fn watch_nodes(&mut self, now: u64) -> Watched {
@@ -249,7 +249,16 @@ impl<S: BuildHasher> Store for IndexStore<S> {
         let round = under_way(self.indexes.nodes().order(), self.nodes_round, self.made);
         let steps = walk_nodes(&mut self.indexes, round, share, now);
         self.nodes_round = steps.round;
-        steps.watched(self.indexes.nodes().order())
+        let told = steps.watched(self.indexes.nodes().order(), round, self.made);
+        let staying = if self.indexes.all_have_states() {
+            Staying {
+                until: u64::MAX,
+                ..Staying::unknown()
+            }
+        } else {
+            told.staying
+        };
+        Watched { staying, ..told }
     }
 
     fn pass_over(&mut self, seconds: u64) -> u64 {

@@ -5,5 +5,6 @@ mod Passing
 mod RecordLaws
 pub mod Rising
 pub mod Searches
+mod Stateless
 pub mod TallyLaws
 pub mod Walking

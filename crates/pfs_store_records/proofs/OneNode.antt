@@ -123,7 +123,7 @@ put-later sc a v f (t ∷ ts) (l, ls) (h, hs) =
     let n : has_node_number v.node.number t ≡ false = flip_number v.node.number t.node.number l in
     rw (n, h) (ap (λ xs. t ∷ xs) (put-later sc a v f ts ls hs))
 
-other_of : (sc : NodeScope) (a : Addr) (t : Tally) (ts : List Tally) → is_tally sc a t ≡ true → AllByRecursion (λ u. same_node t u ≡ false) ts
+pub other_of : (sc : NodeScope) (a : Addr) (t : Tally) (ts : List Tally) → is_tally sc a t ≡ true → AllByRecursion (λ u. same_node t u ≡ false) ts
     → AllByRecursion (λ u. is_tally sc a u ≡ false) ts
 other_of sc a t ts h d =
     let p = scope_is sc a t h in

@@ -1,6 +1,6 @@
 -- The source nodes, each with the counts of its states, by rising number. (pf.conf(5), STATEFUL TRACKING OPTIONS; the
 -- counts are own)
-use Rattle.std.specs.Prelude.{◌≡◌, ℕ, ◌==◌, ◌&&◌, not, Bool, true, if◌then◌else◌, List, map, slice_index}
+use Rattle.std.specs.Prelude.{◌≡◌, ℕ, ◌==◌, ◌&&◌, not, Bool, true, if◌then◌else◌, List, filter, length, map, slice_index}
 use Rattle.std.specs.List.{IsDistinct, list_any}
 use Rattle.pfs_addr_values.specs.declared.addresses.Addr.{Addr}
 use Rattle.pfs_store_contract.specs.Counts.{is_node}
@@ -31,6 +31,10 @@ same_node t u = is_tally t.node.scope t.node.source u
 pub record IsOrderly (tallies : List Tally) : Type 0 where
   pub rising : IsRising (node_numbers (nodes_of tallies))
   pub distinct : IsDistinct same_node tallies
+
+-- how many of the nodes have no state
+abbrev pub stateless : List Tally → ℕ
+stateless tallies = length (filter (λ (t : Tally). t.states == 0) tallies)
 
 -- ---- changes
 

@@ -1,15 +1,15 @@
 //! The source nodes with the counts of their states, found by scope and source, and by number.
 
-ghost use Rattle.std.specs.Prelude.{◌≡◌, ◌<◌, ◌≤◌, ◌++◌, ◌∷◌, [], IfSome, None, OnErr, OnOk, Some, filter, length, map, option_map, slice_get, true};
+ghost use Rattle.std.specs.Prelude.{◌≡◌, ◌+◌, ◌-◌, ◌^◌, ◌==◌, ◌<◌, ◌≤◌, ◌++◌, ◌∷◌, [], IfSome, None, OnErr, OnOk, Some, filter, length, map, option_map, slice_get, true};
 ghost use Rattle.std.specs.List.{AllByRecursion, find, list_any};
 ghost use Rattle.std.specs.Map.{keys_of};
 ghost use Rattle.pfs_store_contract.specs.Counts.{scope_nodes};
 ghost use Rattle.pfs_store_contract.specs.Purging.{node_numbers};
 ghost use Rattle.pfs_store_records.specs.Changes.{CanChange, at_node, changed_by};
-ghost use Rattle.pfs_store_records.specs.Keeping.{Anywhere, AreInPlace, number_of_node, tally_in, values_at};
+ghost use Rattle.pfs_store_records.specs.Keeping.{Anywhere, AreInPlace, number_of_node, one_if, tally_in, values_at};
 ghost use Rattle.pfs_store_records.specs.Records.{IsAbove, IsRising, between};
 ghost use Rattle.pfs_store_records.specs.Retaining.{IsKeptUntil, is_past};
-ghost use Rattle.pfs_store_records.specs.Tallies.{IsOrderly, has_node_number, is_tally, nodes_of, other_node};
+ghost use Rattle.pfs_store_records.specs.Tallies.{IsOrderly, has_node_number, is_tally, nodes_of, other_node, stateless};
 ghost use Rattle.pfs_store_records.specs.declared.nodes.Tally.{Tally};
 ghost use Rattle.pfs_store_records.specs.Walks.{IsPassing};
 
@@ -60,19 +60,20 @@ pub struct Nodes<S: BuildHasher> {
     order: BTreeMap<u64, u32>,
     table: IndexMap<Tracked, u32, S>,
     counts: ScopeCounts,
+    stateless: u64,
 }
 
 impl<S: BuildHasher> Model for Nodes<S> {
     ghost use Rattle.std.specs.Prelude.{List};
     ghost use Rattle.indexmap.specs.IndexMap.{get};
     ghost use Rattle.pfs_store_records.specs.declared.nodes.Tally.{Tally};
-    ghost use Rattle.pfs_store_records.specs.Keeping.{IsNoted, same_source, tally_in, values_at};
+    ghost use Rattle.pfs_store_records.specs.Keeping.{AreNoted, same_source, tally_in, values_at};
 
     ghost Value = { List Tally };
 
     ghost view = { λ n. values_at (tally_in n.slab) n.order.entries };
 
-    ghost invariant = { λ n. IsNoted (get same_source n.table) (tally_in n.slab) n.order.entries n.counts.rules.items n.counts.global };
+    ghost invariant = { λ n. AreNoted (get same_source n.table) (tally_in n.slab) n.order.entries n.counts.rules.items n.counts.global n.stateless };
 }
 
 impl<S: BuildHasher> Nodes<S> {
@@ -86,6 +87,7 @@ impl<S: BuildHasher> Nodes<S> {
             order: BTreeMap::new(alloc),
             table: IndexMap::with_hasher(alloc, hasher),
             counts: ScopeCounts::new(alloc),
+            stateless: 0,
         }
     }
 
@@ -94,6 +96,13 @@ impl<S: BuildHasher> Nodes<S> {
         ensures { result ≡ length self.now }
     {
         self.order.len() as u64
+    }
+
+    /// How many of the nodes have no state. It takes no memory.
+    pub fn stateless(&self) -> u64
+        ensures { result ≡ stateless self.now }
+    {
+        self.stateless
     }
 
     /// The numbers of the nodes rise, and no two are of one scope and source: a fact for proofs, which computes nothing.
@@ -179,6 +188,7 @@ impl<S: BuildHasher> Nodes<S> {
             Ok(_) => {
                 self.slab.insert_reserved(tally);
                 self.counts.add(tally.node.scope);
+                self.stateless = counted(self.stateless, &tally);
                 Ok(())
             }
             Err(_) => unreachable!(),
@@ -193,11 +203,15 @@ impl<S: BuildHasher> Nodes<S> {
         ensures tally { result ≡ option_map (changed_by change) (find (is_tally scope source) self.old) }
         ensures absent { result ≡ None → (self.new ≡ self.old) × (find (is_tally scope source) self.old ≡ None) }
     {
+        // As in `push`: no count is near the greatest number.
+        let _count = self.order.len();
         match self.table.get(&Tracked { scope, source }) {
             Some(place) => {
                 let place = *place as usize;
-                let tally = changed(self.slab[place], change);
+                let before = self.slab[place];
+                let tally = changed(before, change);
                 self.slab[place] = tally;
+                self.stateless = counted(uncounted(self.stateless, &before), &tally);
                 Some(tally)
             }
             None => None,
@@ -212,15 +226,40 @@ impl<S: BuildHasher> Nodes<S> {
     {
         match self.order.remove(&number) {
             Some(place) => {
-                let node = self.slab.remove(place as usize).node;
+                let tally = self.slab.remove(place as usize);
                 self.table.swap_remove(&Tracked {
-                    scope: node.scope,
-                    source: node.source,
+                    scope: tally.node.scope,
+                    source: tally.node.source,
                 });
-                self.counts.take(node.scope);
+                self.counts.take(tally.node.scope);
+                self.stateless = uncounted(self.stateless, &tally);
             }
             None => unreachable!(),
         }
+    }
+}
+
+/// How many have no state, where this one is counted with so many others.
+fn counted(stateless: u64, tally: &Tally) -> u64
+    requires { stateless < 2 ^ 64 - 1 }
+    ensures { result ≡ stateless + one_if (tally.now.states == 0) }
+{
+    if tally.states == 0 {
+        stateless + 1
+    } else {
+        stateless
+    }
+}
+
+/// How many have no state, where this one was counted and is so no more.
+fn uncounted(stateless: u64, tally: &Tally) -> u64
+    requires { one_if (tally.now.states == 0) ≤ stateless }
+    ensures { result + one_if (tally.now.states == 0) ≡ stateless }
+{
+    if tally.states == 0 {
+        stateless - 1
+    } else {
+        stateless
     }
 }
 

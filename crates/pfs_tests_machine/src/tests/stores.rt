@@ -5,7 +5,7 @@ use super::tried::Tried;
 use pfs_addr_values::{Addr, FlowKey};
 use pfs_conf::{Config, RuleNo};
 use pfs_store::IndexStore;
-use pfs_store_contract::{Limit, StateNo, Store, Touched};
+use pfs_store_contract::{Limit, StateNo, Staying, Store, Touched};
 use pfs_store_plain::PlainStore;
 use pfs_tests_cases::{A1, A2, ACK, SYN, SYN_ACK, Sent, UNSCALED, configured, packet, same};
 use pfs_track::Score;
@@ -31,15 +31,18 @@ enum Step {
     States(u64, u64),
     /// So does one of the source nodes.
     Nodes(u64, u64),
-    /// A slice of the states examines so many, reports up to when they stay, and whether the round is over.
-    WatchStates(u64, u64, bool),
+    /// A slice of the states examines so many, reports which of them stay up to when, and whether the round is over.
+    WatchStates(u64, Told, bool),
     /// So does one of the source nodes.
-    WatchNodes(u64, u64, bool),
+    WatchNodes(u64, Told, bool),
     /// So many seconds are passed over.
     PassOver(u64),
     /// So many states and source nodes are held, and so many states were ever made.
     Held(u64, u64, u64),
 }
+
+/// Those above a number and up to another stay up to a moment.
+type Told = (Option<u64>, Option<u64>, u64);
 
 /// When it is done, and what.
 type Row = (u64, Step);
@@ -118,15 +121,19 @@ fn leave<S: Store>(rt: &impl Abort, tried: &mut Tried<S>, step: &Step) -> Result
     Ok(())
 }
 
+fn range(staying: &Staying) -> Told {
+    (staying.above, staying.last, staying.until)
+}
+
 fn watch<S: Store>(rt: &impl Abort, tried: &mut Tried<S>, step: &Step) {
     match *step {
-        Step::WatchStates(examined, until, over) => {
+        Step::WatchStates(examined, staying, over) => {
             let told = tried.watch_states();
-            same!(rt; (told.slice.examined, told.until, told.over), (examined, until, over));
+            same!(rt; (told.slice.examined, range(&told.staying), told.over), (examined, staying, over));
         }
-        Step::WatchNodes(examined, until, over) => {
+        Step::WatchNodes(examined, staying, over) => {
             let told = tried.watch_nodes();
-            same!(rt; (told.slice.examined, told.until, told.over), (examined, until, over));
+            same!(rt; (told.slice.examined, range(&told.staying), told.over), (examined, staying, over));
         }
         Step::PassOver(seconds) => same!(rt; tried.pass_over(seconds), seconds),
         _ => {}
@@ -399,17 +406,17 @@ const PASSED: &[Row] = &[
     (5, Step::Admit(A1, 3, 0, Ok(3))),
     (5, Step::Admit(A2, 4, 0, Ok(4))),
     (5, Step::Admit(A1, 5, 0, Ok(5))),
-    (6, Step::WatchStates(2, 10, false)),
-    (6, Step::WatchNodes(1, u64::MAX, false)),
-    (7, Step::WatchStates(2, 10, false)),
-    (7, Step::WatchNodes(1, u64::MAX, true)),
-    (8, Step::WatchStates(1, 10, true)),
+    (6, Step::WatchStates(2, (None, Some(2), 10), false)),
+    (6, Step::WatchNodes(1, (None, None, u64::MAX), false)),
+    (7, Step::WatchStates(2, (Some(2), Some(4), 10), false)),
+    (7, Step::WatchNodes(1, (None, None, u64::MAX), true)),
+    (8, Step::WatchStates(1, (Some(4), None, 10), true)),
     (8, Step::PassOver(4)),
     (13, Step::States(2, 2)),
     (14, Step::States(1, 1)),
-    (15, Step::WatchStates(2, u64::MAX, true)),
-    (15, Step::WatchNodes(1, 35, false)),
-    (16, Step::WatchNodes(1, 33, true)),
+    (15, Step::WatchStates(2, (None, None, u64::MAX), true)),
+    (15, Step::WatchNodes(1, (None, Some(1), 35), false)),
+    (16, Step::WatchNodes(1, (Some(1), None, 33), true)),
     (16, Step::PassOver(3)),
     (33, Step::Nodes(1, 1)),
     (35, Step::Nodes(1, 1)),
@@ -422,4 +429,22 @@ const PASSED: &[Row] = &[
 fn seconds_are_passed_over_by_rounds(rt: HostRuntime) -> Result<(), Fail> {
     let config = configured(rt.alloc(), UNSCALED, SLICES)?;
     tell_indexed(&rt, &config, PASSED)
+}
+
+const JOINED: &[Row] = &[
+    (5, Step::Admit(A1, 1, 0, Ok(1))),
+    (5, Step::Admit(A1, 2, 0, Ok(2))),
+    (5, Step::Admit(A1, 3, 0, Ok(3))),
+    (6, Step::WatchStates(2, (None, Some(2), 10), false)),
+    (6, Step::Admit(A1, 4, 0, Ok(4))),
+    (7, Step::WatchStates(1, (Some(2), Some(3), 10), true)),
+    (8, Step::WatchStates(2, (None, Some(2), 10), false)),
+    (9, Step::WatchStates(2, (Some(2), None, 10), true)),
+];
+
+/// The fourth state comes while a round is under way: the end of that round says nothing of it, the end of the next one does
+#[test]
+fn a_slice_says_nothing_of_a_state_that_it_did_not_examine(rt: HostRuntime) -> Result<(), Fail> {
+    let config = configured(rt.alloc(), UNSCALED, SLICES)?;
+    tell_indexed(&rt, &config, JOINED)
 }

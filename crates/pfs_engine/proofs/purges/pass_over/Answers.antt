@@ -1,6 +1,6 @@
 -- Answers of pass_over: the seconds that are passed over are those of the machine, and what is known of them.
 use Rattle.std.proofs.Common.{◌<◌, arith}
-use Rattle.pfs_engine.proofs.Watching.{none-watched, way-passed}
+use Rattle.pfs_engine.proofs.Watching.{passed-watched, way-passed}
 use Rattle.pfs_engine.proofs.purges.pass_over.Goals as goal
 
 pub returns-clause-way : goal.returns-clause-way
@@ -11,4 +11,5 @@ returns-clause-way g c =
 
 pub returns-clause-watched : goal.returns-clause-watched
 returns-clause-watched g c =
-    none-watched (g.S.Store.config c.args.store.now) (g.S.Store.world c.pass_over-passed.new.self) _ c.args.at.work c.none.result c.none-2.result c.none.ensures c.none-2.ensures
+    passed-watched (g.S.Store.config c.args.store.now) (g.S.Store.world c.args.store.now) (g.S.Store.world c.pass_over-passed.new.self) c.args.at _ c.pass_over-passed.result c.none.result c.none-2.result
+    c.pass_over-passed.ensures.world c.none.ensures c.none-2.ensures c.requires.watched

@@ -27,7 +27,7 @@ returns-clause-watched g c =
     let first = c.args.store.now in
     let states = c.watch_states-states in
     let nodes = c.watch_nodes-nodes in
-    second-watched (conf first) (conf states.new.self) (held first) (held states.new.self) (held nodes.new.self) c.args.at (c.args.at.second + 1) c.second_after.result c.greater.result states.result nodes.result c.has_left-left.result c.after.result c.after-2.result
-    states.ensures.config states.ensures.world states.ensures.answer states.ensures.until states.ensures.over
-    nodes.ensures.world nodes.ensures.answer nodes.ensures.until nodes.ensures.over c.has_left-left.ensures c.after.ensures c.after-2.ensures
+    second-watched (conf first) (conf states.new.self) (held first) (held states.new.self) (held nodes.new.self) c.args.at (c.args.at.second + 1) c.second_after.result c.greater.result states.result nodes.result c.after.result c.of_nodes.result c.after-2.result
+    states.ensures.config states.ensures.world states.ensures.answer states.ensures.staying states.ensures.over states.ensures.fits
+    nodes.ensures.world nodes.ensures.answer nodes.ensures.staying nodes.ensures.over nodes.ensures.fits c.after.ensures c.of_nodes.ensures c.after-2.ensures
     (ap (λ (x : Work). x.most_states) c.greater.ensures) (ap (λ (x : Work). x.most_nodes) c.greater.ensures) c.requires.watched

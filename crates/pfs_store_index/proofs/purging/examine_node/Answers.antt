@@ -1,5 +1,5 @@
 -- Answers of examine_node: the node leaves if it has no state and its retention is over; all others stay.
-use Rattle.std.proofs.Common.{◌≡◌, ◌∙◌, ◌+◌, ◌==◌, ◌&&◌, true, false, nat_le, sym, arith, ℕ, ◌≤◌, List, subst}
+use Rattle.std.proofs.Common.{◌≡◌, ◌∙◌, ◌+◌, ◌-◌, ◌^◌, ◌==◌, ◌&&◌, true, false, nat_le, sym, arith, ℕ, ◌≤◌, List, subst}
 use Rattle.std.proofs.lemmas.Bool.Decides.{nat_tests}
 use Rattle.pfs_store_contract.specs.Purging.{is_over, node_retention}
 use Rattle.pfs_store_index.proofs.Idling.{node_number}
@@ -10,7 +10,7 @@ use Rattle.pfs_store_contract.specs.Quiet.{NodeStays}
 use Rattle.pfs_store_contract.specs.declared.records.State.{State}
 use Rattle.pfs_store_contract.specs.declared.records.Node.{Node}
 use Rattle.pfs_store_index.specs.Staying.{NodeHolds}
-use Rattle.pfs_store_index.proofs.Untils.{one-filter, one-found}
+use Rattle.pfs_store_index.proofs.Untils.{one-found, one-gone}
 use Rattle.std.proofs.lemmas.Bool.{and_parts}
 use Rattle.pfs_store_index.proofs.purging.examine_node.Goals as goal
 
@@ -44,15 +44,13 @@ returns-then-is_over-clause-until g c =
     let n = c.args.tally.now.node in
     let conf = c.args.indexes.now.config in
     let xs = c.args.indexes.now.states in
-    let h = one-found node_number (NodeStays conf xs) n.number c.kept_until-until.result n c.args.indexes.now.nodes c.node_numbers_rise.ensures c.requires.held
-    (stays conf c.config-config.result.now xs n c.args.tally.now.states c.kept_until-until.result c.config-config.ensures c.requires.states c.kept_until-until.ensures) in
-    subst (λ (ns : List Node). NodeHolds conf xs n.number c.kept_until-until.result ns) (sym c.drop_node.ensures.nodes)
-    (one-filter node_number (NodeStays conf xs) _ n.number c.kept_until-until.result c.args.indexes.now.nodes h)
+    subst (λ (ns : List Node). NodeHolds conf xs n.number (2 ^ 64 - 1) ns) (sym c.drop_node.ensures.nodes)
+    (one-gone node_number (NodeStays conf xs) n.number (2 ^ 64 - 1) c.args.indexes.now.nodes)
 
 pub returns-else-is_over-clause-until : goal.returns-else-is_over-clause-until
 returns-else-is_over-clause-until g c =
     let n = c.args.tally.now.node in
     let conf = c.args.indexes.now.config in
     let xs = c.args.indexes.now.states in
-    one-found node_number (NodeStays conf xs) n.number c.kept_until-until.result n c.args.indexes.now.nodes c.node_numbers_rise.ensures c.requires.held
-    (stays conf c.config-config.result.now xs n c.args.tally.now.states c.kept_until-until.result c.config-config.ensures c.requires.states c.kept_until-until.ensures)
+    one-found node_number (NodeStays conf xs) n.number c.kept_until.result n c.args.indexes.now.nodes c.node_numbers_rise.ensures c.requires.held
+    (stays conf c.config-config.result.now xs n c.args.tally.now.states c.kept_until.result c.config-config.ensures c.requires.states c.kept_until.ensures)

@@ -1,18 +1,28 @@
--- Answers of watch_states as a store has it that says no other: up to the moment 0 all stays (`until`), and no round is over (`over`).
-use Rattle.std.proofs.Common.{List, [], ◌∷◌, arith}
+-- Answers of watch_states as a store has it that says no other: up to the moment 0 all stays (`staying`), and of no round it says that it
+-- is over (`over`), or how much is left of it (`fits`).
+use Rattle.std.proofs.Common.{◌≡◌, ap, subst, sym, List, [], ◌∷◌, None, arith}
 use borrow.Author.Tests.{clash}
 use Rattle.pfs_conf_values.specs.Configs.{Conf}
 use Rattle.pfs_store_contract.specs.Quiet.{StatesStay}
-use Rattle.pfs_store_contract.specs.Worlds.{World}
 use Rattle.pfs_store_contract.specs.declared.records.State.{State}
+use Rattle.pfs_store_contract.specs.declared.records.Staying.{Staying}
 use Rattle.pfs_store_contract.proofs.store.Store.watch_states.Goals as goal
 
-all_stay : (conf : Conf) (w : World) (states : List State) → StatesStay conf w 0 states
-all_stay conf w [] = tt
-all_stay conf w (s ∷ states) = ((λ _. omega arith), all_stay conf w states)
+all_stay : (conf : Conf) (held : List State) (states : List State) → StatesStay conf held (record { above = None; last = None; until = 0 }) states
+all_stay conf held [] = tt
+all_stay conf held (s ∷ states) = ((λ _. omega arith), all_stay conf held states)
 
-pub returns-clause-until : goal.returns-clause-until
-returns-clause-until g c = all_stay (g.Self.Store.config c.args.self.now) (g.Self.Store.world c.args.self.now) _
+pub returns-clause-staying : goal.returns-clause-staying
+returns-clause-staying g c =
+    let conf = g.Self.Store.config c.args.self.now in
+    let held = (g.Self.Store.world c.args.self.now).states in
+    let left = (g.Self.Store.world c.purge_states.new.self).states in
+    subst (λ (x : Staying). StatesStay conf held x left) (sym c.unknown.ensures) (all_stay conf held left)
 
 pub returns-clause-over : goal.returns-clause-over
 returns-clause-over g c = λ e. absurd (clash e)
+
+pub returns-clause-fits : goal.returns-clause-fits
+returns-clause-fits g c =
+    let e : c.unknown.result.until ≡ 0 = ap (λ (x : Staying). x.until) c.unknown.ensures in
+    λ h. absurd (omega (arith, e, h))

@@ -1,15 +1,17 @@
 -- Answers of IndexStore's watch_states: the slice of the definition, up to when its states stay, its looks.
-use Rattle.std.proofs.Common.{◌≡◌, ◌∙◌, ◌≤◌, ℕ, true, List, length-take, ap, length, subst, take, arith, rules}
+use Rattle.std.proofs.Common.{◌≡◌, ◌∙◌, ◌≤◌, ℕ, true, List, length-take, ap, drop, length, subst, sym, take, arith, rules}
 use Rattle.std.specs.Map.{keys_of}
 use Rattle.pfs_store_index.specs.Rounds.{waiting}
-use Rattle.pfs_store_index.specs.Stored.{IsStored}
+use Rattle.pfs_store_index.specs.Stored.{IsNumbered, IsStored}
 use Rattle.pfs_store_index.specs.Holdings.{Indexed}
-use Rattle.pfs_store_contract.specs.Purging.{is_among, round, state_numbers, state_share, state_slice}
-use Rattle.pfs_store_contract.specs.Quiet.{StateStays, StatesStay}
+use Rattle.pfs_store_contract.specs.Purging.{round, state_numbers, state_share, state_slice}
+use Rattle.pfs_store_contract.specs.Quiet.{IsTold, StateStays, StatesStay}
 use Rattle.pfs_store_contract.specs.declared.records.State.{State}
 use Rattle.std.specs.List.{AllByRecursion}
 use Rattle.pfs_store_index.proofs.Leavings.{state_number}
-use Rattle.pfs_store_index.proofs.Storing.{few-numbered, stored-without, world-slice}
+use Rattle.pfs_store_records.specs.Records.{between}
+use Rattle.pfs_store_index.proofs.Storing.{few-numbered, numbered-filter, stored-without, world-slice}
+use Rattle.pfs_store_index.proofs.Told.{told-stay}
 use Rattle.pfs_store_index.proofs.RisingWalks.{all-fewer}
 use Rattle.pfs_store_index.proofs.store.IndexStoreStore.watch_states.Goals as goal
 
@@ -44,14 +46,34 @@ returns-clause-world g c =
     steps.ensures.states steps.ensures.nodes steps.ensures.waiting
     ∙ ap (λ (p : Indexed). state_slice p.config p.world c.args.now) c.self.view_is
 
-pub returns-clause-until : goal.returns-clause-until
-returns-clause-until g c =
+-- the numbers that are held after the slice
+numbers-after : (g : _) (c : goal.After-order-2 g) → keys_of c.order-2.result.now.entries ≡ state_numbers c.walk_states-steps.new.indexes.states
+numbers-after g c = c.order-2.ensures.numbers ∙ ap state_numbers c.records-2.ensures
+
+pub watched-requires-clause-numbered : goal.watched-requires-clause-numbered
+watched-requires-clause-numbered g c =
+    rw (numbers-after g c) (subst (λ (xs : List State). IsNumbered c.self.inside.made (state_numbers xs)) (sym c.walk_states-steps.ensures.states)
+    (numbered-filter state_number _ c.self.inside.made c.self.inside.indexes.states c.self.invariant.numbered))
+
+pub returns-clause-staying : goal.returns-clause-staying
+returns-clause-staying g c =
     let h = c.self.inside.indexes in
-    let until = c.walk_states-steps.result.until in
-    let kept = c.walk_states-steps.new.indexes.states in
-    let share : c.share_of-share.result ≡ state_share h.config = search rules in
-    rw c.watched.ensures.until (subst (λ (p : Indexed). StatesStay p.config p.world until kept) c.self.view_is
-    (subst (λ (ns : List ℕ). AllByRecursion (λ (s : State). is_among ns s.number ≡ true → StateStays h.config h.states until s) kept) (λ j. take (share j) (pending g c j)) c.walk_states-steps.ensures.until))
+    let steps = c.walk_states-steps in
+    let round = c.under_way-round.result in
+    let kept = steps.new.indexes.states in
+    let staying = c.watched.result.staying in
+    let numbers = numbers-after g c.before in
+    let told = subst (λ ns. AllByRecursion (λ n. IsTold staying n → between round.cursor steps.result.round.cursor n ≡ true) ns) numbers c.watched.ensures.told in
+    let rest : waiting steps.result.round.cursor round.mark (state_numbers kept) ≡ drop c.share_of-share.result (waiting round.cursor round.mark (state_numbers h.states)) =
+    subst (λ m. waiting steps.result.round.cursor m (state_numbers kept) ≡ drop c.share_of-share.result (waiting round.cursor round.mark (state_numbers h.states))) steps.ensures.mark steps.ensures.waiting in
+    let within : steps.result.round.cursor ≤ round.mark = omega (arith, steps.ensures.order, steps.ensures.mark) in
+    subst (λ (p : Indexed). StatesStay p.config p.world.states staying kept) c.self.view_is
+    (subst (λ u. AllByRecursion (λ (s : State). IsTold staying s.number → StateStays h.config h.states u s) kept) (sym c.watched.ensures.until)
+    (told-stay state_number (λ u s. StateStays h.config h.states u s) staying round.cursor steps.result.round.cursor round.mark c.share_of-share.result steps.result.until _ h.states kept
+    steps.ensures.states within told rest steps.ensures.until))
+
+pub returns-clause-fits : goal.returns-clause-fits
+returns-clause-fits g c = λ some. all-fewer state_number c.walk_states-steps.result.round.cursor c.walk_states-steps.result.round.mark c.walk_states-steps.new.indexes.states
 
 pub returns-clause-most : goal.returns-clause-most
 returns-clause-most g c =

@@ -7,7 +7,7 @@ use Rattle.pfs_store_records.proofs.nodes.Nodes.pass.Goals as goal
 
 pub pass_range-requires-clause-kept : goal.pass_range-requires-clause-kept
 pass_range-requires-clause-kept g c =
-    kept-anywhere (get same_source c.self.inside.table) (tally_in c.self.inside.slab) c.self.inside.order.entries c.self.invariant.kept
+    kept-anywhere (get same_source c.self.inside.table) (tally_in c.self.inside.slab) c.self.inside.order.entries c.self.invariant.noted.kept
 
 pub returns-clause-passing : goal.returns-clause-passing
 returns-clause-passing g c = rw (sym c.self.view_is) c.pass_range.ensures.passing
