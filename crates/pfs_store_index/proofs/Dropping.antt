@@ -3,7 +3,6 @@ use Rattle.std.proofs.Common.{◌≡◌, ◌∙◌, ◌==◌, ℕ, Bool, true, f
 use Rattle.std.specs.BTreeSet.{BTreeSet}
 use Rattle.std.specs.HashMap.{HashMap}
 use Rattle.std.specs.List.{find, list_any, AllByRecursion}
-use Rattle.pfs_addr_values.specs.declared.addresses.Addr.{Addr}
 use Rattle.pfs_addr_values.specs.declared.packets.FlowKey.{FlowKey}
 use Rattle.pfs_conf_values.specs.Configs.{Conf}
 use Rattle.pfs_store_contract.specs.Counts.{is_of_node, node_states}
@@ -15,6 +14,7 @@ use Rattle.pfs_store_records.specs.Records.{IsRising, Placed, states_of}
 use Rattle.pfs_store_records.specs.Tallies.{has_node_number, is_tally, nodes_of, other_node}
 use Rattle.pfs_store_records.specs.declared.nodes.Tally.{Tally}
 use Rattle.pfs_store_index.specs.declared.indexes.Entry.{Entry}
+use Rattle.pfs_store_index.specs.declared.sources.Source.{Source}
 use Rattle.pfs_store_records.specs.Changes.{HasTally, IsScored, IsScoped, is_at}
 use Rattle.pfs_store_index.specs.Ties.{IsCounted, IsTied}
 use Rattle.pfs_store_records.proofs.OneNode.{of_node}
@@ -40,7 +40,7 @@ noded-dropped conf n t ts (x ∷ xs) r f k z (h, hs) =
       noded-dropped conf n t ts xs r f k w.1 hs,
     )
 
-pub tied-dropped : {S : Type 0} (conf : Conf) (rs : List Placed) (keys : HashMap FlowKey Entry S) (counts : List ℕ) (ts : List Tally) (pairs : BTreeSet (Addr × ℕ)) (n : Node)
+pub tied-dropped : {S : Type 0} (conf : Conf) (rs : List Placed) (keys : HashMap FlowKey Entry S) (counts : List ℕ) (ts : List Tally) (pairs : BTreeSet (Source × ℕ)) (n : Node)
     → IsTied conf rs keys counts ts pairs → IsRising (node_numbers (nodes_of ts)) → find (λ (m : Node). m.number == n.number) (nodes_of ts) ≡ Some n
     → node_states conf n.scope n.source (states_of rs) ≡ 0 → IsTied conf rs keys counts (filter (other_node n.number) ts) pairs
 tied-dropped conf rs keys counts ts pairs n i r f z =

@@ -8,7 +8,7 @@ mod Reached
 mod Removals
 mod Renewing
 mod RisingWalks
-mod Sources
+mod SourcePairs
 mod Stands
 mod Storing
 mod Stretches

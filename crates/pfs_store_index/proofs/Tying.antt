@@ -8,7 +8,7 @@ use Rattle.std.specs.HashMap.{HashMap}
 use Rattle.std.specs.List.{find, list_any, AllByRecursion, IsDistinct}
 use Rattle.pfs_addr_values.specs.Packets.{PacketView}
 use Rattle.pfs_addr_values.specs.Sameness.{same_key}
-use Rattle.pfs_addr_values.specs.declared.addresses.Addr.{Addr}
+use Rattle.pfs_addr_values.specs.Addresses.{IsAddr}
 use Rattle.pfs_addr_values.specs.declared.packets.FlowKey.{FlowKey}
 use Rattle.pfs_conf_values.specs.Configs.{Conf, options_of}
 use Rattle.pfs_track.specs.StatePhases.{is_done}
@@ -22,7 +22,8 @@ use Rattle.pfs_store_contract.specs.declared.records.State.{State}
 use Rattle.pfs_store_records.specs.Records.{IsRising, Placed, leaves_number, placed_at, states_of}
 use Rattle.pfs_store_records.specs.declared.nodes.Tally.{Tally}
 use Rattle.pfs_store_index.specs.declared.indexes.Entry.{Entry}
-use Rattle.pfs_store_index.specs.Ties.{HasPair, HasRule, IsCounted, IsTied, SamePairs, entry_of, has_key, is_pair, key_in, left_at, pair_cmp}
+use Rattle.pfs_store_index.specs.declared.sources.Source.{Source}
+use Rattle.pfs_store_index.specs.Ties.{HasPair, HasRule, IsCounted, IsTied, SamePairs, entry_of, has_key, is_pair, key_in, left_at, pair_cmp, source_of}
 use Rattle.pfs_store_records.specs.Changes.{HasTally, at_node, tallies_with_state, left_of, met_by}
 use Rattle.pfs_store_index.proofs.Comings.{counted-came, distinct-came, key-came, noded-came, pair-came, rule-came, ruled-came, scoped-came, scored-came}
 use Rattle.pfs_store_index.proofs.Leavings.{counted-left, key-left, noded-left, pair-left, record_number, rule-left, ruled-set, scored-left, state_number}
@@ -31,21 +32,21 @@ use Rattle.pfs_store_index.proofs.Meetings.{CountsDone, all-blind, all-met, any-
 use Rattle.pfs_store_records.proofs.OneNode.{scoped-at}
 use Rattle.pfs_store_index.proofs.Removals.{all-filter, all-found, distinct-filter}
 use Rattle.pfs_store_records.proofs.Searches.{map-push, part-found}
-use Rattle.pfs_store_index.proofs.Sources.{pair_test}
+use Rattle.pfs_store_index.proofs.SourcePairs.{pair_test}
 use Rattle.pfs_store_index.proofs.Stands.{rising-records, states-left}
 use Rattle.pfs_store_records.proofs.Rising.{has_number}
 
-module _ {S : Type 0} (conf : Conf) (rs : List Placed) (keys : HashMap FlowKey Entry S) (counts : List ℕ) (ts : List Tally) (pairs : BTreeSet (Addr × ℕ)) where
+module _ {S : Type 0} (conf : Conf) (rs : List Placed) (keys : HashMap FlowKey Entry S) (counts : List ℕ) (ts : List Tally) (pairs : BTreeSet (Source × ℕ)) where
   -- the rule of a state that is held has a count
   pub rule-within : (s : State) → IsTied conf rs keys counts ts pairs → find (has_number state_number s.number) (states_of rs) ≡ Some s → s.rule.0 < length counts
   rule-within s i f = all-found state_number (HasRule (length counts)) s.number s (states_of rs) i.ruled f
 
-  pub tied-left : (keys' : HashMap FlowKey Entry S) (pairs' : BTreeSet (Addr × ℕ)) (s : State) (now v : ℕ) → IsTied conf rs keys counts ts pairs → IsRising (state_numbers (states_of rs))
+  pub tied-left : (keys' : HashMap FlowKey Entry S) (pairs' : BTreeSet (Source × ℕ)) (s : State) (now v : ℕ) → IsAddr s.source → IsTied conf rs keys counts ts pairs → IsRising (state_numbers (states_of rs))
       → find (has_number state_number s.number) (states_of rs) ≡ Some s → v ≡ slice_index counts s.rule.0
       → ((k : FlowKey) → hash.get same_key keys' k ≡ cond (same_key s.key k) None (hash.get same_key keys k))
-      → ((q : Addr × ℕ) → tree.contains pair_cmp pairs' q ≡ cond (is_found (pair_cmp (s.source, s.number)) q) false (tree.contains pair_cmp pairs q))
+      → ((q : Source × ℕ) → tree.contains pair_cmp pairs' q ≡ cond (is_found (pair_cmp (source_of s.source, s.number)) q) false (tree.contains pair_cmp pairs q))
       → IsTied conf (filter (leaves_number s.number) rs) keys' (slice_set counts s.rule.0 (v - 1)) (map (left_at conf s now) ts) pairs'
-  tied-left keys' pairs' s now v i r f e hk hp =
+  tied-left keys' pairs' s now v u i r f e hk hp =
       let xs = states_of rs in
       let p = part-found (λ (q : Placed). q.state) (has_number state_number s.number) s rs f in
       let own : find (has_number record_number p.whole.state.number) rs ≡ Some p.whole = ap (λ (z : State). find (has_number record_number z.number) rs) p.same ∙ p.found in
@@ -65,17 +66,17 @@ module _ {S : Type 0} (conf : Conf) (rs : List Placed) (keys : HashMap FlowKey E
         scored = scored-left conf s now ts i.scored;
         noded = subst (AllByRecursion (HasTally conf (map (left_at conf s now) ts))) (sym at)
             (noded-left conf s now ts (filter (other_than s.number) xs) (all-filter (other_than s.number) (HasTally conf ts) xs i.noded));
-        paired = λ a n.
-            pair-left s xs a n _ _ r f (i.paired a n) (hp (a, n) ∙ ap (λ b. cond b false (tree.contains pair_cmp pairs (a, n))) (pair_test s a n))
+        paired = λ a n at'.
+            pair-left s xs a n _ _ r f (i.paired a n at') (hp (source_of a, n) ∙ ap (λ b. cond b false (tree.contains pair_cmp pairs (source_of a, n))) (pair_test s a n u at'))
             ∙ ap (list_any (is_pair a n)) (sym at);
       }
 
-  pub tied-came : (keys' : HashMap FlowKey Entry S) (pairs' : BTreeSet (Addr × ℕ)) (s : State) (place v : ℕ) (o : Option NodeScope) → IsTied conf rs keys counts ts pairs
+  pub tied-came : (keys' : HashMap FlowKey Entry S) (pairs' : BTreeSet (Source × ℕ)) (s : State) (place v : ℕ) (o : Option NodeScope) → IsAddr s.source → IsTied conf rs keys counts ts pairs
       → find (has_key s.key) rs ≡ None → s.rule.0 < length counts → v ≡ slice_index counts s.rule.0 → is_done s.phase ≡ false → node_scope_of conf s.rule.0 ≡ o
       → ((k : FlowKey) → hash.get same_key keys' k ≡ cond (same_key s.key k) (Some (entry_of (placed_at place s))) (hash.get same_key keys k))
-      → HasPair (s.source, s.number) pairs pairs'
+      → HasPair (source_of s.source, s.number) pairs pairs'
       → IsTied conf (rs ++ placed_at place s ∷ []) keys' (slice_set counts s.rule.0 (v + 1)) (tallies_with_state o s ts) pairs'
-  tied-came keys' pairs' s place v o i f w e d so hk hp =
+  tied-came keys' pairs' s place v o u i f w e d so hk hp =
       let xs = states_of rs in
       let at : states_of (rs ++ placed_at place s ∷ []) ≡ states_of rs ++ s ∷ [] = map-push (λ (p : Placed). p.state) (placed_at place s) rs in
       record {
@@ -88,8 +89,8 @@ module _ {S : Type 0} (conf : Conf) (rs : List Placed) (keys : HashMap FlowKey E
         scoped = scoped-came conf o s ts so i.scoped;
         scored = scored-came o s ts i.scored;
         noded = subst (AllByRecursion (HasTally conf (tallies_with_state o s ts))) (sym at) (noded-came conf o s xs ts so i.noded);
-        paired = λ a n.
-            pair-came s xs a n _ _ (i.paired a n) (hp (a, n) ∙ ap (λ b. cond b true (tree.contains pair_cmp pairs (a, n))) (pair_test s a n))
+        paired = λ a n at'.
+            pair-came s xs a n _ _ (i.paired a n at') (hp (source_of a, n) ∙ ap (λ b. cond b true (tree.contains pair_cmp pairs (source_of a, n))) (pair_test s a n u at'))
             ∙ ap (list_any (is_pair a n)) (sym at);
       }
 
@@ -114,11 +115,11 @@ module _ {S : Type 0} (conf : Conf) (rs : List Placed) (keys : HashMap FlowKey E
         scored = scored-met sc s.source rate now (completes_at p s) ts i.scored;
         noded = subst (AllByRecursion (HasTally conf (map (at_node (node_scope_of conf s.rule.0) s.source (met_by (options_of conf s.rule.0).max_src_conn_rate now (completes_at p s))) ts))) (sym at)
             (noded-met conf n p now sc s.source rate (completes_at p s) xs ts i.noded);
-        paired = λ a m. i.paired a m ∙ sym (any-blind n p now (is_pair a m) xs (blind n p now (is_pair a m) (λ y. refl))) ∙ ap (list_any (is_pair a m)) (sym at);
+        paired = λ a m u. i.paired a m u ∙ sym (any-blind n p now (is_pair a m) xs (blind n p now (is_pair a m) (λ y. refl))) ∙ ap (list_any (is_pair a m)) (sym at);
       }
 
   -- the same where the indexes find the same
-  pub tied-same : (keys' : HashMap FlowKey Entry S) (pairs' : BTreeSet (Addr × ℕ)) → IsTied conf rs keys counts ts pairs
+  pub tied-same : (keys' : HashMap FlowKey Entry S) (pairs' : BTreeSet (Source × ℕ)) → IsTied conf rs keys counts ts pairs
       → ((k : FlowKey) → hash.get same_key keys' k ≡ hash.get same_key keys k) → SamePairs pairs pairs' → IsTied conf rs keys' counts ts pairs'
   tied-same keys' pairs' i hk hp = record {
     by_key = λ k. hk k ∙ i.by_key k;
@@ -130,7 +131,7 @@ module _ {S : Type 0} (conf : Conf) (rs : List Placed) (keys : HashMap FlowKey E
     scoped = i.scoped;
     scored = i.scored;
     noded = i.noded;
-    paired = λ a n. hp (a, n) ∙ i.paired a n;
+    paired = λ a n u. hp (source_of a, n) ∙ i.paired a n u;
   }
 
 -- ---- nothing is held

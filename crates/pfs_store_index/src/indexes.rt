@@ -25,6 +25,7 @@ ghost use Rattle.pfs_store_index.specs.Rounds.{waiting, waiting_of};
 ghost use Rattle.pfs_store_index.specs.Ties.{HasRule, entry_of};
 
 use crate::placing::place;
+use crate::sources::Source;
 use crate::stepping::stepped;
 use indexmap::IndexMap;
 use pfs_addr_values::{Addr, FlowKey, Meter, NoMemory, Packet};
@@ -62,7 +63,7 @@ pub(crate) struct Indexes<S: BuildHasher> {
     keys: IndexMap<Sought, Entry, S>,
     counts: Vec<u64>,
     nodes: Nodes<S>,
-    pairs: BTreeSet<(Addr, u32)>,
+    pairs: BTreeSet<(Source, u32)>,
 }
 
 impl<S: BuildHasher> Model for Indexes<S> {
@@ -215,6 +216,7 @@ impl<S: BuildHasher> Indexes<S> {
         ensures { result ≡ slice_get (waiting_of source above most self.now.states) 0 }
     {
         self.records.numbers_rise();
+        let source = Source::of(source);
         match self
             .pairs
             .range((
@@ -365,7 +367,8 @@ impl<S: BuildHasher> Indexes<S> {
         let rule = state.rule.0 as usize;
         let scope = node_scope(&self.config, state.rule);
         self.keys.swap_remove(&Sought { key: state.key });
-        self.pairs.remove(&(state.source, state.number as u32));
+        self.pairs
+            .remove(&(Source::of(state.source), state.number as u32));
         self.counts[rule] -= 1;
         leave(&mut self.nodes, scope, &state, now);
         self.records.remove(state.number);

@@ -9,6 +9,7 @@ mod limits;
 mod placing;
 mod purging;
 mod rounds;
+mod sources;
 mod stepping;
 mod store;
 

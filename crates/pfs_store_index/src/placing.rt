@@ -3,14 +3,16 @@
 ghost use Rattle.std.specs.Prelude.{◌≡◌, ◌<◌, ◌^◌, ◌++◌, ◌∷◌, [], IfOk, OnErr, OnOk, false, Some};
 ghost use Rattle.std.specs.BTreeSet.{contains};
 ghost use Rattle.std.specs.List.{AllByRecursion};
+ghost use Rattle.pfs_addr_values.specs.Addresses.{IsAddr};
 ghost use Rattle.pfs_store_contract.specs.Purging.{node_numbers, state_numbers};
 ghost use Rattle.pfs_store_records.specs.Records.{IsAbove, placed_at, states_of};
 ghost use Rattle.pfs_store_records.specs.Sourced.{IsSourced};
 ghost use Rattle.pfs_store_records.specs.Tallies.{nodes_of};
-ghost use Rattle.pfs_store_index.specs.Ties.{HasPair, SamePairs, pair_cmp};
+ghost use Rattle.pfs_store_index.specs.Ties.{HasPair, SamePairs, pair_cmp, source_of};
 ghost use Rattle.pfs_store_records.specs.Changes.{IsFew, tallies_with_state};
 
-use pfs_addr_values::{Addr, NoMemory};
+use crate::sources::Source;
+use pfs_addr_values::NoMemory;
 use pfs_store_contract::{NodeScope, State};
 use pfs_store_records::{Nodes, Records, join};
 use std::collections::BTreeSet;
@@ -20,7 +22,7 @@ use std::hash::BuildHasher;
 /// nothing is placed.
 pub(crate) fn place<S: BuildHasher>(
     records: &mut Records,
-    pairs: &mut BTreeSet<(Addr, u32)>,
+    pairs: &mut BTreeSet<(Source, u32)>,
     nodes: &mut Nodes<S>,
     state: State,
     scope: Option<NodeScope>,
@@ -30,25 +32,27 @@ pub(crate) fn place<S: BuildHasher>(
     requires nodes_above { IsAbove state.number (node_numbers (nodes_of nodes.old)) }
     requires sourced { IsSourced state }
     requires small { state.number < 2 ^ 32 }
-    requires absent { contains pair_cmp pairs.old (state.source, state.number) ≡ false }
+    requires absent { IsAddr state.source → contains pair_cmp pairs.old (source_of state.source, state.number) ≡ false }
     ensures records { IfOk result (λ place. records.new ≡ records.old ++ placed_at place state ∷ []) }
-    ensures pairs { OnOk result (HasPair (state.source, state.number) pairs.old pairs.new) }
+    ensures pairs { OnOk result (HasPair (source_of state.source, state.number) pairs.old pairs.new) }
     ensures nodes { OnOk result (nodes.new ≡ tallies_with_state scope state nodes.old) }
+    ensures addr { IsAddr state.source }
     ensures same_records { OnErr result (records.new ≡ records.old) }
     ensures same_pairs { OnErr result (SamePairs pairs.old pairs.new) }
     ensures same_nodes { OnErr result (nodes.new ≡ nodes.old) }
 {
-    match pairs.insert((state.source, state.number as u32)) {
+    let pair = (Source::of(state.source), state.number as u32);
+    match pairs.insert(pair) {
         Err(_) => Err(NoMemory),
         Ok(_) => match records.push(&state) {
             Err(_) => {
-                pairs.remove(&(state.source, state.number as u32));
+                pairs.remove(&pair);
                 Err(NoMemory)
             }
             Ok(place) => match join(nodes, scope, &state) {
                 Err(_) => {
                     records.remove(state.number);
-                    pairs.remove(&(state.source, state.number as u32));
+                    pairs.remove(&pair);
                     Err(NoMemory)
                 }
                 Ok(_) => Ok(place),

@@ -38,9 +38,9 @@ pub place-requires-clause-nodes_above : goal.place-requires-clause-nodes_above
 place-requires-clause-nodes_above g c = subst (λ (h : Holding). IsAbove c.args.state.number (node_numbers h.nodes)) (sym c.self.view_is) c.requires.nodes_above
 
 pub place-requires-clause-absent : goal.place-requires-clause-absent
-place-requires-clause-absent g c =
+place-requires-clause-absent g c u =
     let a : IsAbove c.args.state.number (state_numbers (states_of c.self.inside.records)) = subst (λ (h : Holding). IsAbove c.args.state.number (state_numbers h.states)) (sym c.self.view_is) c.requires.above in
-    c.self.invariant.paired c.args.state.source c.args.state.number ∙ pair-fresh c.args.state.source c.args.state.number (states_of c.self.inside.records) a
+    c.self.invariant.paired c.args.state.source c.args.state.number u ∙ pair-fresh c.args.state.source c.args.state.number (states_of c.self.inside.records) a
 
 pub invariant_of-self-in_err-spot : goal.invariant_of-self-in_err-spot
 invariant_of-self-in_err-spot g c =
@@ -69,7 +69,7 @@ invariant_of-self-2 g c =
     let f : find (λ (x : State). same_key x.key c.args.state.key) (states_of c.self.inside.records) ≡ None = ap (λ (h : Holding). find (λ (x : State). same_key x.key c.args.state.key) h.states) c.self.view_is ∙ c.requires.fresh in
     rw (c.in_ok-spot.ensures.records, c.in_ok-spot.ensures.nodes)
     (tied-came c.self.inside.config c.self.inside.records c.self.inside.keys c.self.inside.counts.items c.self.inside.nodes c.self.inside.pairs c.insert.new.self c.place.new.pairs
-    s c.in_ok-spot.spot _ c.node_scope-scope.result c.self.invariant (none-found (λ (x : State). same_key x.key c.args.state.key) c.self.inside.records f) w
+    s c.in_ok-spot.spot _ c.node_scope-scope.result c.place.ensures.addr c.self.invariant (none-found (λ (x : State). same_key x.key c.args.state.key) c.self.inside.records f) w
     (get_or_read c.self.inside.counts.items _ _ w c.index_mut.ensures.value 0) c.requires.phase (sym c.node_scope-scope.ensures)
     (λ k. c.in-Ok.ensures.updates.0 k ∙ (λ j. cond (same_key s.key k) (Some (c.entry_of-entry.ensures j)) (ap (lookup (same_key k)) c.reserve.ensures.entries j)))
     c.in_ok-spot.ensures.pairs)

@@ -1,5 +1,7 @@
 -- Answers of Indexes::take_out: a state leaves, its node idles if it was the last (`nodes`); all stays tied.
-use Rattle.std.proofs.Common.{◌≡◌, ◌∙◌, ◌<◌, Option, Some, length, map, ap, sym, rules}
+use Rattle.std.proofs.Common.{◌≡◌, ◌∙◌, ◌<◌, Option, Some, cond, false, length, map, ap, sym, rules}
+use Rattle.std.specs.BTreeMap.{is_at as is_found}
+use Rattle.std.specs.BTreeSet.{contains}
 use Rattle.std.specs.List.{find}
 use Rattle.std.proofs.lemmas.List.{get_or_read}
 use Rattle.pfs_store_contract.specs.declared.records.NodeScope.{NodeScope}
@@ -7,7 +9,8 @@ use Rattle.pfs_store_records.specs.Records.{states_of}
 use Rattle.pfs_store_records.specs.Tallies.{nodes_of}
 use Rattle.pfs_store_index.specs.Holdings.{Holding}
 use Rattle.pfs_store_records.specs.Changes.{at_node, left_of}
-use Rattle.pfs_store_index.specs.Ties.{left_at}
+use Rattle.pfs_store_index.specs.Ties.{left_at, pair_cmp}
+use Rattle.pfs_store_index.specs.declared.sources.Source.{Source}
 use Rattle.pfs_store_index.proofs.Leavings.{nodes-left, rule-held, state_number}
 use Rattle.pfs_store_index.proofs.Removals.{find-in}
 use Rattle.pfs_store_index.proofs.Tying.{rule-within, tied-left}
@@ -40,7 +43,8 @@ invariant_of-self g c =
     c.leave.ensures ∙ ap (λ (o : Option NodeScope). map (at_node o s.source (left_of s c.args.now)) c.self.inside.nodes) c.node_scope-scope.ensures in
     rw (c.remove-2.ensures.records, at)
     (tied-left c.self.inside.config c.self.inside.records c.self.inside.keys c.self.inside.counts.items c.self.inside.nodes c.self.inside.pairs c.swap_remove.new.self c.remove.new.self s c.args.now _
-    c.self.invariant c.numbers_rise.ensures f (get_or_read c.self.inside.counts.items _ _ w c.index_mut.ensures.value 0) c.swap_remove.ensures.updates.0 c.remove.ensures.updates.0)
+    c.of.ensures.addr c.self.invariant c.numbers_rise.ensures f (get_or_read c.self.inside.counts.items _ _ w c.index_mut.ensures.value 0) c.swap_remove.ensures.updates.0
+    (λ q. c.remove.ensures.updates.0 q ∙ ap (λ (o : Source). cond (is_found (pair_cmp (o, s.number)) q) false (contains pair_cmp c.self.inside.pairs q)) c.of.ensures.value))
 
 pub returns-clause-nodes : goal.returns-clause-nodes
 returns-clause-nodes g c =

@@ -1,5 +1,5 @@
 -- The pairs of one source in the ordered set, by number, are its states.
-use Rattle.std.proofs.Common.{◌≡◌, ◌∙◌, ◌<◌, ◌≤◌, ◌==◌, ◌&&◌, ◌||◌, ℕ, Bool, true, false, cond, Some, None, List, [], ◌∷◌, slice_get, refl, ap, sym, subst, arith, IfSome}
+use Rattle.std.proofs.Common.{◌≡◌, ◌∙◌, ◌<◌, ◌≤◌, ◌==◌, ◌&&◌, ◌||◌, ℕ, Bool, true, false, cond, Some, None, List, [], ◌∷◌, slice_get, refl, ap, sym, subst, arith, IfSome, rules, ◌/◌, ◌^◌, ◌-◌}
 use Rattle.std.specs.Cmp.{IsTotalOrder}
 use Rattle.std.specs.List.{list_any}
 use Rattle.std.specs.BTreeMap.{is_at as is_found}
@@ -7,37 +7,46 @@ use Rattle.std.specs.Ordering.{is_eq, is_gt, nat_cmp, ordering_reverse, ordering
 use Rattle.std.specs.declared.cmp.Ordering.{Ordering}
 use Rattle.std.specs.declared.cmp.Ordering.TheVariants.{Less, Equal, Greater}
 use Rattle.std.proofs.lemmas.Bool.Decides.{nat_tests}
+use Rattle.pfs_addr_values.proofs.PrefixLaws.{cleared_same, network_whole}
 use Rattle.pfs_addr_values.proofs.SameLaws.{same_addr_self, same_addr_true}
 use Rattle.pfs_addr_values.specs.Sameness.{same_addr}
-use Rattle.pfs_addr_values.specs.contracts.addresses.AddrOrd.TheImpl.Laws.{matches_eq-law, total-law}
 use Rattle.std.specs.BTreeSet as tree
 use Rattle.std.specs.BTreeSet.{BTreeSet}
 use Rattle.std.specs.declared.ops.Bound.TheVariants.{Excluded, Included}
+use Rattle.pfs_addr_values.specs.Addresses.{IsAddr}
 use Rattle.pfs_addr_values.specs.declared.addresses.Addr.{Addr}
+use Rattle.pfs_addr_values.specs.declared.addresses.Addr.TheVariants.{V4 as Addr-V4, V6 as Addr-V6}
 use Rattle.pfs_store_contract.specs.Counts.{is_of_source}
 use Rattle.pfs_store_contract.specs.declared.records.State.{State}
 use Rattle.pfs_store_records.specs.Records.{between}
 use Rattle.pfs_store_index.specs.Rounds.{waiting_of}
-use Rattle.pfs_store_index.specs.Ties.{addr_cmp, is_pair, pair_cmp}
+use Rattle.pfs_store_index.specs.Ties.{is_pair, pair_cmp, source_cmp, source_of}
+use Rattle.pfs_store_index.specs.contracts.sources.SourceOrd.TheImpl.Laws.{matches_eq-law, total-law}
+use Rattle.pfs_store_index.specs.contracts.sources.SourcePartialEq.TheImpl as source_eq
+use Rattle.pfs_store_index.specs.declared.sources.Source.{Source}
+use Rattle.pfs_store_index.specs.declared.sources.Source.TheVariants.{V4 as Source-V4, V6 as Source-V6}
 use Rattle.pfs_store_index.proofs.Leavings.{state_number}
 use Rattle.std.proofs.lemmas.Bool.{and_parts, and_from}
 use Rattle.pfs_store_records.proofs.Rising.{Above, IsRisingBy, head-above, rest-rising}
 
 -- ---- the order of pairs
 
-addr_total : IsTotalOrder addr_cmp
-addr_total = total-law
+source_total : IsTotalOrder source_cmp
+source_total = total-law
 
-addr_equal : (a b : Addr) → addr_cmp a b ≡ Equal → same_addr a b ≡ true
-addr_equal a b h = matches_eq-law a b ∙ ap is_eq h
-
-addr_itself : (a : Addr) → addr_cmp a a ≡ Equal
-addr_itself a = go (addr_cmp a a) refl
+source_equal : (a b : Source) → source_cmp a b ≡ Equal → a ≡ b
+source_equal a b h = same_source a b (matches_eq-law a b ∙ ap is_eq h)
   where
-    go : (o : Ordering) → addr_cmp a a ≡ o → addr_cmp a a ≡ Equal
-    go Less e = absurd (cc (addr_total.antisymm a a, e, ap ordering_reverse e))
+    same_source : (x y : Source) → (source_eq.ghosts).eq x y ≡ true → x ≡ y
+    same_source x y e = search rules
+
+source_itself : (a : Source) → source_cmp a a ≡ Equal
+source_itself a = go (source_cmp a a) refl
+  where
+    go : (o : Ordering) → source_cmp a a ≡ o → source_cmp a a ≡ Equal
+    go Less e = absurd (cc (source_total.antisymm a a, e, ap ordering_reverse e))
     go Equal e = e
-    go Greater e = absurd (cc (addr_total.antisymm a a, e, ap ordering_reverse e))
+    go Greater e = absurd (cc (source_total.antisymm a a, e, ap ordering_reverse e))
 
 nat_upto : (a b : ℕ) → a ≤ b → is_gt (nat_cmp a b) ≡ false
 nat_upto a b h = grind (arith, nat_tests)
@@ -52,65 +61,82 @@ less_nat : (a b : ℕ) → a < b → nat_cmp a b ≡ Less
 less_nat a b h = grind (arith, nat_tests)
 
 -- a range of one source runs forward
-pub pairs-forward : (a : Addr) (m n : ℕ) → m ≤ n → is_gt (pair_cmp (a, m) (a, n)) ≡ false
-pairs-forward a m n h = ap (λ o. is_gt (ordering_then o (nat_cmp m n))) (addr_itself a) ∙ nat_upto m n h
+pub pairs-forward : (a : Source) (m n : ℕ) → m ≤ n → is_gt (pair_cmp (a, m) (a, n)) ≡ false
+pairs-forward a m n h = ap (λ o. is_gt (ordering_then o (nat_cmp m n))) (source_itself a) ∙ nat_upto m n h
 
 -- the pair of a number above one and up to another is in the range
-pub in-range : (a : Addr) (above most n : ℕ) → above < n → n ≤ most
+pub in-range : (a : Source) (above most n : ℕ) → above < n → n ≤ most
     → (pair_cmp (a, above) (a, n) ≡ Less) × (is_gt (pair_cmp (a, n) (a, most)) ≡ false)
 in-range a above most n l m =
-    (ap (λ o. ordering_then o (nat_cmp above n)) (addr_itself a) ∙ less_nat above n l, pairs-forward a n most m)
+    (ap (λ o. ordering_then o (nat_cmp above n)) (source_itself a) ∙ less_nat above n l, pairs-forward a n most m)
 
 -- what is in the range is of the source
-pub record IsOfRange (a : Addr) (above most : ℕ) (b : Addr) (n : ℕ) : Type 0 where
+pub record IsOfRange (a : Source) (above most : ℕ) (b : Source) (n : ℕ) : Type 0 where
   pub source : b ≡ a
   pub above_it : above < n
   pub most_it : n ≤ most
 
-pub of-range : (a : Addr) (above most : ℕ) (b : Addr) (n : ℕ) → pair_cmp (a, above) (b, n) ≡ Less → is_gt (pair_cmp (b, n) (a, most)) ≡ false → IsOfRange a above most b n
-of-range a above most b n l m = go (addr_cmp a b) refl (addr_cmp b a) refl
+pub of-range : (a : Source) (above most : ℕ) (b : Source) (n : ℕ) → pair_cmp (a, above) (b, n) ≡ Less → is_gt (pair_cmp (b, n) (a, most)) ≡ false → IsOfRange a above most b n
+of-range a above most b n l m = go (source_cmp a b) refl (source_cmp b a) refl
   where
-    go : (o : Ordering) → addr_cmp a b ≡ o → (p : Ordering) → addr_cmp b a ≡ p → IsOfRange a above most b n
-    go Less e Less f = absurd (cc (addr_total.antisymm a b, e, f, ap ordering_reverse f))
-    go Less e Equal f = absurd (cc (addr_total.antisymm a b, e, f, ap ordering_reverse f))
+    go : (o : Ordering) → source_cmp a b ≡ o → (p : Ordering) → source_cmp b a ≡ p → IsOfRange a above most b n
+    go Less e Less f = absurd (cc (source_total.antisymm a b, e, f, ap ordering_reverse f))
+    go Less e Equal f = absurd (cc (source_total.antisymm a b, e, f, ap ordering_reverse f))
     go Less e Greater f =
         let z : is_gt (ordering_then Greater (nat_cmp n most)) ≡ false = ap (λ o. is_gt (ordering_then o (nat_cmp n most))) (sym f) ∙ m in
         absurd (cc z)
     go Greater e p f =
         let z : ordering_then Greater (nat_cmp above n) ≡ Less = ap (λ o. ordering_then o (nat_cmp above n)) (sym e) ∙ l in
         absurd (cc z)
-    go Equal e Less f = absurd (cc (addr_total.antisymm a b, e, f, ap ordering_reverse f))
-    go Equal e Greater f = absurd (cc (addr_total.antisymm a b, e, f, ap ordering_reverse f))
+    go Equal e Less f = absurd (cc (source_total.antisymm a b, e, f, ap ordering_reverse f))
+    go Equal e Greater f = absurd (cc (source_total.antisymm a b, e, f, ap ordering_reverse f))
     go Equal e Equal f =
         record {
-          source = sym (same_addr_true a b (addr_equal a b e));
+          source = sym (source_equal a b e);
           above_it = nat_less above n (ap (λ o. ordering_then o (nat_cmp above n)) (sym e) ∙ l);
           most_it = nat_not_gt n most (ap (λ o. is_gt (ordering_then o (nat_cmp n most))) (sym f) ∙ m);
         }
 
+-- ---- no two addresses are one source
+
+abbrev number_in : Source → ℕ
+number_in (Source-V4 n) = n
+number_in (Source-V6 bytes) = 0
+
+abbrev bytes_in : Source → List ℕ
+bytes_in (Source-V4 n) = []
+bytes_in (Source-V6 bytes) = bytes
+
+one-source : (a b : Addr) → IsAddr a → IsAddr b → source_of a ≡ source_of b → a ≡ b
+one-source (Addr-V4 x) (Addr-V4 y) h k e =
+    sym (network_whole (Addr-V4 x) h) ∙ cleared_same 32 (Addr-V4 x) (Addr-V4 y) refl (ap (λ s. number_in s / 2 ^ (32 - 32)) e) ∙ network_whole (Addr-V4 y) k
+one-source (Addr-V6 x) (Addr-V6 y) h k e = ap (λ s. Addr-V6 (bytes_in s)) e
+one-source (Addr-V4 x) (Addr-V6 y) h k e = absurd (cc e)
+one-source (Addr-V6 x) (Addr-V4 y) h k e = absurd (cc e)
+
 -- ---- a pair is found where it is one of a state
 
-pair_number : (a b : Addr) (m n : ℕ) → pair_cmp (a, m) (b, n) ≡ Equal → (a ≡ b) × (m ≡ n)
-pair_number a b m n h = go (addr_cmp a b) refl
+pair_number : (a b : Source) (m n : ℕ) → pair_cmp (a, m) (b, n) ≡ Equal → (a ≡ b) × (m ≡ n)
+pair_number a b m n h = go (source_cmp a b) refl
   where
     nat_equal : (x y : ℕ) → nat_cmp x y ≡ Equal → x ≡ y
     nat_equal x y k = grind (arith, nat_tests)
 
-    go : (o : Ordering) → addr_cmp a b ≡ o → (a ≡ b) × (m ≡ n)
+    go : (o : Ordering) → source_cmp a b ≡ o → (a ≡ b) × (m ≡ n)
     go Less e = let z : Less ≡ Equal = ap (λ o. ordering_then o (nat_cmp m n)) (sym e) ∙ h in absurd (cc z)
     go Greater e = let z : Greater ≡ Equal = ap (λ o. ordering_then o (nat_cmp m n)) (sym e) ∙ h in absurd (cc z)
-    go Equal e = (same_addr_true a b (addr_equal a b e), nat_equal m n (ap (λ o. ordering_then o (nat_cmp m n)) (sym e) ∙ h))
+    go Equal e = (source_equal a b e, nat_equal m n (ap (λ o. ordering_then o (nat_cmp m n)) (sym e) ∙ h))
 
-pub pair_found : (p q : Addr × ℕ) → is_found (pair_cmp p) q ≡ true → p ≡ q
+pub pair_found : (p q : Source × ℕ) → is_found (pair_cmp p) q ≡ true → p ≡ q
 pair_found p q h = go (pair_cmp p q) refl
   where
     go : (o : Ordering) → pair_cmp p q ≡ o → p ≡ q
-    go Less e = let z : is_found (λ (x : Addr × ℕ). Less) q ≡ true = ap (λ (o : Ordering). is_found (λ (x : Addr × ℕ). o) q) (sym e) ∙ h in absurd (cc z)
-    go Greater e = let z : is_found (λ (x : Addr × ℕ). Greater) q ≡ true = ap (λ (o : Ordering). is_found (λ (x : Addr × ℕ). o) q) (sym e) ∙ h in absurd (cc z)
+    go Less e = let z : is_found (λ (x : Source × ℕ). Less) q ≡ true = ap (λ (o : Ordering). is_found (λ (x : Source × ℕ). o) q) (sym e) ∙ h in absurd (cc z)
+    go Greater e = let z : is_found (λ (x : Source × ℕ). Greater) q ≡ true = ap (λ (o : Ordering). is_found (λ (x : Source × ℕ). o) q) (sym e) ∙ h in absurd (cc z)
     go Equal e = let w = pair_number p.0 q.0 p.1 q.1 e in (λ i. (w.0 i, w.1 i))
 
-pub pair_test : (s : State) (a : Addr) (n : ℕ) → is_found (pair_cmp (s.source, s.number)) (a, n) ≡ is_pair a n s
-pair_test s a n = go (is_found (pair_cmp (s.source, s.number)) (a, n)) refl (is_pair a n s) refl
+pub pair_test : (s : State) (a : Addr) (n : ℕ) → IsAddr s.source → IsAddr a → is_found (pair_cmp (source_of s.source, s.number)) (source_of a, n) ≡ is_pair a n s
+pair_test s a n u v = go (is_found (pair_cmp (source_of s.source, s.number)) (source_of a, n)) refl (is_pair a n s) refl
   where
     same_self : (k : ℕ) → (k == k) ≡ true
     same_self k = grind (arith, nat_tests)
@@ -121,22 +147,25 @@ pair_test s a n = go (is_found (pair_cmp (s.source, s.number)) (a, n)) refl (is_
     nat_itself : (k : ℕ) → nat_cmp k k ≡ Equal
     nat_itself k = grind (arith, nat_tests)
 
-    found_self : (b : Addr) (k : ℕ) → is_found (pair_cmp (b, k)) (b, k) ≡ true
+    found_self : (b : Source) (k : ℕ) → is_found (pair_cmp (b, k)) (b, k) ≡ true
     found_self b k =
-        let z : pair_cmp (b, k) (b, k) ≡ Equal = ap (λ o. ordering_then o (nat_cmp k k)) (addr_itself b) ∙ nat_itself k in
-        ap (λ (o : Ordering). is_found (λ (x : Addr × ℕ). o) (b, k)) z
+        let z : pair_cmp (b, k) (b, k) ≡ Equal = ap (λ o. ordering_then o (nat_cmp k k)) (source_itself b) ∙ nat_itself k in
+        ap (λ (o : Ordering). is_found (λ (x : Source × ℕ). o) (b, k)) z
 
-    go : (x : Bool) → is_found (pair_cmp (s.source, s.number)) (a, n) ≡ x → (y : Bool) → is_pair a n s ≡ y → is_found (pair_cmp (s.source, s.number)) (a, n) ≡ is_pair a n s
+    go : (x : Bool) → is_found (pair_cmp (source_of s.source, s.number)) (source_of a, n) ≡ x → (y : Bool) → is_pair a n s ≡ y
+        → is_found (pair_cmp (source_of s.source, s.number)) (source_of a, n) ≡ is_pair a n s
     go true e true f = e ∙ sym f
     go false e false f = e ∙ sym f
     go true e false f =
-        let w = pair_found (s.source, s.number) (a, n) e in
-        let z : is_pair a n s ≡ true = and_from _ _ (ap (λ (p : Addr × ℕ). same_addr s.source p.0) (sym w) ∙ same_addr_self s.source) (ap (λ (p : Addr × ℕ). s.number == p.1) (sym w) ∙ same_self s.number) in
+        let w = pair_found (source_of s.source, s.number) (source_of a, n) e in
+        let o : s.source ≡ a = one-source s.source a u v (λ i. (w i).0) in
+        let z : is_pair a n s ≡ true = and_from _ _ (ap (λ (b : Addr). same_addr s.source b) (sym o) ∙ same_addr_self s.source) (ap (λ (p : Source × ℕ). s.number == p.1) (sym w) ∙ same_self s.number) in
         absurd (cc (z, f))
     go false e true f =
         let p = same_addr_true s.source a (and_parts (is_of_source a s) (s.number == n) f).0 in
         let q = same_number s.number n (and_parts (is_of_source a s) (s.number == n) f).1 in
-        let z : is_found (pair_cmp (s.source, s.number)) (a, n) ≡ true = ap (λ (x : Addr × ℕ). is_found (pair_cmp (s.source, s.number)) x) (λ i. (sym p i, sym q i)) ∙ found_self s.source s.number in
+        let z : is_found (pair_cmp (source_of s.source, s.number)) (source_of a, n) ≡ true =
+        ap (λ (x : Source × ℕ). is_found (pair_cmp (source_of s.source, s.number)) x) (λ i. (source_of (sym p i), sym q i)) ∙ found_self (source_of s.source) s.number in
         absurd (cc (z, e))
 
 -- ---- the first of the states of a source
@@ -237,7 +266,7 @@ first-none a above most (x ∷ xs) h = go (first-none a above most xs) (is_of_so
     go more false e = rw e (more (λ n l m. or_no (is_pair a n x) (list_any (is_pair a n) xs) (h n l m)))
 
 -- a pair that was placed is taken out again
-pub pair-undone : (p q : Addr × ℕ) (a b c : Bool) → a ≡ false → b ≡ cond (is_found (pair_cmp p) q) true c → (is_found (pair_cmp p) q ≡ true → c ≡ a) → cond (is_found (pair_cmp p) q) false b ≡ c
+pub pair-undone : (p q : Source × ℕ) (a b c : Bool) → a ≡ false → b ≡ cond (is_found (pair_cmp p) q) true c → (is_found (pair_cmp p) q ≡ true → c ≡ a) → cond (is_found (pair_cmp p) q) false b ≡ c
 pair-undone p q a b c z e h = go (is_found (pair_cmp p) q) refl
   where
     go : (t : Bool) → is_found (pair_cmp p) q ≡ t → cond (is_found (pair_cmp p) q) false b ≡ c
@@ -246,23 +275,32 @@ pair-undone p q a b c z e h = go (is_found (pair_cmp p) q) refl
 
 -- ---- what a range over the pairs of a source gives
 
-pub first-of-range : (a : Addr) (above most : ℕ) (xs : List State) (pairs : BTreeSet (Addr × ℕ)) (k : Addr × ℕ) (r r' : List (Addr × ℕ))
-    → ((b : Addr) (n : ℕ) → tree.contains pair_cmp pairs (b, n) ≡ list_any (is_pair b n) xs) → r ≡ k ∷ r'
-    → tree.IsKeyRangeOf pair_cmp (Excluded (a, above)) (Included (a, most)) pairs r → IsFirstOf a above most k.1 xs
-first-of-range a above most xs pairs k r r' paired e h =
-    let first = subst (λ z. IfSome (slice_get z 0) (tree.IsKeyInRange pair_cmp (Excluded (a, above)) (Included (a, most)) pairs)) e h.1 in
-    let o = of-range a above most k.0 k.1 first.0.0 first.0.1 in
+-- the pairs that are found are those of the states
+abbrev pub ArePairs : BTreeSet (Source × ℕ) → List State → Type 0
+ArePairs pairs xs = (b : Addr) (n : ℕ) → IsAddr b → tree.contains pair_cmp pairs (source_of b, n) ≡ list_any (is_pair b n) xs
+
+of-own : (above most : ℕ) (pairs : BTreeSet (Source × ℕ)) (r : List (Source × ℕ)) (own other : Source) → own ≡ other
+    → tree.IsKeyRangeOf pair_cmp (Excluded (own, above)) (Included (own, most)) pairs r → tree.IsKeyRangeOf pair_cmp (Excluded (other, above)) (Included (other, most)) pairs r
+of-own above most pairs r own other is h = subst (λ (o : Source). tree.IsKeyRangeOf pair_cmp (Excluded (o, above)) (Included (o, most)) pairs r) is h
+
+pub first-of-range : (a : Addr) (above most : ℕ) (xs : List State) (pairs : BTreeSet (Source × ℕ)) (k : Source × ℕ) (r r' : List (Source × ℕ)) (own : Source)
+    → own ≡ source_of a → IsAddr a → ArePairs pairs xs → r ≡ k ∷ r'
+    → tree.IsKeyRangeOf pair_cmp (Excluded (own, above)) (Included (own, most)) pairs r → IsFirstOf a above most k.1 xs
+first-of-range a above most xs pairs k r r' own is u paired e ranged =
+    let h = of-own above most pairs r own (source_of a) is ranged in
+    let first = subst (λ z. IfSome (slice_get z 0) (tree.IsKeyInRange pair_cmp (Excluded (source_of a, above)) (Included (source_of a, most)) pairs)) e h.1 in
+    let o = of-range (source_of a) above most k.0 k.1 first.0.0 first.0.1 in
     record {
-      held = sym (paired a k.1) ∙ ap (λ (b : Addr). tree.contains pair_cmp pairs (b, k.1)) (sym o.source) ∙ first.1;
+      held = sym (paired a k.1 u) ∙ ap (λ (b : Source). tree.contains pair_cmp pairs (b, k.1)) (sym o.source) ∙ first.1;
       above_it = o.above_it;
       most_it = o.most_it;
       least = λ n any l m.
-          let z : is_gt (pair_cmp k (a, n)) ≡ false =
-          subst (λ z. IfSome (slice_get z 0) (λ (q : Addr × ℕ). is_gt (pair_cmp q (a, n)) ≡ false)) e (h.2 (a, n) (in-range a above most n l m) (paired a n ∙ any)) in
-          nat_not_gt k.1 n (ap (λ o. is_gt (ordering_then o (nat_cmp k.1 n))) (sym (addr_itself a) ∙ ap (λ (b : Addr). addr_cmp b a) (sym o.source)) ∙ z);
+          let z : is_gt (pair_cmp k (source_of a, n)) ≡ false =
+          subst (λ z. IfSome (slice_get z 0) (λ (q : Source × ℕ). is_gt (pair_cmp q (source_of a, n)) ≡ false)) e (h.2 (source_of a, n) (in-range (source_of a) above most n l m) (paired a n u ∙ any)) in
+          nat_not_gt k.1 n (ap (λ o. is_gt (ordering_then o (nat_cmp k.1 n))) (sym (source_itself (source_of a)) ∙ ap (λ (b : Source). source_cmp b (source_of a)) (sym o.source)) ∙ z);
     }
 
-pub none-of-range : (a : Addr) (above most : ℕ) (xs : List State) (pairs : BTreeSet (Addr × ℕ)) (r : List (Addr × ℕ))
-    → ((b : Addr) (n : ℕ) → tree.contains pair_cmp pairs (b, n) ≡ list_any (is_pair b n) xs) → r ≡ []
-    → tree.IsKeyRangeOf pair_cmp (Excluded (a, above)) (Included (a, most)) pairs r → (n : ℕ) → above < n → n ≤ most → list_any (is_pair a n) xs ≡ false
-none-of-range a above most xs pairs r paired e h n l m = sym (paired a n) ∙ h.5 e (a, n) (in-range a above most n l m)
+pub none-of-range : (a : Addr) (above most : ℕ) (xs : List State) (pairs : BTreeSet (Source × ℕ)) (r : List (Source × ℕ)) (own : Source)
+    → own ≡ source_of a → IsAddr a → ArePairs pairs xs → r ≡ []
+    → tree.IsKeyRangeOf pair_cmp (Excluded (own, above)) (Included (own, most)) pairs r → (n : ℕ) → above < n → n ≤ most → list_any (is_pair a n) xs ≡ false
+none-of-range a above most xs pairs r own is u paired e ranged n l m = sym (paired a n u) ∙ (of-own above most pairs r own (source_of a) is ranged).5 e (source_of a, n) (in-range (source_of a) above most n l m)
