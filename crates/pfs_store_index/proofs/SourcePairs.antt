@@ -1,5 +1,5 @@
 -- The pairs of one source in the ordered set, by number, are its states.
-use Rattle.std.proofs.Common.{◌≡◌, ◌∙◌, ◌<◌, ◌≤◌, ◌==◌, ◌&&◌, ◌||◌, ℕ, Bool, true, false, cond, Some, None, List, [], ◌∷◌, slice_get, refl, ap, sym, subst, arith, IfSome, rules, ◌/◌, ◌^◌, ◌-◌}
+use Rattle.std.proofs.Common.{◌≡◌, ◌∙◌, ◌<◌, ◌≤◌, ◌==◌, ◌&&◌, ◌||◌, ℕ, Bool, true, false, cond, Some, None, List, [], ◌∷◌, slice_get, refl, ap, sym, subst, arith, IfSome, rules, get_or, zero, suc}
 use Rattle.std.specs.Cmp.{IsTotalOrder}
 use Rattle.std.specs.List.{list_any}
 use Rattle.std.specs.BTreeMap.{is_at as is_found}
@@ -7,7 +7,11 @@ use Rattle.std.specs.Ordering.{is_eq, is_gt, nat_cmp, ordering_reverse, ordering
 use Rattle.std.specs.declared.cmp.Ordering.{Ordering}
 use Rattle.std.specs.declared.cmp.Ordering.TheVariants.{Less, Equal, Greater}
 use Rattle.std.proofs.lemmas.Bool.Decides.{nat_tests}
-use Rattle.pfs_addr_values.proofs.PrefixLaws.{cleared_same, network_whole}
+use Rattle.std.specs.Prelude.{All, reverse}
+use Rattle.std.specs.Int.{w32, from_le_bytes, to_le_bytes}
+use Rattle.std.proofs.lemmas.List.{reverse-reverse}
+use Rattle.std.proofs.lemmas.List.Elements.{All-head, All-tail}
+use Rattle.std.proofs.lemmas.Nat.{le_bytes_4}
 use Rattle.pfs_addr_values.proofs.SameLaws.{same_addr_self, same_addr_true}
 use Rattle.pfs_addr_values.specs.Sameness.{same_addr}
 use Rattle.std.specs.BTreeSet as tree
@@ -107,10 +111,17 @@ abbrev bytes_in : Source → List ℕ
 bytes_in (Source-V4 n) = []
 bytes_in (Source-V6 bytes) = bytes
 
+byte_in : (bytes : List ℕ) → All (λ b. b < 256) bytes → (i : ℕ) → get_or bytes i 0 < 256
+byte_in [] all i = omega arith
+byte_in (b ∷ bytes) all zero = All-head (λ x. x < 256) b bytes all
+byte_in (b ∷ bytes) all (suc i) = byte_in bytes (All-tail (λ x. x < 256) b bytes all) i
+
+written-again : (bytes : List ℕ) → IsAddr (Addr-V4 bytes) → to_le_bytes w32 (from_le_bytes w32 bytes) ≡ bytes
+written-again bytes h = le_bytes_4 bytes (from_le_bytes w32 bytes) h.0 (byte_in bytes h.1) refl
+
 one-source : (a b : Addr) → IsAddr a → IsAddr b → source_of a ≡ source_of b → a ≡ b
-one-source (Addr-V4 x) (Addr-V4 y) h k e =
-    sym (network_whole (Addr-V4 x) h) ∙ cleared_same 32 (Addr-V4 x) (Addr-V4 y) refl (ap (λ s. number_in s / 2 ^ (32 - 32)) e) ∙ network_whole (Addr-V4 y) k
-one-source (Addr-V6 x) (Addr-V6 y) h k e = ap (λ s. Addr-V6 (bytes_in s)) e
+one-source (Addr-V4 x) (Addr-V4 y) h k e = ap Addr-V4 (sym (written-again x h) ∙ ap (λ s. to_le_bytes w32 (number_in s)) e ∙ written-again y k)
+one-source (Addr-V6 x) (Addr-V6 y) h k e = ap Addr-V6 (sym (reverse-reverse x) ∙ ap (λ s. reverse (bytes_in s)) e ∙ reverse-reverse y)
 one-source (Addr-V4 x) (Addr-V6 y) h k e = absurd (cc e)
 one-source (Addr-V6 x) (Addr-V4 y) h k e = absurd (cc e)
 

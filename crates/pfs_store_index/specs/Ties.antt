@@ -1,11 +1,11 @@
 -- How the indexes and the counts are tied to the states and the source nodes that are held. (own)
-use Rattle.std.specs.Prelude.{ℕ, ◌≡◌, ◌<◌, ◌==◌, ◌&&◌, Bool, true, cond, List, length, map, option_map}
+use Rattle.std.specs.Prelude.{ℕ, ◌≡◌, ◌<◌, ◌==◌, ◌&&◌, Bool, true, cond, List, length, map, option_map, reverse}
 use Rattle.std.specs.BTreeMap.{is_at as is_found}
 use Rattle.std.specs.BTreeSet as tree
 use Rattle.std.specs.BTreeSet.{BTreeSet}
 use Rattle.std.specs.HashMap as hash
 use Rattle.std.specs.HashMap.{HashMap}
-use Rattle.std.specs.Int.{w32, from_be_bytes}
+use Rattle.std.specs.Int.{w32, from_le_bytes}
 use Rattle.std.specs.List.{find, list_any, AllByRecursion, IsDistinct}
 use Rattle.std.specs.Ordering.{nat_cmp, ordering_then}
 use Rattle.std.specs.declared.cmp.Ordering.{Ordering}
@@ -41,10 +41,10 @@ entry_of p = record { number = p.state.number; rule = p.state.rule; place = p.pl
 
 -- ---- the index by source
 
--- an address, of IPv4 as one number
+-- an address, its last byte the highest
 abbrev pub source_of : Addr → Source
-source_of (Addr-V4 bytes) = Source-V4 (from_be_bytes w32 bytes)
-source_of (Addr-V6 bytes) = Source-V6 bytes
+source_of (Addr-V4 bytes) = Source-V4 (from_le_bytes w32 bytes)
+source_of (Addr-V6 bytes) = Source-V6 (reverse bytes)
 
 -- how `cmp` orders two sources, and two pairs of source and number
 abbrev pub source_cmp : Source → Source → Ordering
