@@ -22,8 +22,7 @@ use crate::rounds::is_over as is_round_over;
 use pfs_addr_values::Meter;
 use pfs_conf_values::{Config, TimeoutName};
 use pfs_store_contract::{Slice, Staying, Watched};
-use pfs_store_records::{Round, Tally, Walk, is_over, kept_until};
-use std::collections::BTreeMap;
+use pfs_store_records::{Places, Round, Tally, Walk, is_over, kept_until};
 use std::hash::BuildHasher;
 
 /// What a walk did: the round after it, how many it examined, how many of them left, and up to when the others stay.
@@ -37,7 +36,7 @@ pub(crate) struct Steps {
 impl Steps {
     /// What is told of the walk of a round that stood here before it, after which these numbers are held, of so many that were
     /// made: those that it examined stay. Where it ends a round of all that were made, none of a greater number is held.
-    pub(crate) fn watched<V>(&self, places: &BTreeMap<u64, V>, from: Round, made: u64) -> Watched
+    pub(crate) fn watched(&self, places: &Places, from: Round, made: u64) -> Watched
         requires order { self.now.round.cursor ≤ self.now.round.mark }
         requires numbered { IsNumbered made (keys_of places.now.entries) }
         ensures slice { result.slice ≡ self.now.slice }

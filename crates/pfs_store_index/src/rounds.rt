@@ -7,9 +7,7 @@ ghost use Rattle.pfs_store_contract.specs.Purging.{round};
 ghost use Rattle.pfs_store_contract.specs.Quiet.{round_after_slices};
 ghost use Rattle.pfs_store_records.specs.Records.{IsRising, between};
 
-use pfs_store_records::Round;
-use std::collections::BTreeMap;
-use std::ops::Bound;
+use pfs_store_records::{Places, Round};
 
 /// A round that went on, and how many slices are still to be done.
 #[derive(Clone, Copy)]
@@ -19,21 +17,18 @@ struct Turn {
 }
 
 /// The least number above one, and up to another.
-pub(crate) fn next_between<V>(places: &BTreeMap<u64, V>, above: u64, most: u64) -> Option<u64>
+pub(crate) fn next_between(places: &Places, above: u64, most: u64) -> Option<u64>
     requires { above ≤ most }
     ensures { result ≡ slice_get (filter (between above most) (keys_of places.now.entries)) 0 }
 {
-    match places
-        .range((Bound::Excluded(above), Bound::Included(most)))
-        .next()
-    {
-        Some((number, _)) => Some(*number),
+    match places.between(above, most).next() {
+        Some((number, _)) => Some(number),
         None => None,
     }
 }
 
 /// Whether no number is left to be examined in a round.
-pub(crate) fn is_over<V>(places: &BTreeMap<u64, V>, round: Round) -> bool
+pub(crate) fn is_over(places: &Places, round: Round) -> bool
     requires order { round.cursor ≤ round.mark }
     ensures { result ≡ (length (filter (between round.cursor round.mark) (keys_of places.now.entries)) == 0) }
 {
@@ -44,7 +39,7 @@ pub(crate) fn is_over<V>(places: &BTreeMap<u64, V>, round: Round) -> bool
 }
 
 /// The round that is under way, or a new one of all numbers.
-pub(crate) fn under_way<V>(places: &BTreeMap<u64, V>, begun: Round, made: u64) -> Round
+pub(crate) fn under_way(places: &Places, begun: Round, made: u64) -> Round
     requires numbered { AllByRecursion (λ n. (1 ≤ n) × (n ≤ made)) (keys_of places.now.entries) }
     requires order { begun.cursor ≤ begun.mark }
     requires mark { begun.mark ≤ made }
@@ -64,13 +59,7 @@ pub(crate) fn under_way<V>(places: &BTreeMap<u64, V>, begun: Round, made: u64) -
 }
 
 /// The round after so many slices in which nothing leaves. It takes no memory.
-pub(crate) fn turned<V>(
-    places: &BTreeMap<u64, V>,
-    round: Round,
-    share: u64,
-    made: u64,
-    slices: u64,
-) -> Round
+pub(crate) fn turned(places: &Places, round: Round, share: u64, made: u64, slices: u64) -> Round
     requires rising { IsRising (keys_of places.now.entries) }
     requires numbered { AllByRecursion (λ n. (1 ≤ n) × (n ≤ made)) (keys_of places.now.entries) }
     requires order { round.cursor ≤ round.mark }
@@ -92,7 +81,7 @@ pub(crate) fn turned<V>(
 }
 
 /// One slice; or all whole rounds, where one is over.
-fn go_on<V>(places: &BTreeMap<u64, V>, round: Round, share: u64, made: u64, left: u64) -> Turn
+fn go_on(places: &Places, round: Round, share: u64, made: u64, left: u64) -> Turn
     requires rising { IsRising (keys_of places.now.entries) }
     requires numbered { AllByRecursion (λ n. (1 ≤ n) × (n ≤ made)) (keys_of places.now.entries) }
     requires order { round.cursor ≤ round.mark }
@@ -131,7 +120,7 @@ fn go_on<V>(places: &BTreeMap<u64, V>, round: Round, share: u64, made: u64, left
 }
 
 /// How many slices a whole round has; one where there is no number.
-fn whole_round<V>(places: &BTreeMap<u64, V>, share: u64) -> u64
+fn whole_round(places: &Places, share: u64) -> u64
     requires share { 1 ≤ share }
     ensures some { 1 ≤ result }
     ensures whole { round_after_slices share (keys_of places.now.entries) result [] ≡ [] }
@@ -141,7 +130,7 @@ fn whole_round<V>(places: &BTreeMap<u64, V>, share: u64) -> u64
 }
 
 /// The round after a slice: the next numbers, so many at most, are passed by.
-fn sliced<V>(places: &BTreeMap<u64, V>, round: Round, share: u64) -> Round
+fn sliced(places: &Places, round: Round, share: u64) -> Round
     requires rising { IsRising (keys_of places.now.entries) }
     requires order { round.cursor ≤ round.mark }
     ensures order { result.cursor ≤ result.mark }
@@ -156,7 +145,7 @@ fn sliced<V>(places: &BTreeMap<u64, V>, round: Round, share: u64) -> Round
 }
 
 /// The last of the next numbers above one and up to another, so many at most.
-fn passed<V>(places: &BTreeMap<u64, V>, above: u64, most: u64, share: u64) -> u64
+fn passed(places: &Places, above: u64, most: u64, share: u64) -> u64
     requires rising { IsRising (keys_of places.now.entries) }
     requires range { above ≤ most }
     ensures from { above ≤ result }
@@ -164,14 +153,14 @@ fn passed<V>(places: &BTreeMap<u64, V>, above: u64, most: u64, share: u64) -> u6
     ensures rest { filter (between result most) (keys_of places.now.entries)
         ≡ drop share (filter (between above most) (keys_of places.now.entries)) }
 {
-    let mut rest = places.range((Bound::Excluded(above), Bound::Included(most)));
+    let mut rest = places.between(above, most);
     let mut passed = 0;
     let mut last = above;
     while passed < share {
         let Some((number, _)) = rest.next() else {
             return last;
         };
-        last = *number;
+        last = number;
         passed += 1;
     }
     last

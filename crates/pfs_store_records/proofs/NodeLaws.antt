@@ -3,7 +3,7 @@ use Rattle.std.proofs.Common.{length, ◌+◌, ◌≡◌, ◌≢◌, ℕ, ◌<�
 use Rattle.std.specs.List.{find, AllByRecursion, IsDistinct}
 use Rattle.std.specs.List.Sorted.{IsStrictlySortedBy}
 use Rattle.std.specs.Map.{keys_of, lookup, remove_entry}
-use Rattle.std.specs.BTreeMap.{is_at, insert_entry}
+use Rattle.std.specs.BTreeMap.{is_at}
 use Rattle.std.specs.Ordering.{nat_cmp}
 use Rattle.std.specs.declared.cmp.Ordering.TheVariants.{Less}
 use Rattle.std.proofs.lemmas.Bool.Decides.{nat_tests}
@@ -246,7 +246,7 @@ apart_from a q s e = let x : same_source a q ≡ true = ap (same_source a) e ∙
 -- a node comes
 pub noted-pushed : (T T' : NodeScope × Addr → Option ℕ) (at at' : ℕ → Option Tally) (t : Tally) (p : ℕ) (es fs : List (ℕ × ℕ)) (rules rules' : List ℕ) (global global' : ℕ)
     → T (source_of_node t) ≡ None → IsUpdated T T' (source_of_node t) (Some p) → at p ≡ None → IsUpdated at at' p (Some t) → IsAbove t.node.number (node_numbers (nodes_of (values_at at es)))
-    → fs ≡ insert_entry nat_cmp es t.node.number p → IsStrictlySortedBy nat_cmp (keys_of fs)
+    → fs ≡ es ++ (t.node.number, p) ∷ [] → IsStrictlySortedBy nat_cmp (keys_of fs)
     → ((q : ℕ) → lookup (is_at (nat_cmp q)) fs ≡ cond (is_at (nat_cmp t.node.number) q) (Some p) (lookup (is_at (nat_cmp q)) es))
     → ((s : NodeScope) → count_of rules' global' s ≡ count_of rules global s + one_if (same_scope t.node.scope s))
     → IsNoted T at es rules global → IsNoted T' at' fs rules' global'

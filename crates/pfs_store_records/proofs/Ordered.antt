@@ -5,7 +5,7 @@ use Rattle.std.specs.List.Sorted.{IsStrictlySortedBy}
 use Rattle.std.specs.Ordering.{nat_cmp}
 use Rattle.std.specs.declared.cmp.Ordering.TheVariants.{Less, Greater}
 use Rattle.std.specs.Map.{keys_of, lookup, remove_entry}
-use Rattle.std.specs.BTreeMap.{is_at, insert_entry}
+use Rattle.std.specs.BTreeMap.{is_at}
 use Rattle.std.specs.BTreeMap.Range.{range_contains, entries_between}
 use Rattle.std.specs.declared.ops.Bound.TheVariants.{Included, Excluded}
 use Rattle.std.proofs.lemmas.List.Elements.{filter_map-append}
@@ -70,12 +70,6 @@ module _ {P : Type 0} where
   none-above n (e ∷ es) (h, hs) =
       let d : n ≢ e.0 = λ q. omega arith in
       rw (at_other n e.0 d) (none-above n es hs)
-
-  pub insert-last : (n : ℕ) (v : P) (es : List (ℕ × P)) → AllByRecursion (λ k. k < n) (keys_of es) → insert_entry nat_cmp es n v ≡ es ++ (n, v) ∷ []
-  insert-last n v [] h = refl
-  insert-last n v (e ∷ es) (h, hs) =
-      let y : nat_cmp n e.0 ≡ Greater = grind (arith, nat_tests) in
-      rw y (ap (λ xs. e ∷ xs) (insert-last n v es hs))
 
   pub keys-between : (a m : ℕ) (es : List (ℕ × P)) → keys_of (entries_between nat_cmp (Excluded a) (Included m) es) ≡ filter (between a m) (keys_of es)
   keys-between a m [] = refl
@@ -365,15 +359,15 @@ module _ {P V : Type 0} (num : V → ℕ) (At : V → P → Type 0) where
   placed-push T e [] h p = (p, tt)
   placed-push T e (f ∷ es) (h, hs) p = (h, placed-push T e es hs p)
 
-  pub held-pushed : (T U : P → Option V) (p : P) (v : V) (es fs : List (ℕ × P)) → T p ≡ None → IsUpdated T U p (Some v) → AreInPlace num At T es → AllByRecursion (λ k. k < num v) (map num (values_at T es)) → fs ≡ insert_entry nat_cmp es (num v) p
+  pub held-pushed : (T U : P → Option V) (p : P) (v : V) (es fs : List (ℕ × P)) → T p ≡ None → IsUpdated T U p (Some v) → AreInPlace num At T es → AllByRecursion (λ k. k < num v) (map num (values_at T es)) → fs ≡ es ++ (num v, p) ∷ []
       → values_at U fs ≡ values_at T es ++ v ∷ []
   held-pushed T U p v es fs n u k a e =
-      rw (e, insert-last (num v) p es (below-keys (num v) T es k.placed a), filter_map-append, u.changed, held-same T U es (same-vacant T U p (Some v) es n u k.placed)) refl
+      rw (e, filter_map-append, u.changed, held-same T U es (same-vacant T U p (Some v) es n u k.placed)) refl
 
-  pub kept-pushed : (T U : P → Option V) (p : P) (v : V) (es fs : List (ℕ × P)) → T p ≡ None → IsUpdated T U p (Some v) → AreInPlace num At T es → AllByRecursion (λ k. k < num v) (map num (values_at T es)) → At v p → fs ≡ insert_entry nat_cmp es (num v) p
+  pub kept-pushed : (T U : P → Option V) (p : P) (v : V) (es fs : List (ℕ × P)) → T p ≡ None → IsUpdated T U p (Some v) → AreInPlace num At T es → AllByRecursion (λ k. k < num v) (map num (values_at T es)) → At v p → fs ≡ es ++ (num v, p) ∷ []
       → IsStrictlySortedBy nat_cmp (keys_of fs) → AreInPlace num At U fs
   kept-pushed T U p v es fs n u k a b e o = record {
-    placed = rw (e, insert-last (num v) p es (below-keys (num v) T es k.placed a)) (placed-push U (num v, p) es (placed-same T U es (same-vacant T U p (Some v) es n u k.placed) k.placed) (v, u.changed, refl, b));
+    placed = rw e (placed-push U (num v, p) es (placed-same T U es (same-vacant T U p (Some v) es n u k.placed) k.placed) (v, u.changed, refl, b));
     ordered = o;
   }
 

@@ -1,5 +1,6 @@
 pub mod Changes
 pub mod Keeping
+pub mod Numbered
 pub mod Pieces
 pub mod Records
 pub mod Retaining

@@ -5,6 +5,7 @@
 mod changes;
 mod kept;
 mod nodes;
+mod places;
 mod records;
 mod retaining;
 mod scope_counts;
@@ -14,6 +15,7 @@ mod tallying;
 mod walks;
 
 pub use nodes::{Nodes, Passed, Tally};
+pub use places::{Places, PlacesBetween};
 pub use records::Records;
 pub use retaining::{is_over, kept_until};
 pub use sought::{Sought, Tracked};

@@ -14,6 +14,7 @@ ghost use Rattle.pfs_store_records.specs.declared.nodes.Tally.{Tally};
 ghost use Rattle.pfs_store_records.specs.Walks.{IsPassing};
 
 use crate::changes::{Change, changed};
+use crate::places::Places;
 use crate::records::short;
 use crate::retaining::stays_until;
 use crate::scope_counts::ScopeCounts;
@@ -25,10 +26,8 @@ use pfs_conf_values::Config;
 use pfs_store_contract::{Node, NodeScope};
 use slab::Slab;
 use std::alloc::Global;
-use std::collections::BTreeMap;
 use std::hash::BuildHasher;
 use std::marker::Model;
-use std::ops::Bound;
 
 /// A source node, and what is counted of it.
 #[derive(Debug, Clone, Copy, PartialEq, Eq)]
@@ -57,7 +56,7 @@ pub struct Passed {
 #[derive(Drop)]
 pub struct Nodes<S: BuildHasher> {
     slab: Slab<Tally>,
-    order: BTreeMap<u64, u32>,
+    order: Places,
     table: IndexMap<Tracked, u32, S>,
     counts: ScopeCounts,
     stateless: u64,
@@ -84,7 +83,7 @@ impl<S: BuildHasher> Nodes<S> {
     {
         Nodes {
             slab: Slab::new(alloc),
-            order: BTreeMap::new(alloc),
+            order: Places::new(alloc),
             table: IndexMap::with_hasher(alloc, hasher),
             counts: ScopeCounts::new(alloc),
             stateless: 0,
@@ -113,7 +112,7 @@ impl<S: BuildHasher> Nodes<S> {
     }
 
     /// The places of the nodes, in the order of their numbers. It takes no memory.
-    pub fn order(&self) -> &BTreeMap<u64, u32>
+    pub fn order(&self) -> &Places
         ensures numbers { keys_of result.now.entries ≡ node_numbers (nodes_of self.now) }
         ensures rising { IsRising (keys_of result.now.entries) }
     {
@@ -144,12 +143,8 @@ impl<S: BuildHasher> Nodes<S> {
             ≡ slice_get (filter (between above most) (node_numbers (nodes_of self.now))) 0 }
         ensures tally { IfSome result (λ t. find (has_node_number t.node.number) self.now ≡ Some t) }
     {
-        match self
-            .order
-            .range((Bound::Excluded(above), Bound::Included(most)))
-            .next()
-        {
-            Some((_, place)) => self.slab.get(*place as usize).copied(),
+        match self.order.between(above, most).next() {
+            Some((_, place)) => self.slab.get(place as usize).copied(),
             None => None,
         }
     }
@@ -183,7 +178,7 @@ impl<S: BuildHasher> Nodes<S> {
         self.table.reserve(1)?;
         self.slab.reserve(1)?;
         let place = short(self.slab.vacant_key())?;
-        self.order.insert(tally.node.number, place)?;
+        self.order.push(tally.node.number, place)?;
         match self.table.insert(source, place) {
             Ok(_) => {
                 self.slab.insert_reserved(tally);
@@ -224,7 +219,7 @@ impl<S: BuildHasher> Nodes<S> {
         ensures nodes { self.new ≡ filter (other_node number) self.old }
         ensures orderly { IsOrderly self.new }
     {
-        match self.order.remove(&number) {
+        match self.order.remove(number) {
             Some(place) => {
                 let tally = self.slab.remove(place as usize);
                 self.table.swap_remove(&Tracked {
@@ -266,7 +261,7 @@ fn uncounted(stateless: u64, tally: &Tally) -> u64
 #[inline(never)]
 fn pass_range(
     slab: &Slab<Tally>,
-    order: &BTreeMap<u64, u32>,
+    order: &Places,
     config: &Config,
     round: Round,
     share: u64,
@@ -277,7 +272,7 @@ fn pass_range(
     ensures passing { IsPassing number_of_node (is_past config.now now) (values_at (tally_in slab.now) order.now.entries) round.cursor round.mark share result.stayed result.last }
     ensures until { AllByRecursion (λ t. between round.cursor result.last (number_of_node t) ≡ true → IsKeptUntil config.now result.until t) (values_at (tally_in slab.now) order.now.entries) }
 {
-    let mut rest = order.range((Bound::Excluded(round.cursor), Bound::Included(round.mark)));
+    let mut rest = order.between(round.cursor, round.mark);
     let mut stayed = 0;
     let mut last = round.cursor;
     let mut until = u64::MAX;
@@ -285,7 +280,7 @@ fn pass_range(
         let Some((number, place)) = rest.next() else {
             break;
         };
-        let Some(tally) = slab.get(*place as usize) else {
+        let Some(tally) = slab.get(place as usize) else {
             break;
         };
         if tally.states == 0 {
@@ -295,7 +290,7 @@ fn pass_range(
             until = until.min(moment);
         }
         stayed += 1;
-        last = *number;
+        last = number;
     }
     Passed {
         stayed,

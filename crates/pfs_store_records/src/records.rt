@@ -13,22 +13,21 @@ ghost use Rattle.pfs_store_records.specs.Walks.{IsWalk, StayUntil, end_of, state
 ghost use Rattle.pfs_store_records.specs.Records.{IsAbove, IsRecordAt, IsRising, is_placed, leaves_number, placed_at, put, put_state, stands_at, states_of};
 
 use crate::kept::Kept;
+use crate::places::Places;
 use crate::stays::{Stay, stays_until};
 use crate::walks::{Lifetimes, Round, Walk};
 use pfs_addr_values::{Meter, NoMemory};
 use pfs_store_contract::State;
 use slab::Slab;
 use std::alloc::Global;
-use std::collections::BTreeMap;
 use std::marker::Model;
-use std::ops::Bound;
 
 /// The records of the states that are held, by rising number. Callers see each with its place, which it keeps until it
 /// is removed. To read a record is a look, and ticks the meter.
 #[derive(Drop)]
 pub struct Records {
     slab: Slab<Kept>,
-    places: BTreeMap<u64, u32>,
+    places: Places,
 }
 
 impl Model for Records {
@@ -50,7 +49,7 @@ impl Records {
     {
         Records {
             slab: Slab::new(alloc),
-            places: BTreeMap::new(alloc),
+            places: Places::new(alloc),
         }
     }
 
@@ -69,7 +68,7 @@ impl Records {
     }
 
     /// The places of the records, in the order of their numbers. It is no look, and takes no memory.
-    pub fn order(&self) -> &BTreeMap<u64, u32>
+    pub fn order(&self) -> &Places
         ensures numbers { keys_of result.now.entries ≡ state_numbers (states_of self.now) }
         ensures rising { IsRising (keys_of result.now.entries) }
     {
@@ -84,8 +83,8 @@ impl Records {
         ensures small { result.number < 2 ^ 32 }
         ensures looks { meter.new ≡ meter.old + 1 }
     {
-        match self.places.get(&number) {
-            Some(place) => look(&self.slab, *place as usize, meter).state(),
+        match self.places.get(number) {
+            Some(place) => look(&self.slab, place as usize, meter).state(),
             None => unreachable!(),
         }
     }
@@ -157,7 +156,7 @@ impl Records {
     {
         self.slab.reserve(1)?;
         let place = short(self.slab.vacant_key())?;
-        self.places.insert(state.number, place)?;
+        self.places.push(state.number, place)?;
         // The proof needs the types of a key named here.
         let key = &state.key;
         let _proto = &key.proto;
@@ -172,7 +171,7 @@ impl Records {
         ensures states { states_of self.new ≡ filter (other_than number) (states_of self.old) }
         ensures rising { IsRising (state_numbers (states_of self.new)) }
     {
-        match self.places.remove(&number) {
+        match self.places.remove(number) {
             Some(place) => {
                 self.slab.remove(place as usize);
             }
@@ -205,7 +204,7 @@ fn look<'a>(slab: &'a Slab<Kept>, place: usize, meter: &mut Meter) -> &'a Kept
 #[inline(never)]
 fn walk_range<T: Lifetimes>(
     slab: &Slab<Kept>,
-    places: &BTreeMap<u64, u32>,
+    places: &Places,
     round: Round,
     share: u64,
     now: u64,
@@ -221,7 +220,7 @@ fn walk_range<T: Lifetimes>(
     ensures small { IfSome result.leaver (λ s. s.number < 2 ^ 32) }
     ensures looks { meter.new ≡ meter.old + looks_of result.stayed result.leaver }
 {
-    let mut rest = places.range((Bound::Excluded(round.cursor), Bound::Included(round.mark)));
+    let mut rest = places.between(round.cursor, round.mark);
     let mut stayed = 0;
     let mut last = round.cursor;
     let mut until = u64::MAX;
@@ -233,7 +232,7 @@ fn walk_range<T: Lifetimes>(
         let Some((number, place)) = rest.next() else {
             break None;
         };
-        let kept = look(slab, *place as usize, meter);
+        let kept = look(slab, place as usize, meter);
         if !known.is_of(kept) {
             known = Stay::of(lifetimes, kept);
         }
@@ -242,7 +241,7 @@ fn walk_range<T: Lifetimes>(
             None => break Some(kept.state()),
         }
         stayed += 1;
-        last = *number;
+        last = number;
     };
     Walk {
         stayed,

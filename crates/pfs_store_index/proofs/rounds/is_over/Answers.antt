@@ -3,7 +3,7 @@ use Rattle.pfs_store_index.proofs.Turning.{none-left, some-left}
 use Rattle.pfs_store_index.proofs.rounds.is_over.Goals as goal
 
 pub returns-in-Some : goal.returns-in-Some
-returns-in-Some g c = some-left _ _ c.in-Some.ensures
+returns-in-Some c = some-left _ _ c.in-Some.ensures
 
 pub returns-in-None : goal.returns-in-None
-returns-in-None g c = none-left _ c.in-None.ensures
+returns-in-None c = none-left _ c.in-None.ensures

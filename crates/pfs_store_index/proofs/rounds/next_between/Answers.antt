@@ -4,7 +4,7 @@ use Rattle.pfs_store_index.proofs.Turning.{next-none, next-some}
 use Rattle.pfs_store_index.proofs.rounds.next_between.Goals as goal
 
 pub returns-in-Some : goal.returns-in-Some
-returns-in-Some g c = next-some c.args.above c.args.most _ _ _ c.args.places.now.entries (sym c.in-Some.ensures.steps ∙ c.range.ensures.between tt)
+returns-in-Some c = next-some c.args.above c.args.most _ _ _ c.args.places.now.entries (sym c.in-Some.ensures.steps ∙ c.between.ensures.between)
 
 pub returns-in-None : goal.returns-in-None
-returns-in-None g c = next-none c.args.above c.args.most c.args.places.now.entries (sym c.in-None.ensures.steps.0 ∙ c.range.ensures.between tt)
+returns-in-None c = next-none c.args.above c.args.most c.args.places.now.entries (sym c.in-None.ensures.steps.0 ∙ c.between.ensures.between)

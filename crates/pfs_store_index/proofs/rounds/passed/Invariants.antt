@@ -4,10 +4,10 @@ use Rattle.pfs_store_index.proofs.Turning.{Passing}
 use Rattle.pfs_store_index.proofs.rounds.passed.Given as goal
 
 abbrev pub invariant-loop-passed : goal.invariant-loop-passed
-invariant-loop-passed g l = record {
+invariant-loop-passed l = record {
   passing : Passing l.places.entries l.rest l.above l.last l.most l.passed;
   share : l.passed ≤ l.share;
 }
 
 abbrev pub decreases-loop-passed : goal.decreases-loop-passed
-decreases-loop-passed g l = l.share - l.passed
+decreases-loop-passed l = l.share - l.passed

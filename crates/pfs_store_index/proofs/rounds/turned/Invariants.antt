@@ -7,7 +7,7 @@ use Rattle.pfs_store_index.proofs.rounds.turned.Given as goal
 
 -- the slices that are left make of this round what all make of the first one
 abbrev pub invariant-loop-left : goal.invariant-loop-left
-invariant-loop-left g l = record {
+invariant-loop-left l = record {
   order : l.round.cursor ≤ l.round.mark;
   mark : l.round.mark ≤ l.made;
   rest : round_after_slices l.share (keys_of l.places.entries) l.left (filter (between l.round.cursor l.round.mark) (keys_of l.places.entries))
@@ -15,4 +15,4 @@ invariant-loop-left g l = record {
 }
 
 abbrev pub decreases-loop-left : goal.decreases-loop-left
-decreases-loop-left g l = l.left
+decreases-loop-left l = l.left

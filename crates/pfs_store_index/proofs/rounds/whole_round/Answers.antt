@@ -5,4 +5,4 @@ use Rattle.pfs_store_records.proofs.Walking.{length-keys}
 use Rattle.pfs_store_index.proofs.rounds.whole_round.Goals as goal
 
 pub returns-clause-whole : goal.returns-clause-whole
-returns-clause-whole g c = round-ends c.args.places.now.entries c.len-numbers.result c.saturating_sub.result c.args.share c.requires.share (c.len-numbers.ensures.len ∙ sym (length-keys c.args.places.now.entries)) c.saturating_sub.ensures
+returns-clause-whole c = round-ends c.args.places.now.entries c.len-numbers.result c.saturating_sub.result c.args.share c.requires.share (c.len-numbers.ensures.len ∙ sym (length-keys c.args.places.now.entries)) c.saturating_sub.ensures

@@ -10,7 +10,7 @@ use Rattle.pfs_store_records.proofs.nodes.pass_range.Goals.{then-tally-eq0+in-So
 
 pub loop-stayed-init : goal.loop-stayed-init
 loop-stayed-init c = record {
-  walking = walking-init (OfValue (λ (t : Tally). is_past c.args.config.now c.args.now t ≡ false) (tally_in c.args.slab.now)) c.args.order.now.entries c.range-rest.result c.args.round.cursor c.args.round.mark c.requires.range (c.range-rest.ensures.between tt);
+  walking = walking-init (OfValue (λ (t : Tally). is_past c.args.config.now c.args.now t ≡ false) (tally_in c.args.slab.now)) c.args.order.now.entries c.between-rest.result c.args.round.cursor c.args.round.mark c.requires.range c.between-rest.ensures.between;
   until = each-empty (OfValue (IsKeptUntil c.args.config.now _) (tally_in c.args.slab.now)) c.args.round.cursor c.args.order.now.entries;
   share = omega arith;
 }
@@ -18,21 +18,21 @@ loop-stayed-init c = record {
 pub loop-stayed-preserved : goal.loop-stayed-preserved
 loop-stayed-preserved c =
     let w = (rw c.in-Some.ensures.steps at c.loop-stayed.invariant.walking) in
-    let v : tally_in c.args.slab.now c.in-Some.place.now ≡ Some c.in-Some-get.tally.now = sym c.in-Some-get.ensures in
+    let v : tally_in c.args.slab.now c.in-Some.place ≡ Some c.in-Some-get.tally.now = sym c.in-Some-get.ensures in
     let stays : is_past c.args.config.now c.args.now c.in-Some-get.tally.now ≡ false = elim c.if-tally-eq0.branch [
       | then-tally-eq0+in-Some-stays_until b ↦ b.in-Some-stays_until.ensures.some
       | else-tally-eq0 b ↦ held-stays c.args.config.now c.args.now c.in-Some-get.tally.now b.if-tally-eq0.false
     ] in
     let less : (until : ℕ) → until ≤ c.loop-stayed.until → IsKeptUntil c.args.config.now until c.in-Some-get.tally.now
-    → Each (OfValue (IsKeptUntil c.args.config.now until) (tally_in c.args.slab.now)) c.args.round.cursor c.in-Some.number.now c.args.order.now.entries =
+    → Each (OfValue (IsKeptUntil c.args.config.now until) (tally_in c.args.slab.now)) c.args.round.cursor c.in-Some.number c.args.order.now.entries =
     λ until l k. each-value-more (IsKeptUntil c.args.config.now c.loop-stayed.until) (IsKeptUntil c.args.config.now until)
     (λ t h. kept-less c.args.config.now c.loop-stayed.until until t l h)
-    (tally_in c.args.slab.now) c.args.round.cursor c.loop-stayed.last c.args.round.mark c.in-Some.number.now c.in-Some.place.now c.in-Some-get.tally.now c.next.new.self c.args.order.now.entries
+    (tally_in c.args.slab.now) c.args.round.cursor c.loop-stayed.last c.args.round.mark c.in-Some.number c.in-Some.place c.in-Some-get.tally.now c.next.new.self c.args.order.now.entries
     c.requires.kept.ordered w.rest v k c.loop-stayed.invariant.until in
     record {
-      walking = walking-step (OfValue (λ (t : Tally). is_past c.args.config.now c.args.now t ≡ false) (tally_in c.args.slab.now)) c.args.order.now.entries c.next.new.self c.args.round.cursor c.loop-stayed.last c.args.round.mark c.loop-stayed.stayed c.in-Some.number.now c.in-Some.place.now
+      walking = walking-step (OfValue (λ (t : Tally). is_past c.args.config.now c.args.now t ≡ false) (tally_in c.args.slab.now)) c.args.order.now.entries c.next.new.self c.args.round.cursor c.loop-stayed.last c.args.round.mark c.loop-stayed.stayed c.in-Some.number c.in-Some.place
           c.requires.kept.ordered w
-          (one-value (λ (t : Tally). is_past c.args.config.now c.args.now t ≡ false) (tally_in c.args.slab.now) (c.in-Some.number.now, c.in-Some.place.now) c.in-Some-get.tally.now v stays);
+          (one-value (λ (t : Tally). is_past c.args.config.now c.args.now t ≡ false) (tally_in c.args.slab.now) (c.in-Some.number, c.in-Some.place) c.in-Some-get.tally.now v stays);
       until = elim c.if-tally-eq0.branch [
         | then-tally-eq0+in-Some-stays_until b ↦
             rw b.until-is (less b.min-until.result (omega (arith, b.min-until.ensures))

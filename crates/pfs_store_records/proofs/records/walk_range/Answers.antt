@@ -21,7 +21,7 @@ seconds-of lifetime known rule timeout h k = h k.0 ∙ (λ i. lifetime (k.1 i) (
 
 pub loop-stayed-init : goal.loop-stayed-init
 loop-stayed-init g c = record {
-  walking = walking-init (Stays (state_has_expired (g.T.Lifetimes.lifetime c.args.lifetimes.now) c.args.now) c.args.slab.now) c.args.places.now.entries c.range-rest.result c.args.round.cursor c.args.round.mark c.requires.range (c.range-rest.ensures.between tt);
+  walking = walking-init (Stays (state_has_expired (g.T.Lifetimes.lifetime c.args.lifetimes.now) c.args.now) c.args.slab.now) c.args.places.now.entries c.between-rest.result c.args.round.cursor c.args.round.mark c.requires.range c.between-rest.ensures.between;
   known = λ k. absurd (cc (k, c.unknown-known.ensures));
   until = each-empty (Until (end_of (g.T.Lifetimes.lifetime c.args.lifetimes.now)) c.args.slab.now _) c.args.round.cursor c.args.places.now.entries;
   share = omega arith;
@@ -30,7 +30,7 @@ loop-stayed-init g c = record {
 
 pub look-kept-requires-clause-held : goal.look-kept-requires-clause-held
 look-kept-requires-clause-held g c =
-    next-there c.args.slab.now c.args.places.now.entries _ c.loop-stayed.last c.args.round.mark c.in-Some.number.now c.in-Some.place.now c.requires.kept
+    next-there c.args.slab.now c.args.places.now.entries _ c.loop-stayed.last c.args.round.mark c.in-Some.number c.in-Some.place c.requires.kept
     (sym c.in-Some.ensures.steps ∙ c.loop-stayed.invariant.walking.rest)
 
 pub loop-stayed-preserved : goal.loop-stayed-preserved
@@ -47,11 +47,11 @@ loop-stayed-preserved g c =
       | else-not-is_of b ↦ subst (IsStay (g.T.Lifetimes.lifetime c.args.lifetimes.now)) (sym b.known-is) c.loop-stayed.invariant.known
     ] in
     record {
-      walking = walking-step (Stays (state_has_expired (g.T.Lifetimes.lifetime c.args.lifetimes.now) c.args.now) c.args.slab.now) c.args.places.now.entries c.next.new.self c.args.round.cursor c.loop-stayed.last c.args.round.mark c.loop-stayed.stayed c.in-Some.number.now c.in-Some.place.now
+      walking = walking-step (Stays (state_has_expired (g.T.Lifetimes.lifetime c.args.lifetimes.now) c.args.now) c.args.slab.now) c.args.places.now.entries c.next.new.self c.args.round.cursor c.loop-stayed.last c.args.round.mark c.loop-stayed.stayed c.in-Some.number c.in-Some.place
           c.requires.kept.ordered w
-          (one-stays (state_has_expired (g.T.Lifetimes.lifetime c.args.lifetimes.now) c.args.now) c.args.slab.now c.in-Some.number.now c.in-Some.place.now c.look-kept.result.now c.look-kept.ensures.value ((λ i. is_expired (sym value i) c.look-kept.result.now.last c.args.now) ∙ c.in-Some-stays_until.ensures.some));
-      until = subst (λ n. Each (Until (end_of (g.T.Lifetimes.lifetime c.args.lifetimes.now)) c.args.slab.now n) c.args.round.cursor c.in-Some.number.now c.args.places.now.entries) (sym c.min-until.ensures)
-          (until-more (end_of (g.T.Lifetimes.lifetime c.args.lifetimes.now)) c.args.slab.now c.args.places.now.entries c.next.new.self c.args.round.cursor c.loop-stayed.last c.args.round.mark c.loop-stayed.stayed c.loop-stayed.until c.in-Some-stays_until.moment c.in-Some.number.now c.in-Some.place.now c.look-kept.result.now
+          (one-stays (state_has_expired (g.T.Lifetimes.lifetime c.args.lifetimes.now) c.args.now) c.args.slab.now c.in-Some.number c.in-Some.place c.look-kept.result.now c.look-kept.ensures.value ((λ i. is_expired (sym value i) c.look-kept.result.now.last c.args.now) ∙ c.in-Some-stays_until.ensures.some));
+      until = subst (λ n. Each (Until (end_of (g.T.Lifetimes.lifetime c.args.lifetimes.now)) c.args.slab.now n) c.args.round.cursor c.in-Some.number c.args.places.now.entries) (sym c.min-until.ensures)
+          (until-more (end_of (g.T.Lifetimes.lifetime c.args.lifetimes.now)) c.args.slab.now c.args.places.now.entries c.next.new.self c.args.round.cursor c.loop-stayed.last c.args.round.mark c.loop-stayed.stayed c.loop-stayed.until c.in-Some-stays_until.moment c.in-Some.number c.in-Some.place c.look-kept.result.now
           (state_has_expired (g.T.Lifetimes.lifetime c.args.lifetimes.now) c.args.now) c.requires.kept w c.look-kept.ensures.value (rw value at c.in-Some-stays_until.ensures.until) c.loop-stayed.invariant.until);
       known = known;
       share = omega arith;
@@ -80,7 +80,7 @@ returns-clause-walk g c =
                 ∙ seconds-of (g.T.Lifetimes.lifetime c.args.lifetimes.now) c.loop-stayed.known b.look-kept.result.now.rule (slot b.look-kept.result.now.phase) c.loop-stayed.invariant.known (b.is_of.ensures d.if-not-is_of.false)
           ] in
           rw (b.leaver-is, b.state.ensures.value) (walked (Some b.look-kept.result.now)
-          (next-leaves test slab entries _ c.loop-stayed.last c.args.round.mark c.args.share c.loop-stayed.stayed b.in-Some.number.now b.in-Some.place.now b.look-kept.result.now
+          (next-leaves test slab entries _ c.loop-stayed.last c.args.round.mark c.args.share c.loop-stayed.stayed b.in-Some.number b.in-Some.place b.look-kept.result.now
           c.requires.kept (sym b.in-Some.ensures.steps ∙ w.rest) b.look-kept.ensures.value ((λ i. is_expired (sym value i) b.look-kept.result.now.last c.args.now) ∙ b.stays_until.ensures.none b.in-None.is)
           (omega (arith, b.if-stayed-share.false, c.loop-stayed.invariant.share))))
     ]

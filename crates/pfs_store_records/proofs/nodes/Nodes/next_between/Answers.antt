@@ -9,9 +9,9 @@ use Rattle.pfs_store_records.proofs.nodes.Nodes.next_between.Goals as goal
 
 pub returns-in-Some-clause-number : goal.returns-in-Some-clause-number
 returns-in-Some-clause-number g c =
-    let e = sym c.in-Some.ensures.steps ∙ c.range.ensures.between tt in
-    let l = look-between c.args.above c.args.most c.in-Some.field-0-0.now c.in-Some.place.now _ c.self.inside.order.entries c.self.invariant.noted.kept.ordered e in
-    let f = found number_of_node (NodeIsAt (get same_source c.self.inside.table)) (tally_in c.self.inside.slab) c.in-Some.field-0-0.now c.in-Some.place.now c.self.inside.order.entries c.self.invariant.noted.kept.placed l in
+    let e = sym c.in-Some.ensures.steps ∙ c.between.ensures.between in
+    let l = look-between c.args.above c.args.most c.in-Some.field-0-0 c.in-Some.place _ c.self.inside.order.entries c.self.invariant.noted.kept.ordered e in
+    let f = found number_of_node (NodeIsAt (get same_source c.self.inside.table)) (tally_in c.self.inside.slab) c.in-Some.field-0-0 c.in-Some.place c.self.inside.order.entries c.self.invariant.noted.kept.placed l in
     let r : c.copied.result ≡ Some f.0 = c.copied.ensures ∙ c.get.ensures ∙ f.1 in
     ap (option_map (λ (t : Tally). t.node.number)) r ∙ ap Some f.2
     ∙ rw (numbers-nodes c.args.self.now, sym c.self.view_is)
@@ -19,14 +19,14 @@ returns-in-Some-clause-number g c =
 
 pub returns-in-Some-clause-tally : goal.returns-in-Some-clause-tally
 returns-in-Some-clause-tally g c =
-    let e = sym c.in-Some.ensures.steps ∙ c.range.ensures.between tt in
-    let l = look-between c.args.above c.args.most c.in-Some.field-0-0.now c.in-Some.place.now _ c.self.inside.order.entries c.self.invariant.noted.kept.ordered e in
-    let f = found number_of_node (NodeIsAt (get same_source c.self.inside.table)) (tally_in c.self.inside.slab) c.in-Some.field-0-0.now c.in-Some.place.now c.self.inside.order.entries c.self.invariant.noted.kept.placed l in
+    let e = sym c.in-Some.ensures.steps ∙ c.between.ensures.between in
+    let l = look-between c.args.above c.args.most c.in-Some.field-0-0 c.in-Some.place _ c.self.inside.order.entries c.self.invariant.noted.kept.ordered e in
+    let f = found number_of_node (NodeIsAt (get same_source c.self.inside.table)) (tally_in c.self.inside.slab) c.in-Some.field-0-0 c.in-Some.place c.self.inside.order.entries c.self.invariant.noted.kept.placed l in
     let r : c.copied.result ≡ Some f.0 = c.copied.ensures ∙ c.get.ensures ∙ f.1 in
     rw (r, f.2, sym c.self.view_is)
-    (find_placed number_of_node (NodeIsAt (get same_source c.self.inside.table)) (tally_in c.self.inside.slab) c.in-Some.field-0-0.now c.self.inside.order.entries c.in-Some.place.now c.self.invariant.noted.kept.placed l ∙ f.1)
+    (find_placed number_of_node (NodeIsAt (get same_source c.self.inside.table)) (tally_in c.self.inside.slab) c.in-Some.field-0-0 c.self.inside.order.entries c.in-Some.place c.self.invariant.noted.kept.placed l ∙ f.1)
 
 pub returns-in-None-clause-number : goal.returns-in-None-clause-number
 returns-in-None-clause-number g c =
     rw (numbers-nodes c.args.self.now, sym c.self.view_is)
-    (none_between number_of_node (NodeIsAt (get same_source c.self.inside.table)) c.args.above c.args.most (tally_in c.self.inside.slab) _ c.self.invariant.noted.kept.placed (sym c.in-None.ensures.steps.0 ∙ c.range.ensures.between tt))
+    (none_between number_of_node (NodeIsAt (get same_source c.self.inside.table)) c.args.above c.args.most (tally_in c.self.inside.slab) _ c.self.invariant.noted.kept.placed (sym c.in-None.ensures.steps.0 ∙ c.between.ensures.between))

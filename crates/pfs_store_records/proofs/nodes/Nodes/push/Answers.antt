@@ -2,7 +2,7 @@
 use Rattle.std.proofs.Common.{◌≡◌, ◌∙◌, ◌++◌, ◌∷◌, [], None, Some, ap, arith, refl, sym}
 use Rattle.indexmap.specs.IndexMap.{get}
 use Rattle.pfs_store_records.specs.Keeping.{IsNoted, NodeIsAt, number_of_node, same_source, source_of_node, tally_in, values_at}
-use Rattle.pfs_store_records.proofs.Ordered.{IsUpdated, held-all, held-pushed}
+use Rattle.pfs_store_records.proofs.Ordered.{IsUpdated, below-keys, held-all, held-pushed}
 use Rattle.pfs_store_records.proofs.NodeLaws.{few-noted, grown-slab, none-noted, noted-pushed, noted-reserved, numbers-nodes, orderly, updated-slab, updated-table}
 use Rattle.pfs_store_records.specs.Tallies.{stateless}
 use Rattle.pfs_store_records.proofs.Stateless.{few-stateless, stateless-pushed}
@@ -48,16 +48,22 @@ pub returns-in_err-place-clause-orderly : goal.returns-in_err-place-clause-order
 returns-in_err-place-clause-orderly g c =
     orderly (get same_source c.reserve.new.self) (tally_in c.reserve-2.new.self) c.self.inside.order.entries (invariant_of-self-in_err-place g c).noted.kept
 
-pub invariant_of-self-in_err-insert : goal.invariant_of-self-in_err-insert
-invariant_of-self-in_err-insert g c =
+pub invariant_of-self-in_err-push : goal.invariant_of-self-in_err-push
+invariant_of-self-in_err-push g c =
     let k = noted-reserved c.self.inside.table c.reserve.new.self (tally_in c.self.inside.slab) (tally_in c.reserve-2.new.self) c.self.inside.order.entries c.self.inside.counts.rules.items c.make_room.new.self.rules.items c.self.inside.counts.global c.make_room.new.self.global
     c.reserve.ensures.entries (grown-slab c.self.inside.slab c.reserve-2.new.self _ c.reserve-2.ensures.rest_kept) c.make_room.ensures.counts c.self.invariant.noted in
     let idle = c.self.invariant.idle ∙ sym (ap stateless (held-all number_of_node (NodeIsAt (get same_source c.reserve.new.self)) (tally_in c.self.inside.slab) (tally_in c.reserve-2.new.self) c.self.inside.order.entries (grown-slab c.self.inside.slab c.reserve-2.new.self _ c.reserve-2.ensures.rest_kept))) in
-    rw c.in_err-insert.ensures.err (record { noted = k; idle = idle })
+    rw c.in_err-push.ensures.err (record { noted = k; idle = idle })
 
-pub returns-in_err-insert-clause-orderly : goal.returns-in_err-insert-clause-orderly
-returns-in_err-insert-clause-orderly g c =
-    orderly (get same_source c.reserve.new.self) (tally_in c.reserve-2.new.self) c.insert.new.self.entries (invariant_of-self-in_err-insert g c).noted.kept
+pub returns-in_err-push-clause-orderly : goal.returns-in_err-push-clause-orderly
+returns-in_err-push-clause-orderly g c =
+    orderly (get same_source c.reserve.new.self) (tally_in c.reserve-2.new.self) c.push.new.self.entries (invariant_of-self-in_err-push g c).noted.kept
+
+pub push-requires : goal.push-requires
+push-requires g c = record {
+  above = below-keys number_of_node (NodeIsAt (get same_source c.self.inside.table)) c.args.tally.node.number (tally_in c.self.inside.slab) c.self.inside.order.entries c.self.invariant.noted.kept.placed
+      (rw c.self.view_is (rw (numbers-nodes c.args.self.now) at c.requires.above));
+}
 
 pub counted-self-inside-requires : goal.counted-self-inside-requires
 counted-self-inside-requires g c =
@@ -93,12 +99,12 @@ written : (g : _) (c : goal.After-self-1 g) → IsUpdated (tally_in c.reserve-2.
 written g c = updated-slab c.reserve-2.new.self c.insert_reserved.new.self c.in_ok-place.place (Some c.args.tally) (rw (sym (place g c)) at c.insert_reserved.ensures.updates)
 
 -- the tallies after it
-listed : (g : _) (c : goal.After-self-1 g) → values_at (tally_in c.insert_reserved.new.self) c.insert.new.self.entries ≡ c.args.self.now ++ c.args.tally ∷ []
+listed : (g : _) (c : goal.After-self-1 g) → values_at (tally_in c.insert_reserved.new.self) c.push.new.self.entries ≡ c.args.self.now ++ c.args.tally ∷ []
 listed g c =
     let t = c.args.tally in
     let es = c.self.inside.order.entries in
-    held-pushed number_of_node (NodeIsAt (get same_source c.reserve.new.self)) (tally_in c.reserve-2.new.self) (tally_in c.insert_reserved.new.self) c.in_ok-place.place t es c.insert.new.self.entries
-    (vacant g c) (written g c) (kept g c).kept (rw (held g c) (rw (numbers-nodes c.args.self.now) at c.requires.above)) c.in_ok-insert.ensures.entries
+    held-pushed number_of_node (NodeIsAt (get same_source c.reserve.new.self)) (tally_in c.reserve-2.new.self) (tally_in c.insert_reserved.new.self) c.in_ok-place.place t es c.push.new.self.entries
+    (vacant g c) (written g c) (kept g c).kept (rw (held g c) (rw (numbers-nodes c.args.self.now) at c.requires.above)) c.in_ok-push.ensures.entries
     ∙ ap (λ xs. xs ++ t ∷ []) (held g c)
 
 pub invariant_of-self-in-Ok : goal.invariant_of-self-in-Ok
@@ -108,11 +114,11 @@ invariant_of-self-in-Ok g c =
     let p = c.in_ok-place.place in
     let n : get same_source c.reserve.new.self (source_of_node t) ≡ None =
     none-noted (get same_source c.reserve.new.self) (tally_in c.reserve-2.new.self) es c.make_room.new.self.rules.items c.make_room.new.self.global (kept g c) t.node.scope t.node.source (rw (held g c) c.requires.absent) in
-    let m = updated-table (get same_source c.reserve.new.self) (get same_source c.insert-2.new.self) (source_of_node t) (Some p) c.in-Ok.ensures.updates.0 in
+    let m = updated-table (get same_source c.reserve.new.self) (get same_source c.insert.new.self) (source_of_node t) (Some p) c.in-Ok.ensures.updates.0 in
     record {
-      noted = noted-pushed (get same_source c.reserve.new.self) (get same_source c.insert-2.new.self) (tally_in c.reserve-2.new.self) (tally_in c.insert_reserved.new.self) t p es c.insert.new.self.entries
+      noted = noted-pushed (get same_source c.reserve.new.self) (get same_source c.insert.new.self) (tally_in c.reserve-2.new.self) (tally_in c.insert_reserved.new.self) t p es c.push.new.self.entries
           c.make_room.new.self.rules.items c.add.new.self.rules.items c.make_room.new.self.global c.add.new.self.global
-          n m (vacant g c) (written g c) (rw (held g c) c.requires.above) c.in_ok-insert.ensures.entries c.in_ok-insert.ensures.ordered c.in_ok-insert.ensures.updates.0 c.add.ensures (kept g c);
+          n m (vacant g c) (written g c) (rw (held g c) c.requires.above) c.in_ok-push.ensures.entries c.push.ensures.ordered c.in_ok-push.ensures.updates c.add.ensures (kept g c);
       idle = omega (arith, c.counted-self-inside.ensures, c.self.invariant.idle, ap stateless c.self.view_is, ap stateless (listed g c) ∙ stateless-pushed t c.args.self.now);
     }
 
@@ -120,4 +126,4 @@ pub returns-clause-ok : goal.returns-clause-ok
 returns-clause-ok g c = listed g c
 
 pub returns-clause-orderly : goal.returns-clause-orderly
-returns-clause-orderly g c = orderly (get same_source c.insert-2.new.self) (tally_in c.insert_reserved.new.self) c.insert.new.self.entries (invariant_of-self-in-Ok g c).noted.kept
+returns-clause-orderly g c = orderly (get same_source c.insert.new.self) (tally_in c.insert_reserved.new.self) c.push.new.self.entries (invariant_of-self-in-Ok g c).noted.kept

@@ -2,7 +2,7 @@
 use Rattle.std.proofs.Common.{◌≡◌, ◌∙◌, ◌++◌, ◌∷◌, [], Some, ap, refl, sym}
 use Rattle.pfs_store_records.specs.Keeping.{values_at, number_in, RecordIsAt, record_in}
 use Rattle.pfs_store_records.specs.Records.{placed_at, states_of}
-use Rattle.pfs_store_records.proofs.Ordered.{held-all, held-pushed, kept-all, kept-pushed}
+use Rattle.pfs_store_records.proofs.Ordered.{below-keys, held-all, held-pushed, kept-all, kept-pushed}
 use Rattle.pfs_store_records.proofs.RecordLaws.{grown, numbers-states, rising-states, states-push, updated, vacant}
 use Rattle.pfs_store_records.proofs.records.Records.push.Goals as goal
 
@@ -10,16 +10,22 @@ pub invariant_of-self : goal.invariant_of-self
 invariant_of-self c =
     kept-all number_in RecordIsAt (record_in c.self.inside.slab) (record_in c.reserve.new.self) c.self.inside.places.entries (grown c.self.inside.slab c.reserve.new.self _ c.reserve.ensures.rest_kept) c.self.invariant
 
+pub push-requires : goal.push-requires
+push-requires c = record {
+  above = below-keys number_in RecordIsAt c.args.state.now.number (record_in c.self.inside.slab) c.self.inside.places.entries c.self.invariant.placed
+      (rw c.self.view_is (rw (numbers-states c.args.self.now) at c.requires.above));
+}
+
 pub returns-in_err-reserve-clause-rising : goal.returns-in_err-reserve-clause-rising
 returns-in_err-reserve-clause-rising c = rising-states c.reserve.new.self _ (invariant_of-self c)
 
-pub invariant_of-self-in_err-insert : goal.invariant_of-self-in_err-insert
-invariant_of-self-in_err-insert c =
+pub invariant_of-self-in_err-push : goal.invariant_of-self-in_err-push
+invariant_of-self-in_err-push c =
     let k = kept-all number_in RecordIsAt (record_in c.self.inside.slab) (record_in c.reserve.new.self) c.self.inside.places.entries (grown c.self.inside.slab c.reserve.new.self _ c.reserve.ensures.rest_kept) c.self.invariant in
-    rw c.in_err-insert.ensures.err k
+    rw c.in_err-push.ensures.err k
 
-pub returns-in_err-insert-clause-rising : goal.returns-in_err-insert-clause-rising
-returns-in_err-insert-clause-rising c = rising-states c.reserve.new.self _ (invariant_of-self-in_err-insert c)
+pub returns-in_err-push-clause-rising : goal.returns-in_err-push-clause-rising
+returns-in_err-push-clause-rising c = rising-states c.reserve.new.self _ (invariant_of-self-in_err-push c)
 
 pub invariant_of-self-2 : goal.invariant_of-self-2
 invariant_of-self-2 c =
@@ -30,7 +36,7 @@ invariant_of-self-2 c =
     kept-pushed number_in RecordIsAt (record_in c.reserve.new.self) (record_in c.insert_reserved.new.self) c.insert_reserved.result (placed_at c.insert_reserved.result c.args.state.now) c.self.inside.places.entries _
     (vacant c.reserve.new.self c.insert_reserved.result c.insert_reserved.ensures.was_vacant)
     (updated c.reserve.new.self c.insert_reserved.new.self c.insert_reserved.result (Some c.args.state.now) (rw c.of.ensures at c.insert_reserved.ensures.updates))
-    k (rw w (rw (numbers-states c.args.self.now) at c.requires.above)) refl (rw q at c.in_ok-insert.ensures.entries) c.insert.ensures.ordered
+    k (rw w (rw (numbers-states c.args.self.now) at c.requires.above)) refl (rw q at c.in_ok-push.ensures.entries) c.push.ensures.ordered
 
 pub returns-clause-records : goal.returns-clause-records
 returns-clause-records c =
@@ -41,7 +47,7 @@ returns-clause-records c =
     held-pushed number_in RecordIsAt (record_in c.reserve.new.self) (record_in c.insert_reserved.new.self) c.insert_reserved.result (placed_at c.insert_reserved.result c.args.state.now) c.self.inside.places.entries _
     (vacant c.reserve.new.self c.insert_reserved.result c.insert_reserved.ensures.was_vacant)
     (updated c.reserve.new.self c.insert_reserved.new.self c.insert_reserved.result (Some c.args.state.now) (rw c.of.ensures at c.insert_reserved.ensures.updates))
-    k (rw w (rw (numbers-states c.args.self.now) at c.requires.above)) (rw q at c.in_ok-insert.ensures.entries)
+    k (rw w (rw (numbers-states c.args.self.now) at c.requires.above)) (rw q at c.in_ok-push.ensures.entries)
     ∙ ap (λ xs. xs ++ placed_at c.insert_reserved.result c.args.state.now ∷ []) w
     ∙ ap (λ place. c.args.self.now ++ placed_at place c.args.state.now ∷ []) (sym q)
 
