@@ -24,7 +24,7 @@ use Rattle.pfs_store_contract.specs.Counts.{is_of_source}
 use Rattle.pfs_store_contract.specs.declared.records.State.{State}
 use Rattle.pfs_store_records.specs.Records.{between}
 use Rattle.pfs_store_index.specs.Rounds.{waiting_of}
-use Rattle.pfs_store_index.specs.Ties.{is_pair, pair_cmp, source_cmp, source_of}
+use Rattle.pfs_store_index.specs.Ties.{is_pair, pair_cmp, source_cmp, ordered_source}
 use Rattle.pfs_store_index.specs.contracts.sources.SourceOrd.TheImpl.Laws.{matches_eq-law, total-law}
 use Rattle.pfs_store_index.specs.contracts.sources.SourcePartialEq.TheImpl as source_eq
 use Rattle.pfs_store_index.specs.declared.sources.Source.{Source}
@@ -119,7 +119,7 @@ byte_in (b ∷ bytes) all (suc i) = byte_in bytes (All-tail (λ x. x < 256) b by
 written-again : (bytes : List ℕ) → IsAddr (Addr-V4 bytes) → to_le_bytes w32 (from_le_bytes w32 bytes) ≡ bytes
 written-again bytes h = le_bytes_4 bytes (from_le_bytes w32 bytes) h.0 (byte_in bytes h.1) refl
 
-one-source : (a b : Addr) → IsAddr a → IsAddr b → source_of a ≡ source_of b → a ≡ b
+one-source : (a b : Addr) → IsAddr a → IsAddr b → ordered_source a ≡ ordered_source b → a ≡ b
 one-source (Addr-V4 x) (Addr-V4 y) h k e = ap Addr-V4 (sym (written-again x h) ∙ ap (λ s. to_le_bytes w32 (number_in s)) e ∙ written-again y k)
 one-source (Addr-V6 x) (Addr-V6 y) h k e = ap Addr-V6 (sym (reverse-reverse x) ∙ ap (λ s. reverse (bytes_in s)) e ∙ reverse-reverse y)
 one-source (Addr-V4 x) (Addr-V6 y) h k e = absurd (cc e)
@@ -146,8 +146,8 @@ pair_found p q h = go (pair_cmp p q) refl
     go Greater e = let z : is_found (λ (x : Source × ℕ). Greater) q ≡ true = ap (λ (o : Ordering). is_found (λ (x : Source × ℕ). o) q) (sym e) ∙ h in absurd (cc z)
     go Equal e = let w = pair_number p.0 q.0 p.1 q.1 e in (λ i. (w.0 i, w.1 i))
 
-pub pair_test : (s : State) (a : Addr) (n : ℕ) → IsAddr s.source → IsAddr a → is_found (pair_cmp (source_of s.source, s.number)) (source_of a, n) ≡ is_pair a n s
-pair_test s a n u v = go (is_found (pair_cmp (source_of s.source, s.number)) (source_of a, n)) refl (is_pair a n s) refl
+pub pair_test : (s : State) (a : Addr) (n : ℕ) → IsAddr s.source → IsAddr a → is_found (pair_cmp (ordered_source s.source, s.number)) (ordered_source a, n) ≡ is_pair a n s
+pair_test s a n u v = go (is_found (pair_cmp (ordered_source s.source, s.number)) (ordered_source a, n)) refl (is_pair a n s) refl
   where
     same_self : (k : ℕ) → (k == k) ≡ true
     same_self k = grind (arith, nat_tests)
@@ -163,20 +163,20 @@ pair_test s a n u v = go (is_found (pair_cmp (source_of s.source, s.number)) (so
         let z : pair_cmp (b, k) (b, k) ≡ Equal = ap (λ o. ordering_then o (nat_cmp k k)) (source_itself b) ∙ nat_itself k in
         ap (λ (o : Ordering). is_found (λ (x : Source × ℕ). o) (b, k)) z
 
-    go : (x : Bool) → is_found (pair_cmp (source_of s.source, s.number)) (source_of a, n) ≡ x → (y : Bool) → is_pair a n s ≡ y
-        → is_found (pair_cmp (source_of s.source, s.number)) (source_of a, n) ≡ is_pair a n s
+    go : (x : Bool) → is_found (pair_cmp (ordered_source s.source, s.number)) (ordered_source a, n) ≡ x → (y : Bool) → is_pair a n s ≡ y
+        → is_found (pair_cmp (ordered_source s.source, s.number)) (ordered_source a, n) ≡ is_pair a n s
     go true e true f = e ∙ sym f
     go false e false f = e ∙ sym f
     go true e false f =
-        let w = pair_found (source_of s.source, s.number) (source_of a, n) e in
+        let w = pair_found (ordered_source s.source, s.number) (ordered_source a, n) e in
         let o : s.source ≡ a = one-source s.source a u v (λ i. (w i).0) in
         let z : is_pair a n s ≡ true = and_from _ _ (ap (λ (b : Addr). same_addr s.source b) (sym o) ∙ same_addr_self s.source) (ap (λ (p : Source × ℕ). s.number == p.1) (sym w) ∙ same_self s.number) in
         absurd (cc (z, f))
     go false e true f =
         let p = same_addr_true s.source a (and_parts (is_of_source a s) (s.number == n) f).0 in
         let q = same_number s.number n (and_parts (is_of_source a s) (s.number == n) f).1 in
-        let z : is_found (pair_cmp (source_of s.source, s.number)) (source_of a, n) ≡ true =
-        ap (λ (x : Source × ℕ). is_found (pair_cmp (source_of s.source, s.number)) x) (λ i. (source_of (sym p i), sym q i)) ∙ found_self (source_of s.source) s.number in
+        let z : is_found (pair_cmp (ordered_source s.source, s.number)) (ordered_source a, n) ≡ true =
+        ap (λ (x : Source × ℕ). is_found (pair_cmp (ordered_source s.source, s.number)) x) (λ i. (ordered_source (sym p i), sym q i)) ∙ found_self (ordered_source s.source) s.number in
         absurd (cc (z, e))
 
 -- ---- the first of the states of a source
@@ -288,30 +288,30 @@ pair-undone p q a b c z e h = go (is_found (pair_cmp p) q) refl
 
 -- the pairs that are found are those of the states
 abbrev pub ArePairs : BTreeSet (Source × ℕ) → List State → Type 0
-ArePairs pairs xs = (b : Addr) (n : ℕ) → IsAddr b → tree.contains pair_cmp pairs (source_of b, n) ≡ list_any (is_pair b n) xs
+ArePairs pairs xs = (b : Addr) (n : ℕ) → IsAddr b → tree.contains pair_cmp pairs (ordered_source b, n) ≡ list_any (is_pair b n) xs
 
 of-own : (above most : ℕ) (pairs : BTreeSet (Source × ℕ)) (r : List (Source × ℕ)) (own other : Source) → own ≡ other
     → tree.IsKeyRangeOf pair_cmp (Excluded (own, above)) (Included (own, most)) pairs r → tree.IsKeyRangeOf pair_cmp (Excluded (other, above)) (Included (other, most)) pairs r
 of-own above most pairs r own other is h = subst (λ (o : Source). tree.IsKeyRangeOf pair_cmp (Excluded (o, above)) (Included (o, most)) pairs r) is h
 
 pub first-of-range : (a : Addr) (above most : ℕ) (xs : List State) (pairs : BTreeSet (Source × ℕ)) (k : Source × ℕ) (r r' : List (Source × ℕ)) (own : Source)
-    → own ≡ source_of a → IsAddr a → ArePairs pairs xs → r ≡ k ∷ r'
+    → own ≡ ordered_source a → IsAddr a → ArePairs pairs xs → r ≡ k ∷ r'
     → tree.IsKeyRangeOf pair_cmp (Excluded (own, above)) (Included (own, most)) pairs r → IsFirstOf a above most k.1 xs
 first-of-range a above most xs pairs k r r' own is u paired e ranged =
-    let h = of-own above most pairs r own (source_of a) is ranged in
-    let first = subst (λ z. IfSome (slice_get z 0) (tree.IsKeyInRange pair_cmp (Excluded (source_of a, above)) (Included (source_of a, most)) pairs)) e h.1 in
-    let o = of-range (source_of a) above most k.0 k.1 first.0.0 first.0.1 in
+    let h = of-own above most pairs r own (ordered_source a) is ranged in
+    let first = subst (λ z. IfSome (slice_get z 0) (tree.IsKeyInRange pair_cmp (Excluded (ordered_source a, above)) (Included (ordered_source a, most)) pairs)) e h.1 in
+    let o = of-range (ordered_source a) above most k.0 k.1 first.0.0 first.0.1 in
     record {
       held = sym (paired a k.1 u) ∙ ap (λ (b : Source). tree.contains pair_cmp pairs (b, k.1)) (sym o.source) ∙ first.1;
       above_it = o.above_it;
       most_it = o.most_it;
       least = λ n any l m.
-          let z : is_gt (pair_cmp k (source_of a, n)) ≡ false =
-          subst (λ z. IfSome (slice_get z 0) (λ (q : Source × ℕ). is_gt (pair_cmp q (source_of a, n)) ≡ false)) e (h.2 (source_of a, n) (in-range (source_of a) above most n l m) (paired a n u ∙ any)) in
-          nat_not_gt k.1 n (ap (λ o. is_gt (ordering_then o (nat_cmp k.1 n))) (sym (source_itself (source_of a)) ∙ ap (λ (b : Source). source_cmp b (source_of a)) (sym o.source)) ∙ z);
+          let z : is_gt (pair_cmp k (ordered_source a, n)) ≡ false =
+          subst (λ z. IfSome (slice_get z 0) (λ (q : Source × ℕ). is_gt (pair_cmp q (ordered_source a, n)) ≡ false)) e (h.2 (ordered_source a, n) (in-range (ordered_source a) above most n l m) (paired a n u ∙ any)) in
+          nat_not_gt k.1 n (ap (λ o. is_gt (ordering_then o (nat_cmp k.1 n))) (sym (source_itself (ordered_source a)) ∙ ap (λ (b : Source). source_cmp b (ordered_source a)) (sym o.source)) ∙ z);
     }
 
 pub none-of-range : (a : Addr) (above most : ℕ) (xs : List State) (pairs : BTreeSet (Source × ℕ)) (r : List (Source × ℕ)) (own : Source)
-    → own ≡ source_of a → IsAddr a → ArePairs pairs xs → r ≡ []
+    → own ≡ ordered_source a → IsAddr a → ArePairs pairs xs → r ≡ []
     → tree.IsKeyRangeOf pair_cmp (Excluded (own, above)) (Included (own, most)) pairs r → (n : ℕ) → above < n → n ≤ most → list_any (is_pair a n) xs ≡ false
-none-of-range a above most xs pairs r own is u paired e ranged n l m = sym (paired a n u) ∙ (of-own above most pairs r own (source_of a) is ranged).5 e (source_of a, n) (in-range (source_of a) above most n l m)
+none-of-range a above most xs pairs r own is u paired e ranged n l m = sym (paired a n u) ∙ (of-own above most pairs r own (ordered_source a) is ranged).5 e (ordered_source a, n) (in-range (ordered_source a) above most n l m)

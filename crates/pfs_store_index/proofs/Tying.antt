@@ -23,7 +23,7 @@ use Rattle.pfs_store_records.specs.Records.{IsRising, Placed, leaves_number, pla
 use Rattle.pfs_store_records.specs.declared.nodes.Tally.{Tally}
 use Rattle.pfs_store_index.specs.declared.indexes.Entry.{Entry}
 use Rattle.pfs_store_index.specs.declared.sources.Source.{Source}
-use Rattle.pfs_store_index.specs.Ties.{HasPair, HasRule, IsCounted, IsTied, SamePairs, entry_of, has_key, is_pair, key_in, left_at, pair_cmp, source_of}
+use Rattle.pfs_store_index.specs.Ties.{HasPair, HasRule, IsCounted, IsTied, SamePairs, entry_of, has_key, is_pair, key_in, left_at, pair_cmp, ordered_source}
 use Rattle.pfs_store_records.specs.Changes.{HasTally, at_node, tallies_with_state, left_of, met_by}
 use Rattle.pfs_store_index.proofs.Comings.{counted-came, distinct-came, key-came, noded-came, pair-came, rule-came, ruled-came, scoped-came, scored-came}
 use Rattle.pfs_store_index.proofs.Leavings.{counted-left, key-left, noded-left, pair-left, record_number, rule-left, ruled-set, scored-left, state_number}
@@ -44,7 +44,7 @@ module _ {S : Type 0} (conf : Conf) (rs : List Placed) (keys : HashMap FlowKey E
   pub tied-left : (keys' : HashMap FlowKey Entry S) (pairs' : BTreeSet (Source × ℕ)) (s : State) (now v : ℕ) → IsAddr s.source → IsTied conf rs keys counts ts pairs → IsRising (state_numbers (states_of rs))
       → find (has_number state_number s.number) (states_of rs) ≡ Some s → v ≡ slice_index counts s.rule.0
       → ((k : FlowKey) → hash.get same_key keys' k ≡ cond (same_key s.key k) None (hash.get same_key keys k))
-      → ((q : Source × ℕ) → tree.contains pair_cmp pairs' q ≡ cond (is_found (pair_cmp (source_of s.source, s.number)) q) false (tree.contains pair_cmp pairs q))
+      → ((q : Source × ℕ) → tree.contains pair_cmp pairs' q ≡ cond (is_found (pair_cmp (ordered_source s.source, s.number)) q) false (tree.contains pair_cmp pairs q))
       → IsTied conf (filter (leaves_number s.number) rs) keys' (slice_set counts s.rule.0 (v - 1)) (map (left_at conf s now) ts) pairs'
   tied-left keys' pairs' s now v u i r f e hk hp =
       let xs = states_of rs in
@@ -67,14 +67,14 @@ module _ {S : Type 0} (conf : Conf) (rs : List Placed) (keys : HashMap FlowKey E
         noded = subst (AllByRecursion (HasTally conf (map (left_at conf s now) ts))) (sym at)
             (noded-left conf s now ts (filter (other_than s.number) xs) (all-filter (other_than s.number) (HasTally conf ts) xs i.noded));
         paired = λ a n at'.
-            pair-left s xs a n _ _ r f (i.paired a n at') (hp (source_of a, n) ∙ ap (λ b. cond b false (tree.contains pair_cmp pairs (source_of a, n))) (pair_test s a n u at'))
+            pair-left s xs a n _ _ r f (i.paired a n at') (hp (ordered_source a, n) ∙ ap (λ b. cond b false (tree.contains pair_cmp pairs (ordered_source a, n))) (pair_test s a n u at'))
             ∙ ap (list_any (is_pair a n)) (sym at);
       }
 
   pub tied-came : (keys' : HashMap FlowKey Entry S) (pairs' : BTreeSet (Source × ℕ)) (s : State) (place v : ℕ) (o : Option NodeScope) → IsAddr s.source → IsTied conf rs keys counts ts pairs
       → find (has_key s.key) rs ≡ None → s.rule.0 < length counts → v ≡ slice_index counts s.rule.0 → is_done s.phase ≡ false → node_scope_of conf s.rule.0 ≡ o
       → ((k : FlowKey) → hash.get same_key keys' k ≡ cond (same_key s.key k) (Some (entry_of (placed_at place s))) (hash.get same_key keys k))
-      → HasPair (source_of s.source, s.number) pairs pairs'
+      → HasPair (ordered_source s.source, s.number) pairs pairs'
       → IsTied conf (rs ++ placed_at place s ∷ []) keys' (slice_set counts s.rule.0 (v + 1)) (tallies_with_state o s ts) pairs'
   tied-came keys' pairs' s place v o u i f w e d so hk hp =
       let xs = states_of rs in
@@ -90,7 +90,7 @@ module _ {S : Type 0} (conf : Conf) (rs : List Placed) (keys : HashMap FlowKey E
         scored = scored-came o s ts i.scored;
         noded = subst (AllByRecursion (HasTally conf (tallies_with_state o s ts))) (sym at) (noded-came conf o s xs ts so i.noded);
         paired = λ a n at'.
-            pair-came s xs a n _ _ (i.paired a n at') (hp (source_of a, n) ∙ ap (λ b. cond b true (tree.contains pair_cmp pairs (source_of a, n))) (pair_test s a n u at'))
+            pair-came s xs a n _ _ (i.paired a n at') (hp (ordered_source a, n) ∙ ap (λ b. cond b true (tree.contains pair_cmp pairs (ordered_source a, n))) (pair_test s a n u at'))
             ∙ ap (list_any (is_pair a n)) (sym at);
       }
 
@@ -131,7 +131,7 @@ module _ {S : Type 0} (conf : Conf) (rs : List Placed) (keys : HashMap FlowKey E
     scoped = i.scoped;
     scored = i.scored;
     noded = i.noded;
-    paired = λ a n u. hp (source_of a, n) ∙ i.paired a n u;
+    paired = λ a n u. hp (ordered_source a, n) ∙ i.paired a n u;
   }
 
 -- ---- nothing is held

@@ -42,9 +42,9 @@ entry_of p = record { number = p.state.number; rule = p.state.rule; place = p.pl
 -- ---- the index by source
 
 -- an address, its last byte the highest
-abbrev pub source_of : Addr → Source
-source_of (Addr-V4 bytes) = Source-V4 (from_le_bytes w32 bytes)
-source_of (Addr-V6 bytes) = Source-V6 (reverse bytes)
+abbrev pub ordered_source : Addr → Source
+ordered_source (Addr-V4 bytes) = Source-V4 (from_le_bytes w32 bytes)
+ordered_source (Addr-V6 bytes) = Source-V6 (reverse bytes)
 
 -- how `cmp` orders two sources, and two pairs of source and number
 abbrev pub source_cmp : Source → Source → Ordering
@@ -86,7 +86,7 @@ pub record IsTied {S : Type 0} (conf : Conf) (records : List Placed) (keys : Has
   pub scoped : AllByRecursion (IsScoped conf) tallies
   pub scored : AllByRecursion IsScored tallies
   pub noded : AllByRecursion (HasTally conf tallies) (states_of records)
-  pub paired : (source : Addr) (n : ℕ) → IsAddr source → tree.contains pair_cmp pairs (source_of source, n) ≡ list_any (is_pair source n) (states_of records)
+  pub paired : (source : Addr) (n : ℕ) → IsAddr source → tree.contains pair_cmp pairs (ordered_source source, n) ≡ list_any (is_pair source n) (states_of records)
 
 -- ---- a state leaves
 

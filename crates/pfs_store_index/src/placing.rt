@@ -8,7 +8,7 @@ ghost use Rattle.pfs_store_contract.specs.Purging.{node_numbers, state_numbers};
 ghost use Rattle.pfs_store_records.specs.Records.{IsAbove, placed_at, states_of};
 ghost use Rattle.pfs_store_records.specs.Sourced.{IsSourced};
 ghost use Rattle.pfs_store_records.specs.Tallies.{nodes_of};
-ghost use Rattle.pfs_store_index.specs.Ties.{HasPair, SamePairs, pair_cmp, source_of};
+ghost use Rattle.pfs_store_index.specs.Ties.{HasPair, SamePairs, pair_cmp, ordered_source};
 ghost use Rattle.pfs_store_records.specs.Changes.{IsFew, tallies_with_state};
 
 use crate::sources::Source;
@@ -32,9 +32,9 @@ pub(crate) fn place<S: BuildHasher>(
     requires nodes_above { IsAbove state.number (node_numbers (nodes_of nodes.old)) }
     requires sourced { IsSourced state }
     requires small { state.number < 2 ^ 32 }
-    requires absent { IsAddr state.source → contains pair_cmp pairs.old (source_of state.source, state.number) ≡ false }
+    requires absent { IsAddr state.source → contains pair_cmp pairs.old (ordered_source state.source, state.number) ≡ false }
     ensures records { IfOk result (λ place. records.new ≡ records.old ++ placed_at place state ∷ []) }
-    ensures pairs { OnOk result (HasPair (source_of state.source, state.number) pairs.old pairs.new) }
+    ensures pairs { OnOk result (HasPair (ordered_source state.source, state.number) pairs.old pairs.new) }
     ensures nodes { OnOk result (nodes.new ≡ tallies_with_state scope state nodes.old) }
     ensures addr { IsAddr state.source }
     ensures same_records { OnErr result (records.new ≡ records.old) }

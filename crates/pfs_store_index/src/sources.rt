@@ -2,7 +2,7 @@
 
 ghost use Rattle.std.specs.Prelude.{◌≡◌};
 ghost use Rattle.pfs_addr_values.specs.Addresses.{IsAddr};
-ghost use Rattle.pfs_store_index.specs.Ties.{source_of};
+ghost use Rattle.pfs_store_index.specs.Ties.{ordered_source};
 
 use pfs_addr_values::Addr;
 
@@ -17,7 +17,7 @@ pub(crate) enum Source {
 impl Source {
     /// The source that has an address.
     pub(crate) fn of(addr: Addr) -> Source
-        ensures value { result ≡ source_of addr }
+        ensures value { result ≡ ordered_source addr }
         ensures addr { IsAddr addr }
     {
         match addr {

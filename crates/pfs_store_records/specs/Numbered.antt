@@ -8,8 +8,8 @@ pub record Numbered : Type 0 where
   pub entries : List (ℕ × ℕ)
 
 -- the first of what was left is given, and the others are left; or none was left
-abbrev pub IsNext : List (ℕ × ℕ) → Option (ℕ × ℕ) → List (ℕ × ℕ) → Type 0
-IsNext before given after = MatchOption given ((before ≡ []) × (after ≡ [])) (λ e. before ≡ e ∷ after)
+abbrev pub IsFirstLeft : List (ℕ × ℕ) → Option (ℕ × ℕ) → List (ℕ × ℕ) → Type 0
+IsFirstLeft before given after = MatchOption given ((before ≡ []) × (after ≡ [])) (λ e. before ≡ e ∷ after)
 
 -- a number has this place now, or none, and each other number has what it had
 abbrev pub HasPlace : ℕ → Option ℕ → List (ℕ × ℕ) → List (ℕ × ℕ) → Type 0

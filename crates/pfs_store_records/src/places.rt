@@ -8,7 +8,7 @@ ghost use Rattle.std.specs.Cmp.Rules.{comparing};
 ghost use Rattle.std.specs.Map.{keys_of, lookup, remove_entry};
 ghost use Rattle.std.specs.Ordering.{as_partial_cmp, flip_args, nat_cmp};
 ghost use Rattle.std.specs.declared.ops.Bound.TheVariants.{Excluded, Included};
-ghost use Rattle.pfs_store_records.specs.Numbered.{HasPlace, IsNext};
+ghost use Rattle.pfs_store_records.specs.Numbered.{HasPlace, IsFirstLeft};
 ghost use Rattle.pfs_store_records.specs.Records.{IsAbove, IsRising};
 
 use pfs_addr_values::NoMemory;
@@ -162,7 +162,7 @@ impl<'a> Model for PlacesBetween<'a> {
 impl<'a> PlacesBetween<'a> {
     /// The next number, and its place. It takes no memory.
     pub fn next(&mut self) -> Option<(u64, u32)>
-        ensures steps { IsNext self.old result self.new }
+        ensures steps { IsFirstLeft self.old result self.new }
     {
         match self.falling.next_back() {
             Some((number, place)) => Some((number.0, *place)),
