@@ -57,8 +57,9 @@ impl Ord for Falling {
     }
 }
 
-/// The places of records, each by its number. Callers see them by rising number. The map has the greatest number first, where a
-/// search begins: a record that comes has a number above all others, and goes in without being compared to them.
+/// The places of records, each by its number. Callers see them by rising number. The map has the greatest number first, where the
+/// search of each node of its tree begins: a record that comes has a number above all others, so one comparison a node finds
+/// where it goes.
 #[derive(Drop)]
 pub struct Places {
     falling: BTreeMap<Falling, u32>,
