@@ -14,6 +14,7 @@ from pathlib import Path
 
 from pfplan.common.errors import Status, Trouble, reason_of
 from pfplan.common.limits import OF_ALL, OF_RULES
+from pfplan.pf.reading_canonical_text import items_of
 from pfplan.replays.runs import show_rules
 
 ADAPTIVE = ("adaptive.start", "adaptive.end")
@@ -87,6 +88,10 @@ class RulesText:
             self._text = path.read_bytes().decode("latin-1")
         except OSError as error:
             raise Trouble(f"{path}: can't be read: {reason_of(error)}", Status.FAILED) from None
+
+    def items(self) -> list[str]:
+        """The texts of the rules by number."""
+        return items_of(self._shown)
 
     def settings(self) -> list[Number]:
         """The limits and timeouts for all rules, as resolved."""

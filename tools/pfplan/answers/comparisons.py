@@ -9,6 +9,8 @@ from pathlib import Path
 from typing import Any
 
 from pfplan.answers.connections import Key
+from pfplan.answers.doubts import interfaces_in, of_interfaces, of_users
+from pfplan.answers.held_states import states_held
 from pfplan.answers.measures import Measure, measure_of, most_of
 from pfplan.answers.sides import Side, follow, side_of
 from pfplan.answers.stepping import Steps, steps_of
@@ -69,11 +71,13 @@ class Comparison:
     against: list[Against]
     moments: int
     timelines: list[Timeline] = field(default_factory=list)
+    doubts: list[str] = field(default_factory=list)
 
     def to_json(self) -> dict[str, Any]:
         """The numbers for machines (man/pfplan.1)."""
         sides = [{"rules": name, **it.to_json()} for name, it in zip(self.names, self.measures)]
         return {
+            "doubts": self.doubts,
             "trace": self.trace,
             "users": self.users,
             "sides": sides,
@@ -215,6 +219,8 @@ def compare(
     shown = [show_rules(it) for it in paths]
     rules = [items_of(it) for it in shown]
     fates = Fates(len(paths), wanted.most)
+    flushes = [flushes_of(it) for it in rules]
+    held = [states_held(it, trace, wanted.users, flushes[at], entries[at]) for at, it in enumerate(paths)]
     progress = Progress("compare", records_of(trace), "records")
     with contextlib.ExitStack() as stack:
         stack.callback(progress.finish)
@@ -223,9 +229,8 @@ def compare(
         reports = [stack.enter_context(replayed(it, trace, asked[at], heard[at])) for at, it in enumerate(paths)]
         steps = [steps_of(trace) for _ in paths] if wanted.over_time else []
         hear = [steps[at].hear if steps else None for at in range(len(paths))]
-        flushes = [flushes_of(it) for it in rules]
         sides = [
-            side_of(it, reports[at], wanted.users, fates.ended(at), hear[at], flushes[at], asked[at].numbers)
+            side_of(it, reports[at], wanted.users, fates.ended(at), hear[at], flushes[at], asked[at].numbers, held[at])
             for at, it in enumerate(names_of(paths))
         ]
         pairs = Pairs(sides, rules, progress, steps)
@@ -235,7 +240,13 @@ def compare(
     lines_of = [[*lines, *([mark_of(it)] if it else [])] for lines, it in zip(shown, entries)]
     lines = [_timeline(it, said.held, any(one.connections for one in measures)) for it, said in zip(steps, heard)]
     users = ",".join(map(str, wanted.users))
-    return Comparison(trace.name, users, list(names), measures, _against(pairs, fates, lines_of), wanted.moments, lines)
+    found = Comparison(
+        trace.name, users, list(names), measures, _against(pairs, fates, lines_of), wanted.moments, lines
+    )
+    seen = interfaces_in(trace)
+    found.doubts = [f"{name}: {it}" for name, items in zip(names, rules) for it in of_interfaces(items, seen)]
+    found.doubts += of_users(users, measures[0].connections)
+    return found
 
 
 def _against(pairs: Pairs, fates: Fates, lines_of: Sequence[Sequence[str]]) -> list[Against]:

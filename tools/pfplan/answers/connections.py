@@ -1,34 +1,40 @@
 """What became of the connections of users: each is followed from its first packet through the answers that its packets
 got.
 
-A connection is of who began it: with a SYN, and for other protocols with its first packet. RULES has its outcomes.
+A connection is of who began it: with a SYN, and for other protocols with its first packet. A SYN that is repeated
+belongs to its connection, until another one of these ports can be told (`Connections` says when). RULES has its
+outcomes.
 """
 
 import ipaddress
 from collections import Counter
-from collections.abc import Callable, Iterator, Mapping, Sequence
-from dataclasses import dataclass
-from types import MappingProxyType
+from collections.abc import Callable, Iterable, Mapping, Sequence
+from dataclasses import dataclass, field
+from sys import intern
+from typing import Protocol
 
 from pfplan.common.limits import DROPS
 from pfplan.common.networks import Network
 
 # what became of a connection, and when that is said of it
 RULES = {
-    "served": "its handshake went through, and every packet of it up to the first FIN or RST",
-    "unanswered": "it was let in, and the trace shows no handshake: the server refused it or did not answer",
+    "served": "its handshake went through, of UDP an answer, and then every packet of it up to the first FIN or RST",
+    "unanswered": "it was let in, and the trace shows no handshake, of UDP no answer: the server refused it or did not "
+    "answer",
     "refused": "its first packet was blocked or dropped, on one interface or the next, and so was each repetition "
     "of it",
-    "killed": "its state was killed by a limit on its source, or by the flush that followed",
-    "cut": "it was let in, and a later packet was not: its state had run out, which adaptive timeouts hasten",
-    "late": "it was let in, in the last 3 seconds of the trace, and had no handshake by then: it counts neither way",
+    "killed": "its state was killed by a limit on its source, or by the flush that followed, and no repeated SYN was "
+    "let in",
+    "cut": "it was let in, and a later packet was not: its state had run out, which adaptive timeouts hasten; and no "
+    "repeated SYN was let in",
+    "late": "it was let in, in the last 3 seconds of the trace, and had no answer by then: it counts neither way",
 }
 KINDS = tuple(RULES)
 LATE = "late"
 # the same in few words, of many connections
 MEANINGS = {
     "served": "went through to their end, or to the trace's",
-    "unanswered": "let in; no handshake in the trace",
+    "unanswered": "let in; no answer in the trace",
     "refused": "their first packet blocked or dropped",
     "killed": "by a limit on their source, or by its flush",
     "cut": "let in, and lost their state before their end",
@@ -37,9 +43,14 @@ MEANINGS = {
 # Seconds before the end of a trace in which a missing answer says nothing. A client repeats its SYN after 1 second and
 # after 2 more (RFC 6298, 2), so an answer to the first or the second may come within 3.
 LAST_SECONDS = 3
+# Seconds without a packet after which a SYN of the same ports begins another connection: a port may be used again after
+# twice the lifetime of a segment (RFC 9293, 3.4.1 and 3.6.1).
+ANOTHER = 240
 # Connections that are over are remembered up to this number, so that their last packets are not taken for those of
 # others.
 REMEMBERED = 100_000
+# Ways and ports by which connections of users are counted.
+PORTS = 10_000
 
 
 class Members:
@@ -140,44 +151,96 @@ class Refusal:
         self.last = entering.moment if self.last is None else max(self.last, entering.moment)
 
 
-NO_STATES: Mapping[bool, tuple[str, str]] = MappingProxyType({})
+# the protocols with names of their own, by number
+_NAMES = {"6": "tcp", "17": "udp"}
+
+
+class Holding(Protocol):
+    """Knows which states are held before a record that killed some."""
+
+    def held(self, row: int, moment: int, states: Iterable[str]) -> frozenset[str] | None:
+        """Those of some states (`State.text`) that are held before the record of a row at a moment; None where that is
+        not known."""
+
+
+@dataclass(slots=True)
+class _Pair:
+    """Two ends of a protocol: the connection between them that began last, and the states that may be held, by whether
+    their first packet went in from the lower end."""
+
+    key: Key  # the lower end comes first
+    is_tcp: bool
+    is_udp: bool
+    flow: "_Connection | None" = None
+    states: dict[bool, tuple[str, str]] = field(default_factory=dict)  # the rule, and the source it counts for
+    texts: list[Key] = field(default_factory=list)  # how records write it, in either direction
+
+    def __hash__(self) -> int:
+        return id(self)
+
+
+@dataclass(frozen=True, slots=True)
+class State:
+    """A state that may be held: its ends, and whether its first packet went in from the lower one."""
+
+    pair: _Pair
+    side: bool
+
+    @property
+    def text(self) -> str:
+        """The columns of a packet of it, from the direction on, without the interface."""
+        protocol, source, port, target, target_port = self.pair.key
+        return f"{'in' if self.side else 'out'},{protocol},{source},{port},{target},{target_port}"
 
 
 @dataclass(slots=True)
 class _Connection:
     begin: int
-    row: int  # of its last packet
-    state: str  # open, closed, stray, foreign or one of KINDS
-    is_tcp: bool
-    is_low: bool  # whether the end that began it is the lower one of its key
-    # its states, by whether their first packet went in from who began it: the rule of each, and the source that it
-    # counts for
-    states: Mapping[bool, tuple[str, str]]
-    key: Key
     first: int  # the row of its first packet
+    seen: int  # the moment of its last packet
+    let_in: int  # the moment of the SYN that was let in, or of its first packet
+    state: str  # open, closed, stray, or one of KINDS
+    is_low: bool  # whether the end that began it is the lower one of its key
+    is_counted: bool  # whether a user began it
     is_greeted: bool = False
     is_answered: bool = False
     refusal: tuple[str, str] = ("", "")  # the word and the rule that refused it
     entering: Entering | None = None
     places: tuple[tuple[str, str], ...] = ()  # directions and interfaces on which a packet of who began it came through
 
-    def outcome(self, last: int) -> str:
+    def outcome(self, pair: _Pair, last: int) -> str:
+        """What became of it, by the end of the trace."""
         if self.state not in ("open", "closed"):
             return self.state
-        if self.is_answered or not self.is_tcp:
+        if self.is_answered or not (pair.is_tcp or pair.is_udp) or pair.is_udp and self.is_greeted:
             return "served"
-        return LATE if self.state == "open" and last - self.begin < LAST_SECONDS else "unanswered"
+        return LATE if self.state == "open" and last - self.let_in < LAST_SECONDS else "unanswered"
+
+    def is_over(self, moment: int, word: str) -> bool:
+        """Whether a SYN is none of it, but begins another of these ports."""
+        if self.state in ("stray", "closed") or moment - self.seen >= ANOTHER:
+            return True
+        return self.is_answered and not (self.state == "open" and word == "state")
+
+    def open_again(self, moment: int) -> None:
+        """A repeated SYN of it was let in: what comes of it now counts."""
+        if self.state != "refused":
+            self.is_greeted, self.places = False, ()
+        self.state, self.let_in = "open", moment
 
 
 class Connections:
     """Follows the connections of users, and counts those whose end is known.
 
-    `hear(begin, outcome)` is called for each that is over, and `ended(key, first row, outcome)`, which tells it from
-    all others. Memory grows with the connections that are open at a time, where `most_open` does not bound them: of
-    more, those that have been quiet the longest are counted as they are then, and let go (`forgotten`). `flushes` says
-    of the rules with `flush`, by `@N`, whether it is `flush global`; None where the rules are not known: a kill of
-    several states is then taken for `flush`, unless that source has fewer by the rule. `remembered` of those that are
-    over are kept at least, and twice as many at most.
+    A SYN begins another connection where there is none of these ports, or it has been closed, or 4 minutes have passed
+    since its last packet, or its handshake was done and its state is not held any more. `hear(begin, outcome)` is
+    called for each that is over, and `ended(key, first row, outcome)`, which tells it from all others. Memory grows
+    with the connections that are open at a time, where `most_open` does not bound them: of more, those that have been
+    quiet the longest are counted as they are then, and let go (`forgotten`). `flushes` says of the rules with `flush`,
+    by `@N`, whether it is `flush global`; None where the rules are not known: a kill of several states is then taken
+    for `flush`, unless that source has fewer by the rule. `holding` knows which states had run out before a kill;
+    without it, and where it does not know, the states that were quiet the longest are taken to have. `remembered` of
+    those that are over are kept at least, and twice as many at most.
     """
 
     def __init__(
@@ -188,17 +251,22 @@ class Connections:
         flushes: Mapping[str, bool] | None = None,
         remembered: int = REMEMBERED,
         most_open: int | None = None,
+        holding: Holding | None = None,
     ) -> None:
         self.members = Members(users)
         self.outcomes: Counter[str] = Counter()
         self.refusals: dict[tuple[str, str], Refusal] = {}
         self.without_beginning = 0
         self.begun_by_others = 0
+        self.begun: Counter[tuple[str, str]] = Counter()  # those of users, by direction and port of their first packets
         self._hear = hear
         self._ended = ended
         self._flushes = flushes
-        self._flows: dict[Key, _Connection] = {}
-        self._of_source: dict[str, dict[Key, None]] = {}
+        self._holding = holding
+        self._pairs: dict[Key, _Pair] = {}
+        self._by_text: dict[Key, tuple[_Pair, bool]] = {}  # and whether the source is the lower end
+        self._of_source: dict[str, dict[_Pair, None]] = {}
+        self._blurred: set[str] = set()  # sources of which states were forgotten that may be held
         self._entered: dict[str, Entering] = {}
         self._remembered = remembered
         self._most_open = most_open
@@ -206,46 +274,48 @@ class Connections:
         self.forgotten = 0  # those that were open
         self.last = 0  # the moment of the last record so far, of users or not
 
+    @property
+    def known(self) -> Callable[[Key], "tuple[_Pair, bool] | None"]:
+        """What is known of two ends as a record writes them: the pair, and whether the source is the lower end."""
+        return self._by_text.get
+
     def follow(self, row: int, reply: Reply, column: Sequence[str]) -> None:
         """A packet between a user and somebody else, with what the report says of it."""
-        _, direction, interface, protocol, source, port, target, target_port, flags = column
-        is_tcp = protocol == "tcp" or protocol.lstrip("0") == "6"
-        if ":" in source:
-            source, target = self.members.name(source), self.members.name(target)
-        name = "tcp" if is_tcp else protocol
-        is_low = source < target or source == target and port < target_port
-        key = (name, source, port, target, target_port) if is_low else (name, target, target_port, source, port)
-        flow = self._flows.get(key)
-        word = reply.word
-        is_first = "S" in flags and "A" not in flags if is_tcp else flow is None
-        if flow is None or is_first and flow.state not in ("open", "refused"):
-            begun_by = self._begun_by(source, is_first)
-            ends = key if is_low else (name, source, port, target, target_port)
-            flow = _Connection(int(column[0]), row, begun_by, is_tcp, is_low, NO_STATES, ends, row)
-            self._begin(key, flow, reply)
-            is_mine = True
-        else:
-            is_mine = is_low == flow.is_low
-            if flow.state == "open":
-                flow.row = row
-                if word != "state" or not flow.is_answered:
-                    self._go_on(flow, reply, column, is_first, is_mine)
-                elif is_tcp and ("F" in flags or "R" in flags):
-                    flow.state = "closed"
-            elif flow.state == "refused":
-                flow.row = row
-                if is_mine and (is_first or not is_tcp) and word not in BAD:
-                    flow.state = "open"
-        if is_mine and not flow.is_greeted and flow.state == "open":
-            self._note_place(flow, direction, interface)
-        if word == "state":
-            side = (direction == "in") is is_mine
-            if side not in flow.states:
-                self._note_state(flow, key, reply, side, source)
-        elif word == "new":
-            self._note_state(flow, key, reply, (direction == "in") is is_mine, source)
+        text = (column[3], column[4], column[5], column[6], column[7])
+        found = self._by_text.get(text) or self._pair_of(text)
+        self.follow_pair(found, row, int(column[0]), (column[1], column[2]), column[8], reply)
 
-    def kill(self, moment: int, source: str, reply: Reply) -> None:
+    def follow_pair(
+        self, found: tuple[_Pair, bool], row: int, moment: int, place: tuple[str, str], flags: str, reply: Reply
+    ) -> None:
+        """As `follow`, where it is known between which ends it goes, and whether the source is the lower one; `place`
+        is its direction and its interface."""
+        pair, is_low = found
+        flow, word = pair.flow, reply.word
+        if word != "state":
+            self._note_state(pair, (place[0] == "in") is is_low, reply, is_low)
+        elif flow is not None and flow.is_answered and "S" not in flags:
+            # most records: a later packet of a connection that is served
+            flow.seen = moment
+            if flow.state == "open" and pair.is_tcp and ("F" in flags or "R" in flags):
+                flow.state = "closed"
+            return
+        is_first = "S" in flags and "A" not in flags if pair.is_tcp else flow is None
+        if flow is None or is_first and (flow.is_over(moment, word) or self._is_of_other(flow, is_low)):
+            flow = self._begin(pair, is_low, row, moment, is_first, reply)
+            if flow.is_counted:
+                self._count_begun(place[0], pair.key[4] if is_low else pair.key[2])
+        else:
+            flow.seen = moment
+            if flow.state == "open":
+                self._go_on(pair, flow, reply, place, flags, is_first, is_low == flow.is_low)
+            elif is_low == flow.is_low and word not in BAD and self._is_tried_again(pair, flow, is_first):
+                flow.open_again(moment)
+        if flow.state == "open" and not flow.is_greeted and is_low == flow.is_low:
+            if place not in flow.places:
+                flow.places += (place,)
+
+    def kill(self, row: int, moment: int, source: str, reply: Reply) -> None:
         """A record of a source was answered by a kill: other states of it may be gone, and it may be in a table now."""
         source = self.members.name(source)
         if reply.overload in ("added", "held") and self.members.has(source):
@@ -254,20 +324,25 @@ class Connections:
         is_global = self._flush_of(reply, source)
         if is_global is None:
             return
-        left = reply.killed - 1  # that of the record itself has been seen
-        for flow in sorted((it for it in self._flows_of(source) if it.state == "open"), key=lambda it: -it.row):
-            mine = {
-                side for side, (rule, of) in flow.states.items() if of == source and (is_global or rule == reply.rule)
-            }
-            if mine and left > 0:
-                left -= len(mine)
-                flow.state = "killed"
-                flow.states = {side: it for side, it in flow.states.items() if side not in mine}
+        # all of them are gone now: those that are held are flushed, and the others had run out
+        flushed = [
+            State(pair, side)
+            for pair in self._of_source.get(source, ())
+            for side, (rule, of) in pair.states.items()
+            if of == source and (is_global or rule == reply.rule)
+        ]
+        for state in self._held(row, moment, source, flushed, reply.killed - 1):
+            if state.pair.flow and state.pair.flow.state == "open":
+                state.pair.flow.state = "killed"
+        for state in flushed:
+            self._drop(state.pair, state.side)
 
     def so_far(self) -> Counter[str]:
         """What became of the connections, with those that are not over as they are now."""
-        going_on = (it for it in self._flows.values() if it.state not in ("stray", "foreign"))
-        return self.outcomes + Counter(it.outcome(self.last) for it in going_on)
+        going_on = ((it, it.flow) for it in self._pairs.values())
+        return self.outcomes + Counter(
+            flow.outcome(pair, self.last) for pair, flow in going_on if flow and flow.is_counted
+        )
 
     @property
     def refused_by(self) -> Counter[str]:
@@ -279,92 +354,163 @@ class Connections:
 
     def finish(self) -> None:
         """Counts the connections that are still there at the end of the trace."""
-        for flow in self._flows.values():
-            self._end(flow)
-        self._flows.clear()
+        for pair in self._pairs.values():
+            self._end(pair)
+        self._pairs.clear()
+        self._by_text.clear()
         self._of_source.clear()
 
-    def _begun_by(self, source: str, is_first: bool) -> str:
-        """The state of a connection whose first packet in the trace is of this source: it is of a user, or not to be
-        counted."""
+    def _pair_of(self, text: Key) -> tuple[_Pair, bool]:
+        """The ends of a record, and whether its source is the lower one. Ports and addresses may be written in several
+        ways."""
+        protocol, source, port, target, target_port = text
+        if protocol != "tcp":
+            protocol = protocol.lstrip("0")
+            protocol = _NAMES.get(protocol, protocol)
+        if ":" in source:
+            source, target = self.members.name(source), self.members.name(target)
+        if port[:1] == "0" or target_port[:1] == "0":
+            port, target_port = port.lstrip("0") or port[:1], target_port.lstrip("0") or target_port[:1]
+        name, source, port, target, target_port = map(intern, (protocol, source, port, target, target_port))
+        is_low = (source, port) < (target, target_port)
+        key = (name, source, port, target, target_port) if is_low else (name, target, target_port, source, port)
+        pair = self._pairs.get(key)
+        if pair is None:
+            pair = self._pairs[key] = _Pair(key, name == "tcp", name == "udp")
+            if len(self._pairs) > self._most:
+                self._forget(pair)
+            # how most records write it, in both directions
+            other = (name, target, target_port, source, port) if is_low else (name, source, port, target, target_port)
+            self._by_text[key], self._by_text[other] = (pair, True), (pair, False)
+            pair.texts += (key, other)
+        found = self._by_text.get(text)
+        if found is None:
+            pair.texts.append(text)
+            found = self._by_text[text] = (pair, is_low)
+        return found
+
+    def _count_begun(self, direction: str, port: str) -> None:
+        if len(self.begun) < PORTS or (direction, port) in self.begun:
+            self.begun[direction, port] += 1
+
+    def _begin(
+        self, pair: _Pair, is_low: bool, row: int, moment: int, is_first: bool, reply: Reply
+    ) -> _Connection:
+        """A packet that is of no connection before: it begins one, or is of one whose beginning is not known."""
+        self._end(pair)
+        source = pair.key[1] if is_low else pair.key[3]
+        is_counted = is_first and self.members.has(source)
+        flow = pair.flow = _Connection(moment, row, moment, moment, "open" if is_first else "stray", is_low, is_counted)
         if not is_first:
             self.without_beginning += 1
-            return "stray"
-        if self.members.has(source):
-            return "open"
-        self.begun_by_others += 1
-        return "foreign"
+        elif not is_counted:
+            self.begun_by_others += 1
+        if is_first and reply.word in BAD:
+            self._refuse(pair, flow, reply)
+        return flow
 
-    def _begin(self, key: Key, flow: _Connection, reply: Reply) -> None:
-        before = self._flows.pop(key, None)
-        if before:
-            self._end(before)
-            flow.states = before.states  # what its ends held is held on
-        self._flows[key] = flow
-        if flow.state == "open" and reply.word in BAD:
-            self._refuse(flow, reply)
-        if len(self._flows) > self._most:
-            self._forget()
+    def _is_of_other(self, flow: _Connection, is_low: bool) -> bool:
+        """Whether a SYN is of the end that did not begin a connection which has been let in and is lost."""
+        return is_low != flow.is_low and flow.state in ("killed", "cut")
 
-    def _refuse(self, flow: _Connection, reply: Reply) -> None:
+    def _is_tried_again(self, pair: _Pair, flow: _Connection, is_first: bool) -> bool:
+        """Whether a packet of who began a connection that is not open tries it again."""
+        if pair.is_tcp:
+            return is_first and flow.state in ("refused", "killed", "cut")
+        return flow.state == "refused"
+
+    def _refuse(self, pair: _Pair, flow: _Connection, reply: Reply) -> None:
         flow.state = "refused"
         flow.refusal = (reply.word, reply.rule)
-        flow.entering = self._entered.get(flow.key[1]) if reply.word == "block" else None
+        source = pair.key[1] if flow.is_low else pair.key[3]
+        flow.entering = self._entered.get(source) if reply.word == "block" else None
 
     def _go_on(
-        self, flow: _Connection, reply: Reply, column: Sequence[str], is_first: bool, from_beginner: bool
+        self,
+        pair: _Pair,
+        flow: _Connection,
+        reply: Reply,
+        place: tuple[str, str],
+        flags: str,
+        is_first: bool,
+        from_beginner: bool,
     ) -> None:
         """A packet of a connection that is open. `is_first` is that of a SYN that may begin one."""
-        flags = column[8]
         if reply.word in BAD:
-            is_at_begin = from_beginner and not flow.is_greeted and (is_first or not flow.is_tcp)
-            if is_at_begin and (column[1], column[2]) not in flow.places:
-                self._refuse(flow, reply)
+            is_at_begin = from_beginner and not flow.is_greeted and (is_first or not pair.is_tcp)
+            if is_at_begin and place not in flow.places:
+                self._refuse(pair, flow, reply)
             else:
                 flow.state = "cut"
         elif reply.word.startswith("kill:"):
-            flow.state, flow.states = "killed", NO_STATES
+            # its handshake was done by this packet, or before
+            flow.is_answered = flow.is_answered or from_beginner and flow.is_greeted and not is_first
+            flow.state = "killed"
         elif not from_beginner:
-            if not flow.is_tcp or "S" in flags and "A" in flags:
+            if not pair.is_tcp or "S" in flags and "A" in flags:
                 flow.is_greeted = True
         elif flow.is_greeted and not is_first:
             flow.is_answered = True
-        if flow.is_tcp and flow.state == "open" and ("F" in flags or "R" in flags):
+        if pair.is_tcp and flow.state == "open" and ("F" in flags or "R" in flags):
             flow.state = "closed"
 
-    def _note_place(self, flow: _Connection, direction: str, interface: str) -> None:
-        if (direction, interface) not in flow.places:
-            flow.places += ((direction, interface),)
+    def _note_state(self, pair: _Pair, side: bool, reply: Reply, is_low: bool) -> None:
+        """What a packet says of its state that is of none yet, or was killed: by which rule it is made, and for which
+        source it counts; else it is not held."""
+        if reply.word == "new":
+            source = pair.key[1] if is_low else pair.key[3]
+            if side in pair.states:
+                self._drop(pair, side)
+            pair.states[side] = (reply.rule, source)
+            self._of_source.setdefault(source, {})[pair] = None
+        elif side in pair.states:
+            self._drop(pair, side)
 
-    def _note_state(self, flow: _Connection, key: Key, reply: Reply, side: bool, source: str) -> None:
-        """Which rule made the state that a packet belongs to, and for which source it counts: that of the packet that
-        made it."""
-        of = source if reply.word == "new" else flow.key[1]
-        flow.states = {**flow.states, side: (reply.rule, of)}
-        self._of_source.setdefault(of, {})[key] = None
+    def _drop(self, pair: _Pair, side: bool) -> None:
+        """A state is not held any more."""
+        _, source = pair.states.pop(side)
+        if all(of != source for _, of in pair.states.values()):
+            there = self._of_source.get(source)
+            if there is not None:
+                there.pop(pair, None)
+                if not there:
+                    del self._of_source[source]
 
     def _flush_of(self, reply: Reply, source: str) -> bool | None:
         """Whether a kill takes the states of the source by all rules (True) or by its own rule (False); None where it
         takes no other."""
-        if reply.killed < 2:
-            return None
         if self._flushes is not None:
             return self._flushes.get(reply.rule)
+        if reply.killed < 2:
+            return None
         mine = sum(
-            of == source and rule == reply.rule for flow in self._flows_of(source) for rule, of in flow.states.values()
+            of == source and rule == reply.rule
+            for pair in self._of_source.get(source, ())
+            for rule, of in pair.states.values()
         )
         return mine < reply.killed - 1
 
-    def _flows_of(self, source: str) -> Iterator[_Connection]:
-        """The connections with states that count for a source, as far as they are remembered."""
-        for key in self._of_source.get(source, ()):
-            if key in self._flows:
-                yield self._flows[key]
+    def _held(self, row: int, moment: int, source: str, flushed: Sequence[State], count: int) -> Sequence[State]:
+        """Those of some states of a source that are held before the kill of a row, which took so many of that
+        source."""
+        if not count or not flushed:
+            return ()
+        # of who is no user other states may be held, which are not followed
+        if len(flushed) <= count and self.members.has(source) and source not in self._blurred:
+            return flushed
+        if self._holding is not None:
+            asked = {it.text: it for it in flushed}
+            held = self._holding.held(row, moment, asked)
+            if held is not None:
+                return [asked[it] for it in held if it in asked]
+        return sorted(flushed, key=lambda it: -it.pair.flow.seen if it.pair.flow else 0)[:count]
 
-    def _end(self, flow: _Connection) -> None:
-        if flow.state in ("stray", "foreign"):
+    def _end(self, pair: _Pair) -> None:
+        """Counts the connection between two ends, if there is one to be counted."""
+        flow = pair.flow
+        if flow is None or not flow.is_counted:
             return
-        outcome = flow.outcome(self.last)
+        outcome = flow.outcome(pair, self.last)
         self.outcomes[outcome] += 1
         if outcome == "refused":
             refusal = self.refusals.get(flow.refusal)
@@ -373,30 +519,31 @@ class Connections:
             refusal.add(flow.entering)
         self._hear(flow.begin, outcome)
         if self._ended:
-            self._ended(flow.key, flow.first, outcome)
+            protocol, low, low_port, high, high_port = pair.key
+            key = pair.key if flow.is_low else (protocol, high, high_port, low, low_port)
+            self._ended(key, flow.first, outcome)
 
-    def _forget(self) -> None:
+    def _forget(self, but: _Pair) -> None:
         """Counts the older of the connections that are over, and lets them go; of many that are open, the quietest."""
-        over = sorted((flow.row, key) for key, flow in self._flows.items() if flow.state != "open")
+        found = [(it.flow.seen, it.flow.first, it) for it in self._pairs.values() if it.flow and it is not but]
+        over = [it for it in found if it[2].flow and it[2].flow.state != "open"]
         self._let_go(over, self._remembered)
-        if self._most_open is not None and len(self._flows) > self._most_open:
-            going_on = sorted((flow.row, key) for key, flow in self._flows.items() if flow.state == "open")
+        if self._most_open is not None and len(self._pairs) > self._most_open:
+            going_on = [it for it in found if it[2].flow and it[2].flow.state == "open"]
             self.forgotten += self._let_go(going_on, self._most_open)
-        self._most = 2 * self._remembered + len(self._flows)
+        self._most = 2 * self._remembered + len(self._pairs)
 
-    def _let_go(self, found: Sequence[tuple[int, Key]], most: int) -> int:
+    def _let_go(self, found: list[tuple[int, int, _Pair]], most: int) -> int:
         """Counts connections and lets them go, but for so many of the last of them; and says how many went."""
+        found.sort(key=lambda it: it[:2])
         going = found[: max(0, len(found) - most)]
-        for _, key in going:
-            flow = self._flows.pop(key)
-            self._end(flow)
-            for _, of in flow.states.values():
-                self._leave(of, key)
+        for _, _, pair in going:
+            self._end(pair)
+            del self._pairs[pair.key]
+            for text in pair.texts:
+                del self._by_text[text]
+            for side, (_, source) in list(pair.states.items()):
+                if self._holding is not None:
+                    self._blurred.add(source)
+                self._drop(pair, side)
         return len(going)
-
-    def _leave(self, source: str, key: Key) -> None:
-        there = self._of_source.get(source)
-        if there is not None:
-            there.pop(key, None)
-            if not there:
-                del self._of_source[source]

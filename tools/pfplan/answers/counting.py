@@ -8,7 +8,8 @@ from itertools import chain, compress, groupby
 from pathlib import Path
 from typing import NoReturn
 
-from pfplan.answers.connections import Connections, Reply
+from pfplan.answers.connections import Connections, Holding, Reply
+from pfplan.answers.following import columns_of, follow_block
 from pfplan.answers.sources import Sources
 from pfplan.answers.stepping import Steps
 from pfplan.common.errors import Status, Trouble
@@ -16,8 +17,6 @@ from pfplan.common.networks import Network
 from pfplan.traces.records import ORDERS, End, Traces, read_answer
 from pfplan.traces.rows import Rows
 
-# The words of records that are no packets with ports: those that are skipped, and those of an administrator.
-NO_PACKETS = ("skip", "expire", "held", "add", "delete")
 # Limits of a block whose last place is looked for one by one.
 FEW = 8
 # Texts of a report's lines that are remembered.
@@ -215,13 +214,14 @@ class Moments:
         users: Sequence[Network],
         steps: Steps,
         flushes: Mapping[str, bool] | None = None,
+        holding: Holding | None = None,
     ) -> None:
         self.first: int | None = None
         self.last = 0
         self.steps = steps
         self.refused, self.killed, self.made, self.seen = Sources(), Sources(), Sources(), Sources()
         self.interfaces: set[str] = set()
-        self.connections = Connections(users, steps.hear, flushes=flushes)
+        self.connections = Connections(users, steps.hear, flushes=flushes, holding=holding)
         self._trace = trace
         self._back: list[str] = []
         self._lines = self._ahead()
@@ -268,17 +268,16 @@ class Moments:
         self._see(columns[2])
         self.connections.last = self.last
         if self._has_users:
-            self._follow(columns, texts, replies)
+            follow_block(self.connections, self._row, columns, texts, replies)
         self._row += len(lines)
 
     def _columns(self, lines: Sequence[str]) -> list[list[str]]:
-        """The nine columns of the lines. One split serves all of them: between two lines stands a part that no line
-        holds."""
-        parts = ",\n,".join(lines).split(",")
-        if len(parts) != 10 * len(lines) - 1 or parts[9::10].count("\n") != len(lines) - 1:
+        """The nine columns of the lines."""
+        columns = columns_of(lines)
+        if columns is None:
             self._row += next(i for i, it in enumerate(lines, 1) if it.count(",") != 8)
             self._refuse("not nine columns")
-        return [parts[it::10] for it in range(9)]
+        return columns
 
     def _see(self, names: Iterable[str]) -> None:
         if len(self.interfaces) < INTERFACES:
@@ -328,24 +327,6 @@ class Moments:
         kills = {text for text, it in replies.items() if it.word.startswith("kill:")}
         for source, text in compress(zip(sources, texts, strict=True), map(kills.__contains__, texts)) if kills else ():
             self.killed.add_one(source, replies[text].killed)
-
-    def _follow(self, columns: Sequence[Sequence[str]], texts: Sequence[str], replies: Mapping[str, Reply]) -> None:
-        sources, targets = columns[4], columns[6]
-        is_user = self.connections.members.of({*sources, *targets}).__contains__
-        rows = range(len(texts))
-        users = {*compress(rows, map(is_user, sources)), *compress(rows, map(is_user, targets))}
-        kills = {text for text, it in replies.items() if it.word.startswith("kill:")}
-        killing = {*compress(rows, map(kills.__contains__, texts))} if kills else set()
-        passed_over = {text for text, it in replies.items() if it.word in NO_PACKETS}
-        places = sorted(users | killing)
-        records = zip(*([column[at] for at in places] for column in columns), strict=True)
-        follow, row = self.connections.follow, self._row + 1
-        for at, record in zip(places, records, strict=True):
-            text = texts[at]
-            if text not in passed_over and (not killing or at in users):
-                follow(row + at, replies[text], record)
-            if text in kills:
-                self.connections.kill(int(record[0]), record[4], replies[text])
 
     def _refuse(self, why: str) -> NoReturn:
         raise Trouble(f"{self._trace.name}: row {self._row}: {why}", Status.REFUSED)

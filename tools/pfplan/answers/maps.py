@@ -13,6 +13,7 @@ from pfplan.answers.changed_rules import Number
 from pfplan.answers.measures import Measure
 from pfplan.answers.plays_measured import Amount, Subject
 from pfplan.answers.sizes import BETWEEN, ROUNDS_AROUND_BEST, Trials, Vary, Wanted, checked, serves
+from pfplan.common.errors import Trouble
 from pfplan.replays.machines import Machines, Runs, measure_words
 
 Pair = tuple[int, int]
@@ -41,10 +42,16 @@ class Map:
     measures: Mapping[Pair, Measure]
     grid: tuple[Sequence[int], Sequence[int]]
     is_cut: bool
+    doubts: Sequence[str] = ()
 
     def meets(self, pair: Pair) -> bool:
         """Whether a pair serves the wanted share."""
         return serves(self.measures[pair], self.want)
+
+    @property
+    def now(self) -> Pair:
+        """The present values."""
+        return self.varied[0].value, self.varied[1].value
 
     def border(self) -> Iterator[Border]:
         """The border at each value of the second number."""
@@ -59,10 +66,12 @@ class Map:
     def to_json(self) -> dict[str, Any]:
         """The numbers for machines (man/pfplan.1)."""
         return {
+            "doubts": list(self.doubts),
             "trace": self.trace,
             "users": self.users,
             "varied": [{"name": it.name, "rules": it.rules, "now": it.value} for it in self.varied],
             "want": float(self.want),
+            "meets_now": self.meets(self.now) if self.now in self.measures else None,
             "is_cut": self.is_cut,
             "runs": [
                 {"values": list(pair), "meets": self.meets(pair), **self.measures[pair].to_json()}
@@ -75,7 +84,7 @@ class Map:
 def search(
     grid: tuple[Sequence[int], Sequence[int]], want: Fraction, most: int, measure: MeasurePairs
 ) -> tuple[dict[Pair, Measure], bool]:
-    """Tries all pairs of a grid, and then more at each value of the second number, at most so many.
+    """Tries all pairs of a grid, and then more at each value of the second number, at most so many in all.
 
     Those are values of the first around each edge, and around the best where none serves the users. Answers too whether
     more would have told more.
@@ -89,7 +98,7 @@ def search(
             column = {first: it for (first, at), it in measured.items() if at == second}
             found += [(first, second) for first in _next(column, want, rounds < ROUNDS_AROUND_BEST)]
         rounds += 1
-        left = most - (len(measured) - len(pairs))
+        left = most - len(measured)
         if not found or left <= 0:
             return measured, bool(found)
         measured.update(zip(found[:left], measure(found[:left])))
@@ -109,12 +118,29 @@ def grid_of(vary: Vary, now: int, count: int) -> list[int]:
     return sorted({*found, now}) if vary.low <= now <= vary.high else found
 
 
+def grids_of(varies: Sequence[Vary], now: Sequence[int], count: int, most: int) -> tuple[list[int], list[int]]:
+    """The grids of both numbers. Where they have more pairs than `most`, they are made coarser, so that a third of the
+    runs is left for the border.
+
+    Trouble where two values of each are too many.
+    """
+    if most < 4:
+        raise Trouble(f"--runs: a map has four pairs or more, and {most} are asked for")
+    bound = most
+    for several in range(count, 1, -1):
+        first, second = (grid_of(vary, it, several) for vary, it in zip(varies, now))
+        if len(first) * len(second) <= bound:
+            return first, second
+        bound = max(4, most * 2 // 3)
+    return [varies[0].low, varies[0].high], [varies[1].low, varies[1].high]
+
+
 def map_of(
     varies: Sequence[Vary], subject: Subject, trace: Path, where: Machines, entries: Sequence[str], wanted: Wanted
 ) -> Map:
     """Replays the trace, or plays the scenario, for pair after pair. Trouble as `size`."""
     varied = (checked(varies[0], subject), checked(varies[1], subject))
-    first, second = (grid_of(vary, it.value, wanted.grid) for vary, it in zip(varies, varied))
+    first, second = grids_of(varies, [it.value for it in varied], wanted.grid, wanted.runs)
     with Runs(where, trace, measure_words(wanted.users, wanted.moments), entries) as runs:
         trials = Trials(runs)
 
@@ -122,4 +148,7 @@ def map_of(
             return trials.measure([subject.text_of({varied[0]: one, varied[1]: other}) for one, other in pairs])
 
         measures, is_cut = search((first, second), wanted.share, wanted.runs, measure)
-    return Map(wanted.trace, wanted.users_of(subject), varied, wanted.share, measures, (first, second), is_cut)
+    is_coarse = len(first) < len(grid_of(varies[0], varied[0].value, wanted.grid))
+    return Map(
+        wanted.trace, wanted.users_of(subject), varied, wanted.share, measures, (first, second), is_cut or is_coarse
+    )

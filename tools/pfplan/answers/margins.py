@@ -7,6 +7,7 @@ from pathlib import Path
 from typing import Any
 
 from pfplan.answers.changed_rules import ADAPTIVE, Kind, Number, RulesText
+from pfplan.answers.doubts import of_replay, of_users
 from pfplan.answers.measures import Measure, from_json
 from pfplan.answers.plays_measured import Subject, users_text
 from pfplan.answers.sizes import serves
@@ -61,6 +62,7 @@ class Margins:
     want: Fraction
     base: Measure
     margins: tuple[Margin, ...]
+    doubts: Sequence[str] = ()
 
     @property
     def turning(self) -> list[Margin]:
@@ -70,6 +72,7 @@ class Margins:
     def to_json(self) -> dict[str, Any]:
         """The numbers for machines (man/pfplan.1)."""
         return {
+            "doubts": list(self.doubts),
             "trace": self.trace,
             "users": self.users,
             "want": float(self.want),
@@ -185,4 +188,5 @@ def measure_margins(
         Margin(it.title, it.step, values_text(it), measure, turns_of(base, measure, want, bool(who)))
         for it, measure in zip(moves, moved)
     )
-    return Margins(names[0], who, want, base, margins)
+    doubts = of_replay(text.items(), trace, subject.scenario) + of_users(who, base.connections)
+    return Margins(names[0], who, want, base, margins, doubts)

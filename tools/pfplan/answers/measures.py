@@ -1,12 +1,15 @@
 """One replay in a few numbers: what `size` and `margins` compare, here and on other machines."""
 
+import contextlib
 import json
-from collections.abc import Sequence
-from dataclasses import asdict, dataclass, field
+import tempfile
+from collections.abc import Generator, Sequence
+from dataclasses import asdict, dataclass, field, replace
 from pathlib import Path
 from typing import Any
 
 from pfplan.answers.connections import KINDS, LATE
+from pfplan.answers.held_states import HeldStates, followed_again
 from pfplan.answers.sides import Side, word_counts
 from pfplan.answers.tallies import tally, trace_texts
 from pfplan.common.errors import Status, Trouble
@@ -14,7 +17,7 @@ from pfplan.common.networks import Network
 from pfplan.pf.reading_canonical_text import flushes_of, items_of
 from pfplan.replays.runs import show_rules, stream_texts
 from pfplan.traces.insertions import Asking, Held, asking
-from pfplan.traces.records import WORDS, End
+from pfplan.traces.records import BLOCK, WORDS, End, read_answer
 
 
 @dataclass(frozen=True, slots=True)
@@ -115,21 +118,100 @@ def measure(rules: Path, trace: Path, users: Sequence[Network], moments: int, en
     It is asked at so many moments how many states are held. `entries` are those that come by records
     (traces/entries.py).
     """
-    with asking(trace, moments, entries) as asked:
-        return measure_asked(rules, trace, users, asked)
+    with asking(trace, moments, entries) as asked, Measurer(trace, users, asked, entries) as measurer:
+        return measurer.measure(rules)
 
 
-def measure_asked(rules: Path, trace: Path, users: Sequence[Network], asked: Asking) -> Measure:
-    """As `measure`, where it is known already what is put into the trace."""
-    try:
-        flushes = flushes_of(items_of(show_rules(rules))) if users else None
-        heard = asked.heard(rules)
-        records = trace_texts(trace, asked.plain)
+class Measurer:
+    """Measures rules texts one after another over one trace. What answers each record as the first did is replayed, and
+    not counted again."""
+
+    def __init__(self, trace: Path, users: Sequence[Network], asked: Asking, entries: Sequence[str] = ()) -> None:
+        """`asked` is what is put into the trace, and `entries` those that come by records."""
+        self._trace = trace
+        self._users = users
+        self._asked = asked
+        self._entries = entries
+        self._report = tempfile.TemporaryFile("w+", prefix="pfplan-", encoding="latin-1", newline="\n")
+        self._first: Measure | None = None  # of what the report is kept
+
+    def __enter__(self) -> "Measurer":
+        return self
+
+    def __exit__(self, *_: object) -> None:
+        self._report.close()
+
+    def measure(self, rules: Path) -> Measure:
+        """Replays the trace and counts it. Rules that the program refuses are a measure that says why."""
+        heard = self._asked.heard(rules)
+        try:
+            report = stream_texts(rules, self._trace, self._asked, heard)
+            if self._first is None:
+                found = self._count(rules, self._kept(report))
+            else:
+                same, others = self._compare(report)
+                found = same or self._count(rules, others)
+        except Trouble as trouble:
+            if trouble.status != Status.RULES:
+                raise
+            return Measure(refused=trouble.message.removeprefix(f"{rules}: "))
+        return replace(found, most_held=most_of(heard.held, found.end))
+
+    def _count(self, rules: Path, report: Generator[str, None, None]) -> Measure:
+        """Counts a report. The first that leaves nothing to be asked of the program is kept."""
+        flushes = flushes_of(items_of(show_rules(rules))) if self._users else None
+        holding = HeldStates()
+        records = trace_texts(self._trace, self._asked.plain)
         side = tally(
-            trace, records, stream_texts(rules, trace, asked, heard), users, flushes, asked.numbers, rules.name
+            self._trace, records, report, self._users, flushes, self._asked.numbers, rules.name, holding
         )
-    except Trouble as trouble:
-        if trouble.status != Status.RULES:
-            raise
-        return Measure(refused=trouble.message.removeprefix(f"{rules}: "))
-    return measure_of(side, most_of(heard.held, measure_of(side).end))
+        if holding.is_asked:
+            again = followed_again(rules, self._trace, self._users, flushes, self._entries, holding)
+            side.connections = again.connections
+        found = measure_of(side)
+        if self._first is None and not holding.is_asked:
+            self._first = found
+        return found
+
+    def _kept(self, report: Generator[str, None, None]) -> Generator[str, None, None]:
+        """A report, of which a copy is made."""
+        self._report.seek(0)
+        self._report.truncate()
+        with contextlib.closing(report):
+            for text in report:
+                self._report.write(text)
+                yield text
+
+    def _compare(self, report: Generator[str, None, None]) -> tuple[Measure | None, Generator[str, None, None]]:
+        """The measure of a report that says of each record what the first did; None where it does not, and the whole
+        report."""
+        self._report.seek(0)
+        size = 0
+        for text in report:
+            own = self._report.read(len(text))
+            if own != text:
+                end = text.rfind("\n", 0, -1) + 1
+                if text[:end] == own[:end] and text.startswith("end ", end) and own.startswith("end ", end):
+                    return self._with_end(report, text[end:]), report
+                return None, self._rest(report, size, text)
+            size += len(text)
+        return self._first, report
+
+    def _with_end(self, report: Generator[str, None, None], line: str) -> Measure:
+        """The measure of the first with another last line."""
+        for _ in report:
+            pass  # the program says how it ended
+        end = read_answer(line.removesuffix("\n"))
+        assert self._first is not None and isinstance(end, End)
+        return replace(self._first, end=end)
+
+    def _rest(self, report: Generator[str, None, None], size: int, text: str) -> Generator[str, None, None]:
+        """A report of which so many characters are those of the first, and then come a text and what is left."""
+        with contextlib.closing(report):
+            self._report.seek(0)
+            while size and (same := self._report.read(min(BLOCK, size))):
+                same += "" if same.endswith("\n") else self._report.readline()
+                size -= len(same)
+                yield same
+            yield text
+            yield from report

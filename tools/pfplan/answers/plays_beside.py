@@ -3,13 +3,16 @@
 import os
 import tempfile
 from collections.abc import Sequence
-from dataclasses import asdict, dataclass
+from dataclasses import asdict, dataclass, replace
 from pathlib import Path
 from typing import Any
 
+from pfplan.answers.doubts import interfaces_played, of_interfaces, of_missing
 from pfplan.common.outputs import make_folder
 from pfplan.pf.conversion import Ruleset, write_rules, write_ruleset
+from pfplan.pf.reading_canonical_text import items_of
 from pfplan.replays.runs import show_rules
+from pfplan.traces.scenarios.fields import MOST_SEED
 from pfplan.traces.scenarios.model import Scenario
 from pfplan.traces.scenarios.playing import Played, Task, play_all
 from pfplan.traces.scenarios.returning import answers_of, words_of
@@ -17,16 +20,47 @@ from pfplan.traces.scenarios.returning import answers_of, words_of
 
 @dataclass(frozen=True)
 class PlaysBeside:
-    """Plays of one scenario under several rulesets, by the names that the user gave."""
+    """Plays of one scenario under several rulesets, by the names that the user gave: of each ruleset the play of the
+    scenario's own seed, and those of the seeds behind it."""
 
     scenario: Scenario
     names: Sequence[str]
-    plays: Sequence[Played]
-    doubts: Sequence[int]
+    sides: Sequence[Sequence[Played]]
+    left_out: Sequence[int]  # things that can change the answer
+    doubts: Sequence[str] = ()  # why it may be of something else than what was meant
+
+    @property
+    def plays(self) -> Sequence[Played]:
+        """The plays of the scenario's own seed."""
+        return [it[0] for it in self.sides]
 
     def to_json(self) -> dict[str, Any]:
         """The numbers for machines (man/pfplan.1)."""
-        return {"sides": [{"rules": name, **json_of(self.scenario, it)} for name, it in zip(self.names, self.plays)]}
+        sides = [{"rules": name, **json_of_side(it)} for name, it in zip(self.names, self.sides)]
+        return {"doubts": list(self.doubts), "sides": sides}
+
+
+def json_of_side(side: Sequence[Played]) -> dict[str, Any]:
+    """The numbers of the plays under one ruleset for machines: those of the scenario's own seed, and who was served
+    with each other."""
+    others = [
+        {
+            "seed": play.scenario.seed,
+            "groups": [
+                {
+                    "name": it.group.name,
+                    "connections": it.connections,
+                    "served": it.served,
+                    "served_without_waiting": it.served_at_once,
+                    "gave_up": it.gave_up,
+                }
+                for it in play.tally.counts
+            ],
+            "most_held": play.most_held,
+        }
+        for play in side[1:]
+    ]
+    return json_of(side[0].scenario, side[0]) | ({"other_seeds": others} if others else {})
 
 
 def json_of(scenario: Scenario, play: Played) -> dict[str, Any]:
@@ -41,10 +75,13 @@ def json_of(scenario: Scenario, play: Played) -> dict[str, Any]:
             "served": it.served,
             "served_without_waiting": it.served_at_once,
             "gave_up": it.gave_up,
+            "hosts": len(it.hosts),
+            "hosts_shut_out": len(it.hosts) - len(it.served_hosts),
             "killed": it.killed,
             "tries": it.tries,
             "packets": it.packets,
             "let_in": it.passed,
+            "not_played": it.left_over,
             "wait": {"median": it.wait_at(0.5), "95_of_100": it.wait_at(0.95), "longest": it.wait_at(1.0)},
             "refused": {word: asdict(one) for word, one in it.refused.items()},
         }
@@ -52,11 +89,14 @@ def json_of(scenario: Scenario, play: Played) -> dict[str, Any]:
     ]
     return {
         "scenario": scenario.name,
+        "seed": scenario.seed,
         "seconds": scenario.seconds,
         "last": play.last,
         "wait": scenario.wait,
         "groups": groups,
         "held": [asdict(it) for it in play.tally.fills],
+        "most_held": play.most_held,
+        "limit_met": play.is_full,
         "states_killed": play.tally.states_killed,
         "overloads": dict(play.tally.overloads),
         "end": asdict(play.end),
@@ -64,9 +104,15 @@ def json_of(scenario: Scenario, play: Played) -> dict[str, Any]:
 
 
 def play_into(
-    scenario: Scenario, names: Sequence[str], rulesets: Sequence[Ruleset], folders: Sequence[Path], jobs: int | None
+    scenario: Scenario,
+    names: Sequence[str],
+    rulesets: Sequence[Ruleset],
+    folders: Sequence[Path],
+    jobs: int | None,
+    seeds: int = 1,
 ) -> PlaysBeside:
-    """Plays a scenario under each ruleset. Each has a folder, which gets its rules, the trace and the report.
+    """Plays a scenario under each ruleset, with so many seeds. Each has a folder, which gets its rules, and the trace
+    and the report of the scenario's own seed.
 
     Trouble where the program refuses rules.
     """
@@ -75,11 +121,11 @@ def play_into(
         make_folder(folder)
         write_ruleset(folder, it)
         tasks.append(_task(scenario, folder / "rules", it, folder / "trace.csv", folder / "report"))
-    return _beside(scenario, names, rulesets, play_all(tasks, jobs or os.cpu_count() or 1))
+    return _beside(scenario, names, rulesets, _play_seeds(tasks, seeds, jobs))
 
 
 def play_apart(
-    scenario: Scenario, names: Sequence[str], rulesets: Sequence[Ruleset], paths: Sequence[Path]
+    scenario: Scenario, names: Sequence[str], rulesets: Sequence[Ruleset], paths: Sequence[Path], seeds: int = 1
 ) -> PlaysBeside:
     """Plays a scenario under each ruleset, of files with these names, and keeps nothing but what is told. Trouble as
     `play_into`."""
@@ -90,7 +136,21 @@ def play_apart(
             make_folder(rules.parent)
             write_rules(rules, it)
             tasks.append(_task(scenario, rules, it))
-        return _beside(scenario, names, rulesets, play_all(tasks, os.cpu_count() or 1))
+        return _beside(scenario, names, rulesets, _play_seeds(tasks, seeds, None))
+
+
+def _play_seeds(tasks: Sequence[Task], seeds: int, jobs: int | None) -> list[list[Played]]:
+    """The plays of each task: that of its own seed, and those of the seeds behind it, of which no file is kept."""
+    every = [_with_seed(it, number) for it in tasks for number in range(seeds)]
+    played = play_all(every, jobs or os.cpu_count() or 1)
+    return [played[at : at + seeds] for at in range(0, len(played), seeds)]
+
+
+def _with_seed(task: Task, number: int) -> Task:
+    if not number:
+        return task
+    seed = (task.scenario.seed + number - 1) % MOST_SEED + 1
+    return replace(task, scenario=replace(task.scenario, seed=seed), trace=None, report=None)
 
 
 def _task(
@@ -101,7 +161,16 @@ def _task(
 
 
 def _beside(
-    scenario: Scenario, names: Sequence[str], rulesets: Sequence[Ruleset], plays: Sequence[Played]
+    scenario: Scenario, names: Sequence[str], rulesets: Sequence[Ruleset], sides: Sequence[Sequence[Played]]
 ) -> PlaysBeside:
-    doubts = [sum(it.changes_answer for it in ruleset.leftovers) for ruleset in rulesets]
-    return PlaysBeside(scenario, names, plays, doubts)
+    left_out = [sum(it.changes_answer for it in ruleset.leftovers) for ruleset in rulesets]
+    seen = interfaces_played(scenario)
+    doubts = [
+        f"{name}: {it}" if len(names) > 1 else it
+        for name, ruleset in zip(names, rulesets)
+        for it in (
+            *of_missing(ruleset.leftovers),
+            *of_interfaces(items_of(ruleset.text.splitlines()), seen, ruleset.skipped),
+        )
+    ]
+    return PlaysBeside(scenario, names, sides, left_out, doubts)

@@ -14,6 +14,7 @@ from pfplan.answers.measures import LimitMet, Measure
 from pfplan.common.errors import Status, Trouble, reason_of
 from pfplan.replays.runs import show_rules
 from pfplan.traces.records import WORDS
+from pfplan.traces.scenarios.expecting import MOST, check_expected
 from pfplan.traces.scenarios.model import Askers, Forgers, Laid, Scenario
 from pfplan.traces.scenarios.playing import Played, Task, play
 from pfplan.traces.scenarios.reading import numbers_of, read_scenario, read_tables, scenario_of, value_of
@@ -40,13 +41,17 @@ class Amount:
 class Subject:
     """What runs have in common: the rules, and the scenario where it is one and not a trace."""
 
-    def __init__(self, text: RulesText, scenario: Path | None) -> None:
-        """Trouble where the scenario is none."""
+    def __init__(self, text: RulesText, scenario: Path | None, most: int = MOST) -> None:
+        """`most` are the records that a play may be expected to have. Trouble where the scenario is none, or has
+        more."""
         self._text = text
         self._path = scenario
         self._tables: Mapping[str, Any] = read_tables(scenario) if scenario else {}
         self.scenario: Scenario | None = scenario_of(self._tables, scenario) if scenario else None
         self._words = words_of(_read(text.path)) if scenario else {}
+        self._most = most
+        if self.scenario:
+            check_expected(self.scenario, most)
 
     def find(self, name: str) -> Number | Amount:
         """The number of a name, of the scenario or of the rules. Trouble where neither has one."""
@@ -66,6 +71,12 @@ class Subject:
                 raise Trouble(f"{self._path}: no number is named '{name}'; the group has {', '.join(known)}") from None
             raise trouble from None
 
+    def check_value(self, values: Mapping[Number | Amount, int]) -> None:
+        """Trouble where a play with other values is expected to have too many records."""
+        amounts = {it.name: value for it, value in values.items() if isinstance(it, Amount)}
+        if self._path and amounts:
+            check_expected(scenario_of(self._tables, self._path, amounts), self._most)
+
     def text_of(self, values: Mapping[Number | Amount, int]) -> bytes:
         """The rules text of a run with other values.
 
@@ -76,7 +87,8 @@ class Subject:
         if self.scenario is None:
             return changed
         amounts = {it.name: value for it, value in values.items() if isinstance(it, Amount)}
-        note = json.dumps({"returning": {str(item): word for item, word in self._words.items()}, "numbers": amounts})
+        returning = {str(item): word for item, word in self._words.items()}
+        note = json.dumps({"returning": returning, "numbers": amounts, "most": self._most})
         return f"# play {note}\n".encode() + changed
 
     def protocols(self) -> set[str]:
@@ -120,6 +132,7 @@ def measure_play(rules: Path, scenario: Path, entries: Sequence[str]) -> Measure
     )
     read = read_scenario(scenario, said["numbers"])
     returning = answers_of({int(item): word for item, word in said["returning"].items()})
+    check_expected(read, said.get("most", MOST))
     try:
         show_rules(rules)
         return measure_of(read, play(Task(read, rules, returning, entries)))

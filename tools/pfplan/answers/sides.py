@@ -12,7 +12,7 @@ from dataclasses import dataclass, field
 from itertools import islice
 from pathlib import Path
 
-from pfplan.answers.connections import Connections, Key
+from pfplan.answers.connections import Connections, Holding, Key
 from pfplan.answers.counting import Answers
 from pfplan.common.errors import Status, Trouble
 from pfplan.common.networks import Network
@@ -49,13 +49,16 @@ def side_of(
     hear: Callable[[int, str], None] | None = None,
     flushes: Mapping[str, bool] | None = None,
     numbers: Rows | None = None,
+    holding: Holding | None = None,
 ) -> Side:
     """A ruleset at the beginning of its report. `ended` and `hear` hear of each connection of a user that is over, as
     Connections says.
 
-    `flushes` are as Connections takes them, and `numbers` are those of the report's rows, as Answers says.
+    `flushes` and `holding` are as Connections takes them, and `numbers` are those of the report's rows, as Answers
+    says.
     """
-    return Side(name, report, Answers(name, None, numbers), Connections(users, hear or _pass_over, ended, flushes))
+    connections = Connections(users, hear or _pass_over, ended, flushes, holding=holding)
+    return Side(name, report, Answers(name, None, numbers), connections)
 
 
 def follow(
@@ -117,6 +120,10 @@ class Picks:
             text = texts[0]
             return [at for at, line in enumerate(lines) if text in line]
         return [at for at, line in enumerate(lines) if any(it in line for it in texts)]
+
+    def are_many(self, text: str, count: int) -> bool:
+        """Whether of so many lines of a text one in four or more may be of a user."""
+        return "," in self._texts or sum(map(text.count, self._texts)) * 4 >= count
 
     def rows_in(self, text: str, behind: int) -> Iterator[tuple[int, str]]:
         """The same of a text of whole lines, the first of which is that of the row behind `behind`: rows, and their
@@ -193,7 +200,7 @@ def _follow_record(sides: Sequence[Side], row: int, at: int, column: Sequence[st
         if is_of_user and reply.word != "skip":
             side.connections.follow(row, reply, column)
         if reply.word.startswith("kill:"):
-            side.connections.kill(moment, column[4], reply)
+            side.connections.kill(row, moment, column[4], reply)
 
 
 def word_counts(answers: Answers) -> Counter[str]:

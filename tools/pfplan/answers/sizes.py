@@ -41,6 +41,7 @@ class Sizing:
     measures: Mapping[int, Measure]
     moments: int
     is_cut: bool
+    doubts: Sequence[str] = ()
 
     @property
     def meets(self) -> dict[int, bool]:
@@ -55,6 +56,7 @@ class Sizing:
     def to_json(self) -> dict[str, Any]:
         """The numbers for machines (man/pfplan.1)."""
         return {
+            "doubts": list(self.doubts),
             "trace": self.trace,
             "users": self.users,
             "varied": {"name": self.varied.name, "rules": self.varied.rules, "now": self.varied.value},
@@ -82,6 +84,7 @@ def checked(vary: Vary, subject: Subject) -> Number | Amount:
     for bound in (vary.low, vary.high):
         if not least <= bound <= most:
             raise Trouble(f"--vary: {vary.name} may be from {least} to {most}, and {bound} is not")
+        subject.check_value({varied: bound})
     return varied
 
 
@@ -111,7 +114,8 @@ def search(
 @dataclass(frozen=True)
 class Wanted:
     """What is looked for: a trace or a scenario by its name, whose connections are to be served and what share of them,
-    how many values are tried at first, how many at most, and at how many moments it is asked what is held."""
+    how many values are tried at first, how many in all at most (None for what is usual), and at how many moments it is
+    asked what is held."""
 
     trace: str
     users: Sequence[Network]

@@ -49,6 +49,12 @@ class Steps:
         step.tried += 1
         step.outcomes[outcome] += 1
 
+    def forget_outcomes(self) -> None:
+        """Counts no connection any more."""
+        for it in self._steps.values():
+            it.tried = 0
+            it.outcomes.clear()
+
     def whole(self) -> list[Step]:
         """The steps from the first moment to the last, those too in which nothing came."""
         if self.first is None or self.last is None:

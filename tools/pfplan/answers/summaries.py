@@ -7,8 +7,10 @@ from dataclasses import asdict, dataclass, field
 from pathlib import Path
 from typing import Any
 
+from pfplan.answers.doubts import of_directions, of_frames, of_interfaces, of_users
 from pfplan.answers.connections import KINDS, LATE, Refusal
 from pfplan.answers.counting import Answers, Limit, Moments, count
+from pfplan.answers.held_states import HeldStates, followed_again
 from pfplan.answers.sources import Source
 from pfplan.answers.stepping import Step, Steps
 from pfplan.common.errors import Status, Trouble
@@ -19,6 +21,7 @@ from pfplan.pf.origins import Origins
 from pfplan.pf.reading_canonical_text import flushes_of, items_of, settings_of
 from pfplan.replays.runs import show_rules, stream_blocks
 from pfplan.traces.accounts import Frames
+from pfplan.traces.entries import entries_of_rules
 from pfplan.traces.insertions import Held, asking
 from pfplan.traces.moments import first_moment_of, last_moment_of, step_of
 from pfplan.traces.records import WORDS, End, Traces, line_blocks
@@ -96,6 +99,7 @@ class Summary:
     origins: Origins = field(default_factory=Origins)
     frames: Frames | None = None  # of the capture that the trace was made of
     seen_on: list[str] = field(default_factory=list)  # the interfaces that records have
+    doubts: list[str] = field(default_factory=list)  # why it may be of something else than what was meant
 
     def words(self) -> dict[str, int]:
         """How many records have each word, in the order of the report's words."""
@@ -104,6 +108,7 @@ class Summary:
     def to_json(self) -> dict[str, Any]:
         """The counts for machines (man/pfplan.1)."""
         return {
+            "doubts": self.doubts,
             "records": self.records,
             "moments": None if self.first_moment is None else [self.first_moment, self.last_moment],
             "words": self.words(),
@@ -140,7 +145,8 @@ class Wanted:
 
     `trace` and `rules` are those of the replay; `labels` and `origins` are of items of the rules; `every` is the
     seconds in a step of the series, 0 for what gives at most 120 steps; `top` is how many sources are named;
-    `is_partial` takes a report without its last line.
+    `is_partial` takes a report without its last line. `rules_name` is the name of the rules where `rules` is a copy:
+    entries that come by records stand beside it.
     """
 
     trace: Path | None = None
@@ -152,6 +158,7 @@ class Wanted:
     every: int = 0
     top: int = 5
     is_partial: bool = False
+    rules_name: Path | None = None
 
 
 def summarize(report: Path, wanted: Wanted) -> Summary:
@@ -174,8 +181,16 @@ def summarize_blocks(blocks: Iterable[list[str]], name: Path | str, wanted: Want
     with regular(wanted.trace) as kept:
         flushes = flushes_of(texts) if wanted.rules else None
         steps = Steps(_step(kept, wanted.every))
-        moments = Moments(Traces(kept, wanted.trace), answers, wanted.users, steps, flushes)
+        holding = HeldStates() if wanted.rules else None
+        moments = Moments(Traces(kept, wanted.trace), answers, wanted.users, steps, flushes, holding)
         count(blocks, answers, moments, wanted.is_partial)
+        if wanted.rules and holding and holding.is_asked and answers.end:
+            entries = entries_of_rules(wanted.rules, wanted.rules_name)
+            steps.forget_outcomes()
+            again = followed_again(wanted.rules, kept, wanted.users, flushes, entries, holding, steps.hear)
+            if (again.answers.by_rule, again.answers.end) != (answers.by_rule, answers.end):
+                raise Trouble(f"{name}: not the report of {wanted.rules} on {wanted.trace}", Status.REFUSED)
+            moments.connections = again.connections
     return summary_of(answers, moments, shown, wanted)
 
 
@@ -196,6 +211,7 @@ def summary_of(answers: Answers, moments: Moments | None, shown: list[str], want
         answers.end, rules=rules, labels=dict(wanted.labels), undecided=_undecided(rules, by_rule),
         settings=settings_of(shown), origins=wanted.origins, frames=wanted.frames,
     )  # fmt: skip
+    summary.doubts = of_frames(wanted.frames)
     if moments is None or moments.first is None:
         return summary
     summary.first_moment, summary.last_moment, summary.step_seconds = moments.first, moments.last, moments.steps.seconds
@@ -211,6 +227,10 @@ def summary_of(answers: Answers, moments: Moments | None, shown: list[str], want
         summary.interfaces = Interfaces(
             sorted(named - moments.interfaces), sorted(moments.interfaces - named) if named else []
         )
+        summary.doubts += of_interfaces(rules, moments.interfaces, wanted.origins.skipped)
+        summary.doubts += of_directions(rules, moments.connections.begun)
+    if summary.users:
+        summary.doubts += of_users(summary.users.of, summary.users.connections)
     return summary
 
 
@@ -246,7 +266,7 @@ def _interfaces(rule: str) -> list[str]:
     if "on" not in part:
         return []
     at = part.index("on") + 1
-    return [part[at + 1] if part[at] == "!" else part[at]]
+    return [part[at + 1] if part[at] == "!" else part[at].removeprefix("!")]
 
 
 def _step_json(step: Step) -> dict[str, Any]:

@@ -12,8 +12,9 @@ from collections.abc import Generator, Iterator, Mapping, Sequence
 from dataclasses import dataclass
 from pathlib import Path
 
-from pfplan.answers.connections import Connections
+from pfplan.answers.connections import Connections, Holding
 from pfplan.answers.counting import Answers
+from pfplan.answers.following import columns_of, follow_block
 from pfplan.answers.sides import Met, Picks, Side
 from pfplan.common.errors import Status, Trouble
 from pfplan.common.inputs import HEADER
@@ -141,6 +142,7 @@ def tally(
     flushes: Mapping[str, bool] | None,
     numbers: Rows | None,
     name: str,
+    holding: Holding | None = None,
 ) -> Side:
     """Counts the records of a trace (trace_texts) and its report (runs.stream_texts) to their ends, as
     `sides.follow` does of one side.
@@ -148,7 +150,8 @@ def tally(
     Trouble as there.
     """
     answers = Tallies(name, numbers)
-    side = Side(name, iter(()), answers, Connections(users, lambda begin, outcome: None, None, flushes))
+    connections = Connections(users, lambda begin, outcome: None, None, flushes, holding=holding)
+    side = Side(name, iter(()), answers, connections)
     reports, picks, last = Reports(report), Picks(users), dict[str, _Block]()
     with contextlib.closing(report):
         for lines in records:
@@ -229,6 +232,14 @@ def _moment_of(line: str) -> int:
 def _follow_users(side: Side, block: _Block, picks: Picks, has_kills: bool) -> None:
     """Gives the records of users, and those that killed states, to the side's connections."""
     connections = side.connections
+    if picks.are_many(block.trace, block.count):
+        lines = block.trace.split("\n")[:-1]
+        columns = columns_of(lines)
+        if columns is not None:
+            texts = [it.partition(" ")[2] for it in block.report.split("\n")[:-1]]
+            replies = {it: side.answers.reply_of(it) for it in set(texts)}
+            follow_block(connections, block.behind, columns, texts, replies)
+            return
     members = connections.members
     members.of(set())  # what it remembers is kept within bounds there
     killing = set(_kills_in(side, block)) if has_kills else set[int]()
@@ -251,7 +262,7 @@ def _follow_users(side: Side, block: _Block, picks: Picks, has_kills: bool) -> N
         if is_of_user and reply.word != "skip":
             connections.follow(row, reply, column)
         if row in killing:
-            connections.kill(int(column[0]), column[4], reply)
+            connections.kill(row, int(column[0]), column[4], reply)
 
 
 def _answers(side: Side) -> Tallies:

@@ -15,6 +15,7 @@ from typing import TextIO
 from pfplan.answers.live_counts import BLOCK, NAMED, Side
 from pfplan.answers.sources import Source
 from pfplan.answers.summaries import Summary, Wanted, summary_of
+from pfplan.common.exchanges import ENDING
 from pfplan.common.networks import Network
 from pfplan.pf.conversion import Ruleset
 from pfplan.pf.origins import origins_of
@@ -136,7 +137,7 @@ class Signals:
         self._writer.setblocking(False)
 
     def __enter__(self) -> "Signals":
-        self._before = {it: signal.signal(it, self._note) for it in (signal.SIGINT, signal.SIGTERM)}
+        self._before = {it: signal.signal(it, self._note) for it in ENDING}
         self._woken = signal.set_wakeup_fd(self._writer.fileno())
         return self
 

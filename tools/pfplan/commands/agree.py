@@ -11,10 +11,10 @@ from pfplan.answers.agreements import agreement_of
 from pfplan.answers.hiding import Hider
 from pfplan.commands.parser import Parser
 from pfplan.commands.rule_words import add_rule_words, options_of
-from pfplan.commands.words import file
+from pfplan.commands.words import file, folder
 from pfplan.common.errors import Status, Trouble
 from pfplan.common.inputs import check_readable
-from pfplan.common.outputs import whole_file, whole_folder
+from pfplan.common.outputs import check_folder, part_file, whole_folder
 from pfplan.common.repository import DIFFERENCES, check_program
 from pfplan.pages.agreement_texts import page_of, text_of
 from pfplan.pages.differences import differences_beside
@@ -53,7 +53,7 @@ def add_words(parser: Parser) -> None:
     )
     parser.add_argument("log", type=file, metavar="PFLOG", help="a log of pflog(4), as pflogd or tcpdump writes it")
     parser.add_argument(
-        "--into", type=file, required=True, metavar="FOLDER", help="the folder; it is made where it is not there"
+        "--into", type=folder, required=True, metavar="FOLDER", help="the folder; it is made where it is not there"
     )
     parser.add_argument(
         "--addresses",
@@ -70,9 +70,10 @@ def run(arguments: argparse.Namespace) -> int:
     check_readable(arguments.rules_from)
     check_readable(arguments.log)
     ruleset = convert(arguments.rules_from, replace(options_of(arguments), by_records=True))
+    check_folder(arguments.into, OURS)
     for name in ("pfsrc", "pfstrace"):
         check_program(name)
-    with whole_folder(arguments.into, OURS) as folder:
+    with whole_folder(arguments.into) as folder:
         text = _fill(arguments, folder, ruleset)
     sys.stdout.write(text)
     print(arguments.into / PAGE)
@@ -90,7 +91,7 @@ def _fill(arguments: argparse.Namespace, folder: Path, ruleset: Ruleset) -> str:
     page = page_of(found, hider, differences_beside(folder, arguments.into))
     as_json = json.dumps(found.to_json(hider), indent=2) + "\n"
     for name, whole in (("agree.txt", text), ("agree.json", as_json), (PAGE, page)):
-        with whole_file(folder / name) as out:
+        with part_file(folder / name) as out:
             out.write(whole)
     return text
 
@@ -99,9 +100,11 @@ def _make_trace(log: Path, folder: Path, *, is_partial: bool) -> Merged:
     """The trace of the log's packets, and what pf answered for each. Trouble where it is no log."""
     with tempfile.TemporaryDirectory(prefix="pfplan-") as made:
         trace, told = Path(made, "trace"), Path(made, "told")
-        for line in make_trace(log, (), trace, told=told, is_partial=is_partial, is_log=True):
+        with part_file(trace) as trace_out, part_file(told) as told_out:
+            account = make_trace(log, (), trace_out, told=told_out, is_partial=is_partial, is_log=True)
+        for line in account:
             print(line, file=sys.stderr)
-        with whole_file(folder / "trace.csv") as trace_out, whole_file(folder / "told.csv") as told_out:
+        with part_file(folder / "trace.csv") as trace_out, part_file(folder / "told.csv") as told_out:
             merged = merge(packets_of(trace, told, log), trace_out, told_out)
             if not merged.answers:
                 raise Trouble(

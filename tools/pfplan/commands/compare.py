@@ -5,6 +5,7 @@ import contextlib
 
 from pfplan.answers.comparisons import Asked, compare, names_of
 from pfplan.answers.plays_beside import PlaysBeside, play_apart
+from pfplan.commands.play_words import add_most, add_seeds
 from pfplan.commands.run_words import add_answer_words, write_answer
 from pfplan.commands.words import add_asked, file, number
 from pfplan.common.errors import Trouble
@@ -14,6 +15,7 @@ from pfplan.pages import comparison_texts, play_folder, play_pages, play_texts
 from pfplan.pages.differences import differences_beside
 from pfplan.pf.conversion import RuleOptions, convert
 from pfplan.traces.entries import entries_of_rules
+from pfplan.traces.scenarios.expecting import check_expected
 from pfplan.traces.scenarios.reading import is_scenario, read_scenario
 
 DESCRIPTION = """Replays one trace under several rulesets and tells how they differ: what became of the users,
@@ -40,6 +42,8 @@ def add_words(parser: argparse.ArgumentParser) -> None:
         metavar="N",
         help="how many of the connections that change are named (5)",
     )
+    add_seeds(parser)
+    add_most(parser)
     add_answer_words(parser)
 
 
@@ -68,9 +72,12 @@ def _compare_plays(arguments: argparse.Namespace) -> int:
     for path in (arguments.trace, *arguments.rules):
         check_readable(path)
     scenario = read_scenario(arguments.trace)
+    check_expected(scenario, arguments.most)
     rulesets = [convert(it, RuleOptions(by_records=True)) for it in arguments.rules]
     check_program()
-    played = play_apart(scenario, play_folder.names_of(arguments.rules), rulesets, arguments.rules)
+    played = play_apart(
+        scenario, play_folder.names_of(arguments.rules), rulesets, arguments.rules, arguments.seeds
+    )
 
     def page_of(played: PlaysBeside) -> str:
         return play_pages.page_of(played, *play_pages.drawn_of(played), differences_beside(arguments.page.parent))

@@ -10,7 +10,7 @@ from dataclasses import replace
 from pfplan.answers.summaries import origins_told
 from pfplan.commands.parser import Parser
 from pfplan.commands.rule_words import add_rule_words, options_of
-from pfplan.commands.words import file, number
+from pfplan.commands.words import file, number, output
 from pfplan.common.errors import Status, Trouble
 from pfplan.common.inputs import check_rules, check_trace, regular
 from pfplan.common.outputs import whole_file
@@ -51,7 +51,7 @@ def add_words(parser: Parser) -> None:
     what = parser.add_mutually_exclusive_group(required=True)
     what.add_argument("--source", type=_address, metavar="ADDRESS", help="tells of this source")
     what.add_argument("--row", type=number(1, 1_000_000_000), metavar="N", help="tells of this record")
-    parser.add_argument("--out", type=file, metavar="FILE", help="where the text goes (standard output)")
+    parser.add_argument("--out", type=output, metavar="FILE", help="where the text goes (standard output)")
     add_rule_words(parser)
 
 

@@ -8,7 +8,7 @@ import sys
 from collections.abc import Callable
 from pathlib import Path
 
-from pfplan.answers.measures import Measure, measure, measure_asked
+from pfplan.answers.measures import Measure, Measurer, measure
 from pfplan.commands.words import add_asked, file
 from pfplan.common.errors import Status
 from pfplan.common.inputs import Kind, kind_of, regular
@@ -84,4 +84,4 @@ def _measurer(arguments: argparse.Namespace, stack: contextlib.ExitStack) -> Cal
         return lambda rules: measure_play(rules, arguments.trace, entries)
     trace = stack.enter_context(regular(arguments.trace))
     asked = stack.enter_context(asking(trace, arguments.held, entries))
-    return lambda rules: measure_asked(rules, trace, arguments.users, asked)
+    return stack.enter_context(Measurer(trace, arguments.users, asked, entries)).measure

@@ -4,10 +4,14 @@ import argparse
 import difflib
 import importlib
 import re
-from collections.abc import Sequence
+from collections.abc import Iterator, Sequence
+from pathlib import Path
 from typing import Any, NoReturn
 
+from pfplan.commands.words import output
 from pfplan.common.errors import Trouble
+from pfplan.common.inputs import take, take_none
+from pfplan.common.outputs import check_files
 
 # each command, whose module has its name, and what it does
 COMMANDS = (
@@ -79,7 +83,7 @@ def make_parser(asked: str) -> Parser:
             code = importlib.import_module(f"pfplan.commands.{name}")
             words.description = f"{does[0].upper()}{does[1:]}."
             code.add_words(words)
-            words.set_defaults(run=code.run)
+            words.set_defaults(run=code.run, own=words)
     return parser
 
 
@@ -95,4 +99,29 @@ def parse(words: Sequence[str]) -> argparse.Namespace:
     arguments = parser.parse_args(words)
     if arguments.command is None:
         raise Trouble(f"a command is wanted: {', '.join(names)} (pfplan --help)")
+    _check_outputs(arguments)
     return arguments
+
+
+def _check_outputs(arguments: argparse.Namespace) -> None:
+    """Trouble where a file that the command is to write is an input, or in the way. All files that it is to read are
+    inputs from here on."""
+    take_none()
+    outputs: list[Path | None] = []
+    for action in arguments.own._actions:
+        given = getattr(arguments, action.dest, None)
+        if action.type is output:
+            outputs += [given] if given or action.dest == "out" else []
+        else:
+            for path in _paths_in(given):
+                take(path)
+    check_files(outputs or [None])
+
+
+def _paths_in(given: object) -> Iterator[Path]:
+    """The files in what words gave."""
+    if isinstance(given, Path):
+        yield given
+    elif isinstance(given, list | tuple):
+        for it in given:
+            yield from _paths_in(it)

@@ -9,16 +9,20 @@ from pathlib import Path
 
 from pfplan.answers.plays_beside import play_into
 from pfplan.commands.parser import Parser
+from pfplan.commands.play_words import add_most, add_seeds
 from pfplan.commands.rule_words import add_rule_words, options_of
-from pfplan.commands.words import file, number
+from pfplan.commands.words import file, folder, number
 from pfplan.common.errors import Status, Trouble
 from pfplan.common.inputs import check_readable
+from pfplan.common.outputs import check_folder, whole_folder
 from pfplan.common.repository import check_program
-from pfplan.pages.play_folder import names_of, write_plays
+from pfplan.pages.doubt_texts import doubt_lines
+from pfplan.pages.play_folder import files_of, names_of, write_plays
 from pfplan.pages.play_texts import headline_of
 from pfplan.pages.record_texts import letters
 from pfplan.pages.report_page import PAGE
 from pfplan.pf.conversion import convert
+from pfplan.traces.scenarios.expecting import MOST, check_expected
 from pfplan.traces.scenarios.model import Scenario
 from pfplan.traces.scenarios.reading import read_scenario
 
@@ -45,9 +49,11 @@ def add_words(parser: Parser) -> None:
         "rules", type=file, nargs="+", metavar="RULES", help="a pf.conf, what pfctl -nvf prints, or a rules text"
     )
     parser.add_argument(
-        "--into", type=file, required=True, metavar="FOLDER", help="the folder; it is made where it is not there"
+        "--into", type=folder, required=True, metavar="FOLDER", help="the folder; it is made where it is not there"
     )
     parser.add_argument("--jobs", type=number(1, 1000), metavar="N", help="plays side by side (one for each processor)")
+    add_seeds(parser)
+    add_most(parser)
     add_rule_words(parser)
 
 
@@ -78,12 +84,18 @@ def play_rules(scenario: Scenario, paths: Sequence[Path], arguments: argparse.Na
 
     Each ruleset has a folder of its own in it; one that `is_flat` has none.
     """
-    rulesets = [convert(it, replace(options_of(arguments), by_records=True)) for it in paths]
-    check_program()
+    check_expected(scenario, getattr(arguments, "most", MOST))
     names = names_of(paths)
-    folders = [arguments.into if is_flat else arguments.into / it for it in names]
-    played = play_into(scenario, names, rulesets, folders, arguments.jobs)
-    write_plays(arguments.into, folders, played)
+    below = [""] if is_flat else names
+    rulesets = [convert(it, replace(options_of(arguments), by_records=True)) for it in paths]
+    check_folder(arguments.into, files_of(below))
+    check_program()
+    with whole_folder(arguments.into) as made:
+        folders = [made / it for it in below]
+        played = play_into(scenario, names, rulesets, folders, arguments.jobs, getattr(arguments, "seeds", 1))
+        write_plays(made, folders, played, arguments.into)
+    for line in doubt_lines(played.doubts):
+        print(line)
     for letter, name, at in zip(letters(len(names)), names, range(len(names))):
         print(f"{letter}  {name}: {headline_of(played, at)}")
     print(arguments.into / PAGE)

@@ -7,12 +7,13 @@ from dataclasses import replace
 from pathlib import Path
 
 from pfplan.commands.rule_words import add_rule_words, options_of
-from pfplan.commands.words import file
+from pfplan.commands.words import file, output
 from pfplan.common.errors import Status
-from pfplan.common.inputs import is_regular, name_of
-from pfplan.pf.conversion import convert, convert_text, write_rules
+from pfplan.common.inputs import name_of
+from pfplan.common.outputs import is_file_place, whole_files
+from pfplan.pf.conversion import convert, convert_text
 from pfplan.pf.lexer import printable
-from pfplan.traces.entries import beside
+from pfplan.traces.entries import beside, write_entries
 
 DESCRIPTION = """Makes a rules text for ./pfsrc of a pf.conf as it stands in /etc, with no OpenBSD at hand, or of
 what pfctl -nvf prints. Macros and lists are expanded as pfctl does. Standard error says what is left out, a line
@@ -34,7 +35,7 @@ def add_words(parser: argparse.ArgumentParser) -> None:
         help="the text; - or nothing is standard input",
     )
     parser.add_argument(
-        "--out", type=file, metavar="FILE", help="where the rules text goes; nothing is standard output"
+        "--out", type=output, metavar="FILE", help="where the rules text goes; nothing is standard output"
     )
     add_rule_words(parser)
 
@@ -42,13 +43,17 @@ def add_words(parser: argparse.ArgumentParser) -> None:
 def run(arguments: argparse.Namespace) -> int:
     """Writes the rules text, and tells on standard error what was left out. Nothing is written where the text is
     refused."""
-    out: Path | None = arguments.out
-    options = replace(options_of(arguments), by_records=out is not None and (is_regular(out) or not out.exists()))
+    out: Path | None = arguments.out if is_file_place(arguments.out) else None
+    options = replace(options_of(arguments), by_records=out is not None)
     if str(arguments.file) == "-":
         ruleset = convert_text(sys.stdin.buffer.read().decode("utf-8", "surrogateescape"), "standard input", options)
     else:
         ruleset = convert(arguments.file, options)
-    write_rules(out, ruleset)
+    outputs = (arguments.out, beside(out)) if out and ruleset.records else (arguments.out,)
+    with whole_files(*outputs) as (file, *entries):
+        file.write(ruleset.written)
+        for it in entries:
+            write_entries(it, ruleset.records)
     if out and ruleset.records:
         print(f"note: entries by records: {beside(out)}", file=sys.stderr)
     _tell(arguments.file, ruleset.shown())

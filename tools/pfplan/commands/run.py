@@ -7,18 +7,21 @@ from dataclasses import replace
 from fractions import Fraction
 from pathlib import Path
 
+from pfplan.answers.doubts import of_missing
 from pfplan.answers.margins import measure_margins
 from pfplan.answers.summaries import Summary, Wanted, summarize
+from pfplan.commands.interfaces import interface_of
 from pfplan.commands.parser import Parser
 from pfplan.commands.play import run_play
 from pfplan.commands.rule_words import add_rule_words, options_of
 from pfplan.commands.run_words import add_machine_words, machines_of
-from pfplan.commands.words import add_capture_words, file, networks, number, share_word
+from pfplan.commands.words import add_capture_words, add_users, file, folder, number, share_word
 from pfplan.common.errors import Status, Trouble
 from pfplan.common.figures import share_text
 from pfplan.common.inputs import Kind, check_readable, kind_of, name_of, regular, unpacked
-from pfplan.common.outputs import whole_folder
+from pfplan.common.outputs import check_folder, part_file, whole_folder
 from pfplan.common.repository import DIFFERENCES, check_program
+from pfplan.pages.doubt_texts import doubt_lines
 from pfplan.pages.report_page import PAGE, Subject, write_answer
 from pfplan.pages.rule_notes import frame_lines
 from pfplan.pages.timeline_pictures import FILES
@@ -64,15 +67,9 @@ def add_words(parser: Parser) -> None:
         help="a capture, also packed by gzip or zstd, a trace, or a scenario, which is played; - is standard input",
     )
     parser.add_argument(
-        "--into", type=file, required=True, metavar="FOLDER", help="the folder; it is made where it is not there"
+        "--into", type=folder, required=True, metavar="FOLDER", help="the folder; it is made where it is not there"
     )
-    parser.add_argument(
-        "--users",
-        type=networks,
-        metavar="PREFIX,..",
-        default=(),
-        help="the networks of the users: says who of them was served",
-    )
+    add_users(parser, "the networks of the users: says who of them was served")
     add_capture_words(parser)
     parser.add_argument(
         "--zero", action="store_true", help="moments of the capture count from that of its first record"
@@ -116,10 +113,12 @@ def run(arguments: argparse.Namespace) -> int:
         ruleset = convert_named(
             stack.enter_context(regular(arguments.rules_from)), arguments.rules_from, _options(arguments)
         )
+        is_made = str(arguments.capture) == "-" or kind_of(arguments.capture) is not Kind.TRACE
+        check_folder(arguments.into, [it for it in OURS if it != "trace.csv" or is_made])
         check_program()
         given = stack.enter_context(regular(arguments.capture))
         capture = stack.enter_context(unpacked(given, name_of(arguments.capture)))
-        with whole_folder(arguments.into, OURS) as folder:
+        with whole_folder(arguments.into) as folder:
             summary = _fill(arguments, where, folder, capture, ruleset)
     _tell(arguments, ruleset, summary)
     return Status.DONE
@@ -132,34 +131,33 @@ def _options(arguments: argparse.Namespace) -> RuleOptions:
 def _fill(arguments: argparse.Namespace, where: Machines, folder: Path, capture: Path, ruleset: Ruleset) -> Summary:
     """Writes all files of the folder, and answers the summary."""
     write_ruleset(folder, ruleset)
-    trace, frames = _trace(arguments, capture, folder)
+    trace, frames = _trace(arguments, capture, folder, ruleset)
     held = replay_into(folder, trace, ruleset.records, arguments.held)
     wanted = Wanted(
         trace, arguments.users, folder / "rules", ruleset.labels, origins_of(ruleset), frames, top=arguments.top
     )
     summary = summarize(folder / "report", wanted)
+    summary.doubts = of_missing(ruleset.leftovers) + summary.doubts
     summary.held = held
     write_answer(folder, summary, _subject(arguments, where, folder, trace, ruleset), arguments.into)
     return summary
 
 
-def _trace(arguments: argparse.Namespace, given: Path, folder: Path) -> tuple[Path, Frames | None]:
+def _trace(
+    arguments: argparse.Namespace, given: Path, folder: Path, ruleset: Ruleset
+) -> tuple[Path, Frames | None]:
     """The trace that was given, or that of the capture with what became of its frames."""
     if kind_of(given) is Kind.TRACE:
         return given, None
     machine = machine_of(arguments.ifconfig)
-    inside, macs = arguments.inside or machine.inside(), machine.macs(arguments.name or "")
+    name = interface_of(arguments.name, given, [ruleset], machine)
+    inside, macs = arguments.inside or machine.inside(), machine.macs(name or "")
     shown = name_of(arguments.capture)
-    account = make_trace(
-        given,
-        inside,
-        folder / "trace.csv",
-        name=arguments.name,
-        macs=macs,
-        is_zero=arguments.zero,
-        is_partial=arguments.partial,
-        shown=shown,
-    )
+    with part_file(folder / "trace.csv") as out:
+        account = make_trace(
+            given, inside, out, name=name, macs=macs, is_zero=arguments.zero, is_partial=arguments.partial,
+            shown=shown,
+        )  # fmt: skip
     for line in account:
         print(line, file=sys.stderr)
     return folder / "trace.csv", frames_of(account)
@@ -178,7 +176,9 @@ def _subject(arguments: argparse.Namespace, where: Machines, folder: Path, trace
 
 
 def _tell(arguments: argparse.Namespace, ruleset: Ruleset, summary: Summary) -> None:
-    """The answer in a line, and where the rest is."""
+    """The answer in a line, and where the rest is; why it is in doubt stands first."""
+    for line in doubt_lines(summary.doubts):
+        print(printable(line))
     missing = [it for it in ruleset.leftovers if it.changes_answer and it.is_missing]
     for it in missing[:MOST_MISSING]:
         print(f"missing: {it.text} ({printable(it.file)}:{it.line}): {it.reason} ({it.way})")

@@ -2,13 +2,14 @@
 
 import argparse
 import json
-from collections.abc import Callable
+from collections.abc import Callable, Sequence
 from typing import Any, Protocol, TypeVar
 
-from pfplan.commands.words import file, number
+from pfplan.commands.words import file, number, output
 from pfplan.common.errors import Status, Trouble
 from pfplan.common.inputs import check_readable
-from pfplan.common.outputs import whole_file
+from pfplan.common.outputs import whole_files
+from pfplan.pages.doubt_texts import doubt_lines
 from pfplan.replays.machines import Machines, check_parallel
 
 
@@ -53,6 +54,10 @@ def machines_of(arguments: argparse.Namespace) -> Machines:
 class Answer(Protocol):
     """What many runs came to."""
 
+    @property
+    def doubts(self) -> Sequence[str]:
+        """Why it may be of something else than what was meant."""
+
     def to_json(self) -> dict[str, Any]:
         """The numbers for machines."""
 
@@ -63,17 +68,21 @@ Found = TypeVar("Found", bound=Answer)
 def add_answer_words(parser: argparse.ArgumentParser) -> None:
     """The words that say how the answer is told, and where."""
     parser.add_argument("--json", action="store_true", help="for machines")
-    parser.add_argument("--out", type=file, metavar="FILE", help="where the text goes (standard output)")
-    parser.add_argument("--page", type=file, metavar="FILE", help="also a page to look at in a browser")
+    parser.add_argument("--out", type=output, metavar="FILE", help="where the text goes (standard output)")
+    parser.add_argument("--page", type=output, metavar="FILE", help="also a page to look at in a browser")
 
 
 def write_answer(
     arguments: argparse.Namespace, found: Found, text_of: Callable[[Found], str], page_of: Callable[[Found], str]
 ) -> Status:
     """Tells an answer: as a text or for machines, and as a page where one is asked for."""
-    with whole_file(arguments.out) as out:
-        out.write(json.dumps(found.to_json(), indent=1) + "\n" if arguments.json else text_of(found))
-    if arguments.page:
-        with whole_file(arguments.page) as out:
-            out.write(page_of(found))
+    outputs = (arguments.out, arguments.page) if arguments.page else (arguments.out,)
+    with whole_files(*outputs) as files:
+        if arguments.json:
+            files[0].write(json.dumps(found.to_json(), indent=1) + "\n")
+        else:
+            files[0].writelines(f"{it}\n" for it in doubt_lines(found.doubts))
+            files[0].write(text_of(found))
+        for page in files[1:]:
+            page.write(page_of(found))
     return Status.DONE

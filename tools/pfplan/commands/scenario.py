@@ -4,7 +4,7 @@ import argparse
 from importlib import resources
 
 from pfplan.commands.parser import Parser
-from pfplan.commands.words import file
+from pfplan.commands.words import output
 from pfplan.common.errors import Status
 from pfplan.common.outputs import whole_file
 from pfplan.traces import scenarios
@@ -18,7 +18,7 @@ examples/scenarios/ has ten that are shorter."""
 def add_words(parser: Parser) -> None:
     """The words of `scenario`."""
     parser.description = DESCRIPTION
-    parser.add_argument("--out", type=file, metavar="FILE", help="where it goes (standard output)")
+    parser.add_argument("--out", type=output, metavar="FILE", help="where it goes (standard output)")
 
 
 def run(arguments: argparse.Namespace) -> int:

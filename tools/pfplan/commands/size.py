@@ -5,14 +5,17 @@ from __future__ import annotations
 import argparse
 import re
 from collections.abc import Iterable
+from dataclasses import replace
 from fractions import Fraction
 from pathlib import Path
 
 from pfplan.answers.changed_rules import RulesText
+from pfplan.answers.doubts import of_replay
 from pfplan.answers.maps import map_of
 from pfplan.answers.measures import Measure
 from pfplan.answers.plays_measured import Subject
 from pfplan.answers.sizes import Vary, Wanted, size
+from pfplan.commands.play_words import add_most
 from pfplan.commands.run_words import add_answer_words, add_machine_words, machines_of, write_answer
 from pfplan.commands.words import add_asked, file, number, share_word
 from pfplan.common.errors import Status, Trouble
@@ -71,6 +74,7 @@ def add_words(parser: argparse.ArgumentParser) -> None:
     add_asked(parser, 8)
     parser.add_argument("--grid", type=number(2, 1000), default=9, metavar="N", help="values at first (9)")
     parser.add_argument("--runs", type=number(2, 10000), default=60, metavar="N", help="values at most (60)")
+    add_most(parser)
     add_answer_words(parser)
     add_machine_words(parser)
 
@@ -87,17 +91,19 @@ def run(arguments: argparse.Namespace) -> int:
     if not is_played:
         check_trace(arguments.trace)
     with regular(arguments.rules) as rules, regular(arguments.trace) as trace:
-        subject = Subject(RulesText(rules), arguments.trace if is_played else None)
+        text = RulesText(rules)
+        subject = Subject(text, arguments.trace if is_played else None, arguments.most)
+        doubts = of_replay(text.items(), trace, subject.scenario)
         if not where.is_here:
             subject.check_elsewhere()
         entries = entries_of_rules(rules, arguments.rules)
         name, users = arguments.trace.name, arguments.users
         wanted = Wanted(name, users, arguments.want, arguments.grid, arguments.runs, arguments.held)
         if len(arguments.vary) == 2:
-            border = map_of(arguments.vary, subject, trace, where, entries, wanted)
+            border = replace(map_of(arguments.vary, subject, trace, where, entries, wanted), doubts=doubts)
             _check_connections(arguments.trace, border.users, border.measures.values(), "")
             return write_answer(arguments, border, map_texts.text_of, map_texts.page_of)
-        found = size(arguments.vary[0], subject, trace, where, entries, wanted)
+        found = replace(size(arguments.vary[0], subject, trace, where, entries, wanted), doubts=doubts)
     _check_connections(arguments.trace, found.users, found.measures.values(), "; --users names their networks")
     return write_answer(arguments, found, size_texts.text_of, size_texts.page_of)
 

@@ -10,7 +10,7 @@ from dataclasses import replace
 from pfplan.answers.connections import RULES
 from pfplan.answers.summaries import Wanted, held_at, summarize, summarize_blocks
 from pfplan.commands.parser import Parser
-from pfplan.commands.words import file, networks, number
+from pfplan.commands.words import add_users, file, number, output
 from pfplan.common.errors import Status, Trouble
 from pfplan.common.inputs import check_trace, regular
 from pfplan.common.outputs import whole_file
@@ -26,7 +26,9 @@ LEGEND = "\n".join(
 )
 DESCRIPTION = f"""Sums up a report of ./pfsrc replay.
 
-A connection is of who began it: with a SYN, and for other protocols with its first packet. That of a user is
+A connection is of who began it: with a SYN, and for other protocols with its first packet. A SYN that is repeated
+belongs to its connection, until that was closed, or was quiet for 4 minutes, or its handshake was done and its state
+is gone. The connection of a user is
 {LEGEND}
 Where a connection has no first packet in the trace it is counted apart, as are those that others began."""
 
@@ -47,9 +49,7 @@ def add_words(parser: Parser) -> None:
         metavar="RULES",
         help="the rules that were replayed: adds the text of each rule, as ./pfsrc show prints it",
     )
-    parser.add_argument(
-        "--users", type=networks, metavar="PREFIX,..", default=(), help="the networks of the users (with --trace)"
-    )
+    add_users(parser, "the networks of the users (with --trace)")
     parser.add_argument(
         "--held",
         type=number(1, 10_000),
@@ -71,7 +71,7 @@ def add_words(parser: Parser) -> None:
     parser.add_argument(
         "--partial", action="store_true", help="takes a report without its last line, as a fault in the trace leaves it"
     )
-    parser.add_argument("--out", type=file, metavar="FILE", help="where the summary goes (standard output)")
+    parser.add_argument("--out", type=output, metavar="FILE", help="where the summary goes (standard output)")
 
 
 def run(arguments: argparse.Namespace) -> int:
@@ -92,10 +92,11 @@ def run(arguments: argparse.Namespace) -> int:
     )
     with contextlib.ExitStack() as stack:
         held: concurrent.futures.Future[list[Held]] | None = None
-        if arguments.held:
+        if arguments.rules and arguments.trace:
             check_trace(arguments.trace)
             rules, trace = (stack.enter_context(regular(it)) for it in (arguments.rules, arguments.trace))
-            wanted = replace(wanted, trace=trace, rules=rules)
+            wanted = replace(wanted, trace=trace, rules=rules, rules_name=arguments.rules)
+        if arguments.held:
             # this replay goes on beside the counting
             pool = stack.enter_context(concurrent.futures.ThreadPoolExecutor(1))
             held = pool.submit(held_at, rules, trace, arguments.held, entries_of_rules(rules, arguments.rules))

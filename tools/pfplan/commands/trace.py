@@ -3,10 +3,12 @@
 import argparse
 import sys
 
+from pfplan.commands.interfaces import interface_of
 from pfplan.commands.parser import Parser
-from pfplan.commands.words import file, interface, networks
+from pfplan.commands.words import file, interface, networks, output
 from pfplan.common.errors import Status, Trouble
 from pfplan.common.inputs import unpacked
+from pfplan.common.outputs import whole_files
 from pfplan.pf.conversion import machine_of
 from pfplan.traces.captures import make_trace
 from pfplan.traces.pf_answers import HEAD
@@ -51,7 +53,7 @@ def add_words(parser: Parser) -> None:
     )
     parser.add_argument(
         "--told",
-        type=file,
+        type=output,
         metavar="FILE",
         help=f"for a pflog: writes there what pf answered for each record, as {HEAD}",
     )
@@ -61,7 +63,7 @@ def add_words(parser: Parser) -> None:
         action="store_true",
         help="moments count from that of the first record; else they are those of the capture, since 1970",
     )
-    parser.add_argument("--out", type=file, metavar="FILE", help="where the trace goes (standard output)")
+    parser.add_argument("--out", type=output, metavar="FILE", help="where the trace goes (standard output)")
 
 
 def run(arguments: argparse.Namespace) -> int:
@@ -71,10 +73,12 @@ def run(arguments: argparse.Namespace) -> int:
         write_plain(arguments.capture, arguments.out)
         return Status.DONE
     machine = machine_of(arguments.ifconfig)
-    inside, macs = arguments.inside or machine.inside(), machine.macs(arguments.interface or "")
-    with unpacked(arguments.capture, arguments.capture) as capture:
+    name = interface_of(arguments.interface, arguments.capture, [], machine)
+    inside, macs = arguments.inside or machine.inside(), machine.macs(name or "")
+    outputs = (arguments.out, arguments.told) if arguments.told else (arguments.out,)
+    with unpacked(arguments.capture, arguments.capture) as capture, whole_files(*outputs) as (out, *told):
         made = make_trace(
-            capture, inside, arguments.out, name=arguments.interface, macs=macs, told=arguments.told,
+            capture, inside, out, name=name, macs=macs, told=told[0] if told else None,
             is_zero=arguments.zero, is_partial=arguments.partial, shown=arguments.capture,
         )  # fmt: skip
     for line in made:

@@ -2,6 +2,7 @@
 
 import argparse
 import contextlib
+import os
 import sys
 import tempfile
 from collections.abc import Iterator, Sequence
@@ -10,16 +11,22 @@ from pathlib import Path
 from typing import TextIO
 
 from pfplan.answers.connections import LATE
+from pfplan.answers.doubts import of_missing
 from pfplan.answers.live_counts import Side
+from pfplan.answers.summaries import Summary
 from pfplan.answers.watching import Signals, Watch, Watched
+from pfplan.commands.interfaces import interface_of
 from pfplan.commands.parser import Parser
+from pfplan.commands.run import OURS
 from pfplan.commands.rule_words import add_rule_words, options_of
-from pfplan.commands.words import add_capture_words, file, networks, number
+from pfplan.commands.words import add_capture_words, add_users, file, folder, number
 from pfplan.common.errors import Status, Trouble
 from pfplan.common.figures import share_text
 from pfplan.common.inputs import HEADER, check_readable
-from pfplan.common.outputs import make_folder, whole_file
+from pfplan.common.networks import Network
+from pfplan.common.outputs import check_folder, make_folder, part_file, whole_folder
 from pfplan.common.repository import check_program
+from pfplan.pages.doubt_texts import doubt_lines
 from pfplan.pages.report_page import PAGE, Subject, write_answer
 from pfplan.pages.screens import Screen, forgotten_text
 from pfplan.pf.conversion import Ruleset, convert, machine_of, write_ruleset
@@ -53,19 +60,13 @@ def add_words(parser: Parser) -> None:
         help="a pf.conf, what pfctl -nvf prints, or a rules text; several are answered side by side",
     )
     add_capture_words(parser)
-    parser.add_argument(
-        "--users",
-        type=networks,
-        metavar="PREFIX,..",
-        default=(),
-        help="the networks of the users: says who of them would be served",
-    )
+    add_users(parser, "the networks of the users: says who of them would be served")
     parser.add_argument(
         "--seconds", type=number(1, 4294967295), metavar="N", default=0, help="ends it after so many seconds"
     )
     parser.add_argument(
         "--into",
-        type=file,
+        type=folder,
         metavar="FOLDER",
         help="where to put what pfplan run makes: trace, report, summary, page; of several rulesets each in a folder "
         "below",
@@ -86,75 +87,90 @@ def run(arguments: argparse.Namespace) -> int:
     inside = arguments.inside or machine.inside()
     options = replace(options_of(arguments), by_records=True)
     made = [convert(it, options) for it in arguments.rules_from]
+    names = _folders(arguments.rules_from)
+    if arguments.into:
+        check_folder(arguments.into, ["trace.csv", *(os.path.join(name, it) for name in names for it in OURS)])
     for name in ("pfsrc", "pfstrace"):
         check_program(name)
-    words = way_words(inside, machine.macs(arguments.name or ""), arguments.name)
+    seen_on = interface_of(arguments.name, None, made, machine)
+    words = way_words(inside, machine.macs(seen_on or ""), seen_on)
     with contextlib.ExitStack() as stack:
-        top = arguments.into or Path(stack.enter_context(tempfile.TemporaryDirectory(prefix="pfplan-")))
-        folders = _folders(top, arguments.rules_from)
-        signals = stack.enter_context(Signals())
-        watched = [_started(stack, *it, arguments) for it in zip(arguments.rules_from, made, folders, strict=True)]
-        capture = Capture(words)
-        stack.callback(capture.stop)
-        trace = stack.enter_context(_trace(top)) if arguments.into else None
-        watch = Watch(capture, watched, Screen(sys.stdout).show, trace, arguments.seconds)
-        watch.run(signals)
-        account, trouble = capture.account()
-    return _end(arguments, watched, watch, account, trouble, has_inside=bool(inside))
+        top = stack.enter_context(whole_folder(arguments.into) if arguments.into else _for_now())
+        with contextlib.ExitStack() as running:
+            signals = running.enter_context(Signals())
+            watched = [
+                _started(running, *it, arguments.users, is_kept=bool(arguments.into))
+                for it in zip(arguments.rules_from, made, [top / it for it in names], strict=True)
+            ]
+            capture = Capture(words)
+            running.callback(capture.stop)
+            trace = running.enter_context(_trace(top)) if arguments.into else None
+            watch = Watch(capture, watched, Screen(sys.stdout).show, trace, arguments.seconds)
+            watch.run(signals)
+            account, trouble = capture.account()
+        summaries = [_summary(it, arguments, account) for it in watched]
+        if arguments.into:
+            for it, summary, name in zip(watched, summaries, names, strict=True):
+                subject = Subject(str(it.path), TRACE, it.ruleset.leftovers, it.ruleset.notes)
+                write_answer(it.folder, summary, subject, arguments.into / name)
+    if not watch.is_unseen:
+        _tell(arguments, watched, names, summaries)
+    return _end(watch, [*account, *by_networks(account, seen_on or "em0")], trouble, has_inside=bool(inside))
+
+
+@contextlib.contextmanager
+def _for_now() -> Iterator[Path]:
+    """A folder that goes at the end."""
+    with tempfile.TemporaryDirectory(prefix="pfplan-") as folder:
+        yield Path(folder)
 
 
 @contextlib.contextmanager
 def _trace(folder: Path) -> Iterator[TextIO]:
     """The file of the trace, with its header."""
-    with whole_file(folder / "trace.csv") as out:
+    with part_file(folder / "trace.csv") as out:
         out.write(f"{HEADER}\n")
         yield out
 
 
-def _folders(top: Path, paths: Sequence[Path]) -> list[Path]:
-    """The folder of each ruleset: of one the folder itself, of several one below it for each, by the name of its
-    file."""
+def _folders(paths: Sequence[Path]) -> list[str]:
+    """The folder of each ruleset: of one the folder itself, which has no name, of several one below it for each, by the
+    name of its file."""
     if len(paths) == 1:
-        return [top]
+        return [""]
     names: list[str] = []
     for path in paths:
         name = stem = path.stem
-        while name in names:
+        while name in (*names, "trace.csv"):
             name = f"{stem}-{names.count(stem) + len(names)}"
         names.append(name)
-    return [top / it for it in names]
+    return names
 
 
 def _started(
-    stack: contextlib.ExitStack, path: Path, ruleset: Ruleset, folder: Path, arguments: argparse.Namespace
+    stack: contextlib.ExitStack, path: Path, ruleset: Ruleset, folder: Path, users: Sequence[Network], *, is_kept: bool
 ) -> Watched:
     """A ruleset whose program waits for records."""
     make_folder(folder)
     write_ruleset(folder, ruleset)
     shown = show_rules(folder / "rules")
-    side = Side(path.name, folder / "rules", items_of(shown), arguments.users)
+    side = Side(path.name, folder / "rules", items_of(shown), users)
     stack.callback(side.replaying.stop)
-    report = stack.enter_context(whole_file(folder / "report")) if arguments.into else None
+    report = stack.enter_context(part_file(folder / "report")) if is_kept else None
     return Watched(path, ruleset, folder, shown, side, report)
 
 
-def _end(
-    arguments: argparse.Namespace,
-    watched: Sequence[Watched],
-    watch: Watch,
-    account: Sequence[str],
-    trouble: Trouble | None,
-    *,
-    has_inside: bool,
-) -> int:
-    """Writes the folders, and tells where they are and what was wrong."""
-    for it in watched if arguments.into else ():
-        summary = it.summary(arguments.users, _noted(frames_of(account), it.forgotten), arguments.top)
-        subject = Subject(str(it.path), TRACE, it.ruleset.leftovers, it.ruleset.notes)
-        write_answer(it.folder, summary, subject)
-    if not watch.is_unseen:
-        _tell(arguments, watched)
-    for line in (*account, *by_networks(account, arguments.name or "em0")):
+def _summary(watched: Watched, arguments: argparse.Namespace, account: Sequence[str]) -> Summary:
+    """What `run` would say of the same packets."""
+    frames = _noted(frames_of(account), watched.forgotten)
+    summary = watched.summary(arguments.users, frames, arguments.top)
+    summary.doubts = of_missing(watched.ruleset.leftovers) + summary.doubts
+    return summary
+
+
+def _end(watch: Watch, account: Sequence[str], trouble: Trouble | None, *, has_inside: bool) -> int:
+    """Tells what became of the frames, and what was wrong."""
+    for line in account:
         print(line, file=sys.stderr)
     if trouble:
         raise trouble
@@ -169,10 +185,14 @@ def _noted(frames: Frames | None, forgotten: int) -> Frames | None:
     return replace(frames, notes=(*frames.notes, forgotten_text(forgotten))) if frames and forgotten else frames
 
 
-def _tell(arguments: argparse.Namespace, watched: Sequence[Watched]) -> None:
-    """The answer in a line for each ruleset, and where the page is."""
-    for it in watched:
+def _tell(
+    arguments: argparse.Namespace, watched: Sequence[Watched], names: Sequence[str], summaries: Sequence[Summary]
+) -> None:
+    """The answer in a line for each ruleset, and where the page is; why it is in doubt stands first."""
+    for it, below, summary in zip(watched, names, summaries, strict=True):
         name = f"{it.path.name}: " if len(watched) > 1 else ""
+        for line in doubt_lines(summary.doubts):
+            print(f"{name}{line}")
         outcomes = it.side.outcomes()
         connections = sum(outcomes.values()) - outcomes[LATE] if outcomes else 0
         if outcomes and connections:
@@ -185,7 +205,7 @@ def _tell(arguments: argparse.Namespace, watched: Sequence[Watched]) -> None:
         if doubts:
             print(
                 f"{name}left out of {it.path}: {doubts} that can change this answer"
-                + (f" ({it.folder / 'left-out.txt'})" if arguments.into else "")
+                + (f" ({arguments.into / below / 'left-out.txt'})" if arguments.into else "")
             )
         if arguments.into:
-            print(it.folder / PAGE)
+            print(arguments.into / below / PAGE)

@@ -55,14 +55,27 @@ def file(text: str) -> Path:
     return Path.cwd() / "-" if text != "-" and Path(text) == Path("-") else Path(text)
 
 
+def output(text: str) -> Path:
+    """A reader of the name of a file that is written, for argparse; `-` is standard output."""
+    return Path("-") if text == "-" else file(text)
+
+
+def folder(text: str) -> Path:
+    """A reader of the name of a folder that is written into, for argparse."""
+    return file(text)
+
+
 def share_word(text: str) -> Fraction:
-    """A reader of a share for argparse: `99%`, `99.5%` or `99`."""
-    if not re.fullmatch(r"[0-9]{1,3}(\.[0-9]{1,6})? ?%?", text):
+    """A reader of a share for argparse: `99%`, `99.5%` or `99`. One that may be meant as a part of 1 is refused."""
+    if not re.fullmatch(r"[0-9]{0,3}(\.[0-9]{1,6})? ?%?", text) or not re.search("[0-9]", text):
         raise argparse.ArgumentTypeError(f"'{text}' is no share, as 99%")
-    share = Fraction(text.rstrip("% ")) / 100
-    if share > 1:
+    number = Fraction(text.rstrip("% "))
+    if 0 < number <= 1 and "%" not in text:
+        meant = f"{float(100 * number):g}%", f"{float(number):g}%"
+        raise argparse.ArgumentTypeError(f"'{text}': a share is in per cent: is {meant[0]} meant, or {meant[1]}?")
+    if number > 100:
         raise argparse.ArgumentTypeError(f"'{text}' is more than 100%")
-    return share
+    return number / 100
 
 
 def add_capture_words(parser: argparse.ArgumentParser) -> None:
@@ -80,11 +93,14 @@ def add_capture_words(parser: argparse.ArgumentParser) -> None:
     )
 
 
+def add_users(parser: argparse.ArgumentParser, help_text: str) -> None:
+    """The word that says who the users are."""
+    parser.add_argument("--users", type=networks, metavar="PREFIX,..", action="extend", default=[], help=help_text)
+
+
 def add_asked(parser: argparse.ArgumentParser, moments: int) -> None:
     """The words that say what is asked of a replay."""
-    parser.add_argument(
-        "--users", type=networks, default=(), metavar="PREFIX..", help="networks of the users, split by commas"
-    )
+    add_users(parser, "the networks of the users, split by commas; may stand more than once")
     parser.add_argument(
         "--held", type=number(0, 1000), default=moments, metavar="N",
         help=f"asks at N moments how many states are held ({moments})",

@@ -31,9 +31,38 @@ class Kind(enum.Enum):
     OTHER = "another text"
 
 
+# Files that were given or read, by device and inode, with the name that the user knows: no output replaces one.
+_taken: dict[tuple[int, int], str] = {}
+
+
+def take(path: Path) -> None:
+    """Notes an input: a file on a disk, also behind links or as standard input. Of another nothing is noted."""
+    try:
+        found = os.fstat(0) if str(path) == "-" else os.stat(path)
+    except (OSError, ValueError):
+        return
+    if stat.S_ISREG(found.st_mode):
+        _taken.setdefault((found.st_dev, found.st_ino), name_of(path))
+
+
+def taken_as(path: Path | int) -> str:
+    """The name of the input that a file is, by device and inode, or that an open file is; nothing where it is none."""
+    try:
+        found = os.stat(path)
+    except (OSError, ValueError):
+        return ""
+    return _taken.get((found.st_dev, found.st_ino), "")
+
+
+def take_none() -> None:
+    """Forgets all inputs: another command begins."""
+    _taken.clear()
+
+
 def check_readable(path: Path) -> None:
     """Trouble with status 4 where the file is not there, is a folder, or may not be read. A pipe is not opened: it is
-    read once."""
+    read once. The file is an input from here on."""
+    take(path)
     try:
         mode = os.stat(path).st_mode
         if stat.S_ISREG(mode) or stat.S_ISDIR(mode):

@@ -11,6 +11,7 @@ from pfplan.answers.measures import Measure
 from pfplan.common.errors import Trouble
 from pfplan.common.figures import counted, moment_text, share_text
 from pfplan.common.visible import visible
+from pfplan.pages.doubt_texts import doubt_parts
 from pfplan.pages.frames import answer, bullets, code, document, gallery, paragraph, section, soft, table
 from pfplan.pages.markup import Child, Markup, join, tag
 from pfplan.pages.record_texts import connection_text, letters, record_text, why
@@ -129,6 +130,7 @@ def page_of(found: Comparison) -> str:
     title = f"{len(found.names)} rulesets under {found.trace}"
     parts: list[Child] = [
         tag("h1", title),
+        *doubt_parts(found.doubts),
         soft(subject_of(found)),
         answer_of(found),
         section("Side by side", table_of(found)),

@@ -64,6 +64,9 @@ border-bottom: 1px solid var(--rule); padding: 6px 0; }
   .stack td { display: block; border: 0; padding: 0; text-align: left; white-space: normal; min-width: 0; }
   .stack td:empty { display: none; } .stack td::before { content: attr(data-head) " "; color: var(--soft); \
 font: 0.85rem system-ui, sans-serif; } }
+.share { display: block; padding: 0 6px; border: 2px solid transparent; } .share.now { border-color: currentColor; }
+.share.served { background: color-mix(in srgb, var(--served) 45%, transparent); }
+.share.failed { background: color-mix(in srgb, var(--refused) var(--lack), transparent); }
 .pictures + .pictures { margin-top: 24px; }
 .pictures { display: grid; grid-template-columns: repeat(auto-fill, minmax(min(100%, 300px), 1fr)); gap: 20px 28px; \
 align-items: end; }

@@ -7,8 +7,9 @@ from collections.abc import Iterator, Sequence
 from pfplan.answers import grids
 from pfplan.answers.maps import Border, Map, Pair
 from pfplan.common.errors import Trouble
-from pfplan.common.figures import counted
+from pfplan.common.figures import counted, share_text
 from pfplan.common.visible import visible
+from pfplan.pages.doubt_texts import doubt_parts
 from pfplan.pages.frames import answer, bullets, document, figure, gallery, key, section, soft, table
 from pfplan.pages.markup import Child, tag
 from pfplan.pages.pictures import Across, Picture, Role, Series, Style, draw
@@ -57,9 +58,24 @@ def text_of(found: Map) -> str:
     return "\n".join([*lines, "", *verdicts(found)]) + "\n"
 
 
-def verdicts(found: Map) -> Iterator[str]:
-    """The border, in sentences."""
+def now_text(found: Map) -> str:
+    """What the present values serve, and whether that is enough."""
     first, second = found.varied
+    place = f"{first.name} {first.value:,} and {second.name} {second.value:,}"
+    measure = found.measures.get(found.now)
+    if measure is None:
+        return f"The present values, {place}, were not tried."
+    if measure.refused:
+        return f"With the present values, {place}, the rules are refused."
+    share = share_text(measure.served, measure.counted)
+    enough = "enough" if found.meets(found.now) else f"too few: {want_text(found.want)} are wanted"
+    return f"The present values, {place}, serve {share} of the users, which is {enough}."
+
+
+def verdicts(found: Map) -> Iterator[str]:
+    """The present values, and the border, in sentences."""
+    first, second = found.varied
+    yield now_text(found)
     for it in found.border():
         yield f"{second.title} {it.second:,}: {runs_text(it, first.name)}."
     if found.is_cut:
@@ -85,15 +101,15 @@ def page_of(found: Map) -> str:
     answers = list(verdicts(found))
     title = f"{first.title} by {second.title}"
     rows: list[Sequence[Child]] = [
-        [f"{value:,}", *(cell_of(found, (value, it)).strip() for it in found.grid[1])]
-        for value in reversed(found.grid[0])
+        [f"{value:,}", *(coloured(found, (value, it)) for it in found.grid[1])] for value in reversed(found.grid[0])
     ]
     heads = [first.name, *(f"{it:,}" for it in found.grid[1])]
-    is_served = any(it.served for it in found.border())
+    is_good = found.meets(found.now) and not found.doubts if found.now in found.measures else None
     parts: list[Child] = [
         tag("h1", title),
+        *doubt_parts(found.doubts),
         soft(subject_of(found)),
-        answer(f"Where are at least {want_text(found.want)} of the users served?", is_served, bullets(answers)),
+        answer(answers[0], is_good, bullets(answers[1:])),
         section("The border", *border_parts(found)),
         section(
             f"Shares served in per cent: {first.name} down, {second.name} across", table(heads, rows, "n" * len(heads))
@@ -103,25 +119,55 @@ def page_of(found: Map) -> str:
     return document(title, parts)
 
 
+def coloured(found: Map, pair: Pair) -> Child:
+    """The cell of a pair in its colour: green where enough are served, else the more red the fewer are. That of the
+    present values has a frame."""
+    measure = found.measures[pair]
+    text = cell_of(found, pair).strip()
+    if measure.refused or not measure.counted:
+        return text
+    now = " now" if pair == found.now else ""
+    if found.meets(pair):
+        return tag("span", text, class_=f"share served{now}")
+    lack = 15 + 50 * (measure.counted - measure.served) // measure.counted
+    return tag("span", text, class_=f"share failed{now}", style=f"--lack: {lack}%")
+
+
+def edges(found: Map) -> tuple[list[tuple[float, float]], list[tuple[float, float]]]:
+    """The upper and the lower border: between the last value that serves the users and the nearest that does not."""
+    upper, lower = [], []
+    for it in found.border():
+        if it.served and it.above[-1] is not None:
+            upper.append((float(it.second), (it.served[-1][1] + it.above[-1]) / 2))
+        if it.served and it.below[0] is not None:
+            lower.append((float(it.second), (it.served[0][0] + it.below[0]) / 2))
+    return upper, lower
+
+
 def border_parts(found: Map) -> Iterator[Child]:
-    """The border drawn, or why it is not."""
-    borders = [it for it in found.border() if it.served]
-    if not borders:
-        yield soft("No pair that was tried serves the users.")
-        return
-    highest = tuple((float(it.second), float(it.served[-1][1])) for it in borders)
-    lowest = tuple((float(it.second), float(it.served[0][0])) for it in borders)
+    """The pairs that were tried and the border between them drawn, or why they are not."""
     values = found.grid[1]
-    series = (Series(Role.SERVED, Style.POINTS, highest), Series(Role.REFUSED, Style.POINTS, lowest))
+    tried = {
+        role: tuple(
+            (float(second), float(first))
+            for (first, second), it in sorted(found.measures.items())
+            if not it.refused and found.meets((first, second)) == is_met
+        )
+        for role, is_met in ((Role.SERVED, True), (Role.REFUSED, False))
+    }
+    lines = [Series(Role.WANTED, Style.LINE, tuple(it)) for it in edges(found) if it]
+    dots = [Series(role, Style.DOTS, points) for role, points in tried.items() if points]
     most = float(max(found.grid[0])) * 1.05
+    log = grids.is_logarithmic(values)
     picture = Picture(
-        series, Across.VALUE, float(values[0]), float(values[-1]), most, logarithmic=grids.is_logarithmic(values)
+        (*lines, *dots), Across.VALUE, float(values[0]), float(values[-1]), most, logarithmic=log
     )
     first, second = found.varied
     words: list[Child] = [
         f"{first.name} by {second.name}",
-        key("the highest that serves the users", Role.SERVED),
-        key("the lowest", Role.REFUSED),
+        key("serves the users", Role.SERVED),
+        key("does not", Role.REFUSED),
+        key("the border, somewhere between the two", Role.WANTED),
     ]
     try:
         yield gallery([figure(words, drawn) for drawn in draw([picture])])

@@ -8,6 +8,7 @@ from pfplan.answers.margins import Margin, Margins
 from pfplan.answers.measures import Measure
 from pfplan.common.figures import counted, share_text
 from pfplan.common.visible import visible
+from pfplan.pages.doubt_texts import doubt_parts
 from pfplan.pages.frames import answer, bullets, document, section, soft, table
 from pfplan.pages.markup import Child, Markup, tag
 from pfplan.pages.size_texts import want_text
@@ -66,8 +67,9 @@ def page_of(found: Margins) -> str:
     title = f"How sure is it, under {found.trace}?"
     head: list[Child] = [
         tag("h1", title),
+        *doubt_parts(found.doubts),
         soft(as_is(found)),
-        answer(verdict(found), not found.turning, bullets(turning_lines(found))),
+        answer(verdict(found), not found.turning and not found.doubts, bullets(turning_lines(found))),
     ]
     foot = tag(
         "footer", "Made by pfplan, which is tested and not proved; the replays are those of the proved program pfsrc."

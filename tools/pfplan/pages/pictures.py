@@ -57,6 +57,7 @@ class Style(Enum):
     LINE = "with lines linewidth 2 linecolor"
     AREA = "with filledcurves y1=0 fillcolor"
     POINTS = "with linespoints linewidth 2 pointtype 7 pointsize 0.5 linecolor"
+    DOTS = "with points pointtype 7 pointsize 0.5 linecolor"
 
 
 class Across(Enum):

@@ -10,10 +10,11 @@ from pfplan.answers.timelines import Moment, Timeline
 from pfplan.common.errors import Trouble
 from pfplan.common.figures import counted
 from pfplan.common.visible import visible
+from pfplan.pages.doubt_texts import doubt_parts
 from pfplan.pages.frames import answer, bullets, code, document, figure, gallery, key, section, soft, table
 from pfplan.pages.markup import Child, Markup, join, tag
 from pfplan.pages.pictures import Role, draw
-from pfplan.pages.play_texts import headline_of, rows_of, subject_of, users_of, when
+from pfplan.pages.play_texts import all_are_served, headline_of, rows_of, shut_out, subject_of, users_of, when
 from pfplan.pages.record_texts import WHY
 from pfplan.pages.report_page import more_of
 from pfplan.pages.timeline_pictures import MAKERS, most_of
@@ -65,33 +66,50 @@ def _in(begin: int, seconds: int, counters: Sequence[Counter[int]]) -> int:
 def page_of(found: PlaysBeside, drawn: Mapping[str, Sequence[Markup]], why_none: str, differences: str) -> str:
     """The text of the page. `why_none` says why there are no pictures."""
     title = f"{visible(found.scenario.name)}, played"
-    good = all(users_of(it)[0] == users_of(it)[1] for it in found.plays)
+    good = not found.doubts and all(all_are_served(it) for side in found.sides for it in side)
     points = [f"{name}: {headline_of(found, at)}" for at, name in enumerate(found.names)]
     doubts = [
         f"{name}: {counted(number, 'thing')} left out of the pf.conf can change this answer; left-out.txt says which"
-        for name, number in zip(found.names, found.doubts)
+        for name, number in zip(found.names, found.left_out)
         if number
     ]
-    parts: list[Child] = [tag("h1", title), soft(subject_of(found))]
+    parts: list[Child] = [tag("h1", title), *doubt_parts(found.doubts), soft(subject_of(found))]
     if len(points) == 1:
         parts.append(
             answer(
                 f"{headline_of(found, 0)[0].upper()}{headline_of(found, 0)[1:]}.",
                 good,
-                bullets([*limit_points(found.plays[0]), *doubts]),
+                bullets([*limit_points(found.plays[0]), *left_points(found), *doubts]),
             )
         )
     else:
-        best = max(range(len(found.plays)), key=lambda at: users_of(found.plays[at])[1])
-        parts.append(
-            answer(f"{found.names[best]} serves the most users without waiting.", None, bullets([*points, *doubts]))
-        )
+        parts.append(answer(best_text(found), None, bullets([*points, *left_points(found), *doubts])))
     parts.extend(_pictures(found, drawn, why_none))
     rows: list[Sequence[Child]] = [[_name_cell(name), *cells] for name, cells in rows_of(found)]
     parts.append(section("Group by group", table(["", *found.names], rows, "t" + "n" * len(found.names))))
     parts.append(section("What a play can't know", bullets(NOT_MODELLED), more_of(differences)))
     parts.append(tag("footer", FOOTER))
     return document(title, parts)
+
+
+def best_text(found: PlaysBeside) -> str:
+    """Which ruleset serves the most users without waiting, and whom it shuts out."""
+    if not any(users_of(it)[0] for it in found.plays):
+        return "No user is in the scenario."
+    shares = [sum(users_of(it)[1] for it in side) for side in found.sides]
+    best = [at for at, it in enumerate(shares) if it == max(shares)]
+    names = " and ".join(found.names[at] for at in best)
+    serves = "serves" if len(best) == 1 else "serve"
+    out = list(shut_out(found.sides[best[0]])) if len(best) == 1 else []
+    return f"{names} {serves} the most users without waiting" + (f", and shuts out {', '.join(out)}." if out else ".")
+
+
+def left_points(found: PlaysBeside) -> Iterator[Child]:
+    """The traces that were not played to their end."""
+    for at, group in enumerate(found.scenario.groups):
+        left = max(it[0].tally.counts[at].left_over for it in found.sides)
+        if left:
+            yield f"{group.name}: {counted(left, 'record')} of its trace came after the play was over"
 
 
 def _name_cell(name: str) -> Child:
@@ -110,7 +128,7 @@ def limit_points(play: Played) -> Iterator[Child]:
                     f" {counted(it.packets, 'packet')}, second {when(it.first, it.last)}{why}",
                 ]
             )
-    yield f"{counted(play.most_held, 'state')} held at most"
+    yield f"{counted(play.most_held, 'state')} held at most" + (": the limit was met" if play.is_full else "")
 
 
 def drawn_of(found: PlaysBeside) -> tuple[dict[str, list[Markup]], str]:

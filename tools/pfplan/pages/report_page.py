@@ -18,8 +18,9 @@ from pfplan.answers.timelines import Timeline
 from pfplan.common.errors import Trouble
 from pfplan.common.figures import SINCE_1970, counted, moment_text, share_text
 from pfplan.common.limits import BY_WORD
-from pfplan.common.outputs import whole_file
+from pfplan.common.outputs import part_file
 from pfplan.pages.differences import differences_beside
+from pfplan.pages.doubt_texts import doubt_parts
 from pfplan.pages.frames import PICTURE_STYLE, answer, bullets, code, document, gallery, paragraph, section, soft, table
 from pfplan.pages.margin_texts import table_of as margins_table
 from pfplan.pages.margin_texts import verdict
@@ -94,7 +95,7 @@ def write_answer(folder: Path, summary: Summary, subject: Subject, place: Path |
     """Writes summary.txt, summary.json and the page with its pictures into a folder. Trouble as `write_page`."""
     texts = {"summary.txt": text_of(summary), "summary.json": json.dumps(summary.to_json(), indent=2) + "\n"}
     for name, text in texts.items():
-        with whole_file(folder / name) as file:
+        with part_file(folder / name) as file:
             file.write(text)
     write_page(folder, summary, subject, place)
 
@@ -115,10 +116,10 @@ def write_page(folder: Path, summary: Summary, subject: Subject, place: Path | N
     written = []
     for kind, figure in pictures.items():
         path = folder / FILES[kind]
-        with whole_file(path) as file:
+        with part_file(path) as file:
             file.write(standalone(figure.picture, PICTURE_STYLE))
         written.append(path)
-    with whole_file(folder / PAGE) as file:
+    with part_file(folder / PAGE) as file:
         file.write(
             page_of(summary, subject, [it.figure() for it in pictures.values()], differences_beside(folder, place), why)
         )
@@ -130,6 +131,7 @@ def page_of(summary: Summary, subject: Subject, figures: Sequence[Markup], diffe
     title = f"{subject.rules} under {subject.trace}"
     parts: list[Child] = [
         tag("h1", title),
+        *doubt_parts(summary.doubts),
         soft(span_of(summary)),
         *missing_parts(subject),
         answer_of(summary, subject),
@@ -224,7 +226,8 @@ def answer_of(summary: Summary, subject: Subject) -> Markup:
         f"{share_text(served, users.counted)} of the users' connections were served: {served:,} of {users.counted:,}."
     )
     wanted = soft(f"Users: {users.of}; wanted: at least {float(100 * subject.want):g} % served")
-    return answer(headline, served >= subject.want * users.counted, bullets(points), wanted)
+    is_good = served >= subject.want * users.counted and not summary.doubts
+    return answer(headline, is_good, bullets(points), wanted)
 
 
 def fate_points(summary: Summary) -> Iterator[Child]:

@@ -13,6 +13,7 @@ from pfplan.answers.sizes import Sizing
 from pfplan.common.errors import Trouble
 from pfplan.common.figures import counted, share_text
 from pfplan.common.visible import visible
+from pfplan.pages.doubt_texts import doubt_parts
 from pfplan.pages.frames import answer, bullets, document, figure, gallery, key, section, soft, table
 from pfplan.pages.markup import Child, Markup, tag
 from pfplan.pages.pictures import Across, Picture, Role, Series, Style, draw
@@ -61,6 +62,10 @@ def verdicts(found: Sizing) -> Iterator[str]:
             f"At least {want} are served "
             f"{f'at {low:,}' if low == high else f'from {low:,} to {high:,}'}{beyond(found, low, high)}."
         )
+    now = found.measures.get(found.varied.value)
+    if now is not None and not found.meets[found.varied.value]:
+        why = "the rules are refused" if now.refused else f"it serves {share_of(found, found.varied.value)}"
+        yield f"The present value, {found.varied.value:,}, fails: {why}."
     if found.is_cut:
         yield f"More runs (--runs) would tell the edges finer: {len(found.measures)} values were tried."
     falls = grids.valleys(found.shares)
@@ -136,8 +141,13 @@ def page_of(found: Sizing) -> str:
     title = f"Which value of {found.varied.title}?"
     parts: list[Child] = [
         tag("h1", title),
+        *doubt_parts(found.doubts),
         soft(subject_of(found)),
-        answer(answers[0], bool(grids.intervals(found.meets)), bullets(answers[1:])),
+        answer(
+            answers[0],
+            found.meets.get(found.varied.value, any(found.meets.values())) and not found.doubts,
+            bullets(answers[1:]),
+        ),
         section("Curve", *curve_parts(found)),
         section("Values", table_of(found)),
         tag(

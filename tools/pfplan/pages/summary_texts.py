@@ -10,6 +10,7 @@ from pfplan.answers.sources import Source
 from pfplan.answers.summaries import Interfaces, Summary, Users
 from pfplan.common.figures import moment_text, share_text
 from pfplan.common.limits import BY_WORD
+from pfplan.pages.doubt_texts import doubt_lines
 from pfplan.pages.rule_notes import TWO_STATES, does_fill_decide, entering_of, frame_lines, note_of, skipped_lines
 from pfplan.traces.insertions import Held
 
@@ -23,6 +24,7 @@ def text_of(summary: Summary) -> str:
 
 
 def _lines(summary: Summary) -> Iterator[str]:
+    yield from doubt_lines(summary.doubts)
     yield from _head(summary)
     if summary.users:
         yield from _part(_users_title(summary.users), _users(summary, summary.users))

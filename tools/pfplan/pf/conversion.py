@@ -8,7 +8,7 @@ from pathlib import Path
 
 from pfplan.common.errors import Status, Trouble
 from pfplan.common.inputs import check_rules, name_of
-from pfplan.common.outputs import whole_file
+from pfplan.common.outputs import part_file
 from pfplan.pf.expansion import Expander, overloaded_tables, table_names, walk
 from pfplan.pf.interfaces import Given, Machine, read_ifconfig, shown
 from pfplan.pf.left_out import Leftover, Teller
@@ -21,7 +21,16 @@ from pfplan.pf.statements import Place, Setting, Statement, Table
 from pfplan.pf.writing_lists import Chooser, MadeTables
 from pfplan.pf.writing_settings import Settings
 from pfplan.pf.writing_tables import TableMaker
-from pfplan.traces.entries import by_table, entries_of_text, mark_of, marked, moved, names_to_move, write_entries
+from pfplan.traces.entries import (
+    beside,
+    by_table,
+    entries_of_text,
+    mark_of,
+    marked,
+    moved,
+    names_to_move,
+    write_entries,
+)
 
 MOST_BYTES = 1_048_576  # of a rules text of pfsrc
 MOST_ALIKE = 20  # leftovers that change no answer, for one reason, each in a line
@@ -175,19 +184,20 @@ def _by_records(lines: Sequence[str], expander: Expander, teller: Teller) -> tup
     return ([mark_of(records), *left], records) if records else (left, records)
 
 
-def write_rules(path: Path | None, ruleset: Ruleset) -> None:
-    """Writes a rules text, and beside it the entries that come by records. None is standard output. Trouble with status
-    4 where that fails."""
-    if path and ruleset.records:
-        write_entries(path, ruleset.records)
-    with whole_file(path) as file:
+def write_rules(path: Path, ruleset: Ruleset) -> None:
+    """Writes a rules text into a folder of pfplan's own, and beside it the entries that come by records. Trouble with
+    status 4 where that fails."""
+    if ruleset.records:
+        with part_file(beside(path)) as file:
+            write_entries(file, ruleset.records)
+    with part_file(path) as file:
         file.write(ruleset.written)
 
 
 def write_ruleset(folder: Path, ruleset: Ruleset) -> None:
-    """Writes the files `rules` and `left-out.txt` of a folder. Trouble as `write_rules`."""
+    """Writes the files `rules` and `left-out.txt` of a folder of pfplan's own. Trouble as `write_rules`."""
     write_rules(folder / "rules", ruleset)
-    with whole_file(folder / "left-out.txt") as file:
+    with part_file(folder / "left-out.txt") as file:
         file.writelines(f"{it}\n" for it in ruleset.shown())
 
 

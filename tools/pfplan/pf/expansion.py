@@ -15,6 +15,7 @@ from pfplan.pf.left_out import (
     TRANSLATIONS,
     Reason,
     Teller,
+    counts_states,
     harmless,
     reason_of_match,
     reason_of_other,
@@ -41,7 +42,7 @@ from pfplan.pf.statements import (
     Statement,
     Table,
 )
-from pfplan.pf.writing_lists import NO_CHOICE, Choice, Chooser, Gap, Options, counts_states, places_in_pf
+from pfplan.pf.writing_lists import NO_CHOICE, Choice, Chooser, Gap, Options, places_in_pf
 from pfplan.pf.writing_settings import Settings
 from pfplan.pf.writing_states import beyond_pfsrc, carried_state, check_state, refuse
 from pfplan.pf.writing_tables import TableMaker

@@ -3,14 +3,16 @@
 from dataclasses import dataclass, field
 
 from pfplan.common.errors import Status, Trouble
+from pfplan.common.limits import OF_RULES
 from pfplan.pf.lexer import printable
-from pfplan.pf.statements import Antispoof, Part, Place, Rule, Setting, Statement
+from pfplan.pf.statements import Antispoof, Part, Place, Rule, Setting, State, Statement
 
 # which way pf answers otherwise than what is left
 BLOCKS_MORE = "pf blocks more"
 PASSES_MORE = "pf passes more"
 OTHER_STATES = "pf makes other states"
 EITHER_WAY = "pf may block or pass more"
+_COUNTS = (*OF_RULES, "adaptive.start", "adaptive.end")
 
 
 @dataclass(frozen=True)
@@ -65,12 +67,20 @@ def beyond(text: str, *, is_missing: bool = False) -> Reason:
     return Reason(text, changes=True, goes=True, is_missing=is_missing)
 
 
+def counts_states(state: State | None) -> bool:
+    """Whether a rule counts its states or sources, so that two rules in its place would count apart."""
+    return state is not None and any(it.name in _COUNTS for it in state.options)
+
+
 def way_of(statement: Statement | None) -> str:
     """Which way pf answers otherwise than without a statement, by what it does."""
     if isinstance(statement, Antispoof) or isinstance(statement, Rule) and statement.action == "block":
         return BLOCKS_MORE
+    if isinstance(statement, Rule) and statement.action == "pass":
+        # what such a rule counts, it also refuses or kills
+        return EITHER_WAY if counts_states(statement.filter.state) else PASSES_MORE
     if isinstance(statement, Rule):
-        return PASSES_MORE if statement.action == "pass" else OTHER_STATES
+        return OTHER_STATES
     if isinstance(statement, Setting) and statement.name == "skip":
         return PASSES_MORE
     return EITHER_WAY
@@ -132,6 +142,7 @@ _OTHERS = {
     "ether": telling("it is none of OpenBSD's; it asks for Ethernet headers"),
 }
 _OLD_TRANSLATION = telling("old syntax; addresses are translated before the rules are asked", OTHER_STATES)
+_OLD_PASS = telling("old syntax; addresses are translated, and what it matches passes without the rules", PASSES_MORE)
 
 
 def reason_of_part(part: Part, direction: str) -> Reason:
@@ -144,9 +155,11 @@ def reason_of_part(part: Part, direction: str) -> Reason:
 
 
 def reason_of_other(kind: str, text: str) -> Reason:
-    """Why a statement is left out, by its first word and, of `scrub`, by what it does."""
+    """Why a statement is left out, by its first words and, of `scrub`, by what it does."""
     if kind == "scrub" and "reassemble tcp" in text:
         return BY_TIMESTAMPS
+    if kind in ("nat", "rdr", "binat") and text.split()[1:2] == ["pass"]:
+        return _OLD_PASS
     return _OTHERS.get(kind, _OLD_TRANSLATION)
 
 

@@ -2,11 +2,12 @@
 names, its limits, and what a kill of it flushes."""
 
 import re
-from collections.abc import Mapping, Sequence
+from collections.abc import Collection, Mapping, Sequence
 from dataclasses import dataclass
 
 from pfplan.common.limits import BY_WORD, OF_RULES
 
+_LOOPBACK = re.compile(r"lo[0-9]*|any")
 _TABLE = re.compile(r"<([A-Za-z0-9_.-]+)>")
 _OVERLOAD = re.compile(r"overload <([A-Za-z0-9_.-]+)>( flush)?( global)?")
 
@@ -24,6 +25,17 @@ class Overload:
 def items_of(shown: Sequence[str]) -> list[str]:
     """The rules and heads of anchors of a canonical text: the n-th is that of `@n`."""
     return [it.strip() for it in shown if it.strip() != "}" and not it.startswith(("set ", "table "))]
+
+
+def interfaces_of(items: Sequence[str], skipped: Collection[int] = ()) -> set[str]:
+    """The interfaces whose packets some rule is for: those that rules name, but for `!` and loopback, on which nothing
+    comes from elsewhere. The items in `skipped` stand for `set skip`, which asks no rule."""
+    found = set()
+    for number, text in enumerate(items):
+        words = text.split(" ")
+        if number not in skipped and "on" in words[:-1]:
+            found.add(words[words.index("on") + 1])
+    return {it for it in found if not it.startswith("!") and not _LOOPBACK.fullmatch(it)}
 
 
 def overload_of(text: str) -> Overload | None:

@@ -6,16 +6,14 @@ import re
 from collections.abc import Iterable, Sequence
 from dataclasses import dataclass, field, replace
 
-from pfplan.common.limits import OF_RULES
 from pfplan.common.networks import Network
 from pfplan.pf.interfaces import Location, Machine, prefix_of, shown
 from pfplan.pf.left_out import Reason, Teller, beyond, harmless, telling
-from pfplan.pf.statements import Filter, Host, HostKind, Interface, Port, State, Statement
+from pfplan.pf.statements import Filter, Host, HostKind, Interface, Port, Statement
 from pfplan.pf.writing_tables import TableMaker
 
 FAMILIES = {4: "inet", 6: "inet6"}
 NAME = re.compile(r"[A-Za-z0-9_.-]+")
-_COUNTS = (*OF_RULES, "adaptive.start", "adaptive.end")
 SPLIT = beyond("it makes several rules of one, and each would count states by itself")
 
 
@@ -45,11 +43,6 @@ class Gap:
 Options = list[Choice | Gap]
 NO_CHOICE: Options = [Choice("")]
 ANY_CHOICE: Options = [Choice("any")]
-
-
-def counts_states(state: State | None) -> bool:
-    """Whether a rule counts its states or sources, so that two rules in its place would count apart."""
-    return state is not None and any(it.name in _COUNTS for it in state.options)
 
 
 @dataclass

@@ -26,6 +26,7 @@ from types import TracebackType
 
 from pfplan.common.errors import Status, Trouble, reason_of
 from pfplan.common.networks import Network
+from pfplan.common.outputs import part_file
 from pfplan.common.progress import Progress
 from pfplan.common.repository import TOP
 from pfplan.traces.entries import beside, write_entries
@@ -91,7 +92,8 @@ class Runs:
         self._place = tempfile.TemporaryDirectory(prefix="pfplan-")
         self._folder = Path(self._place.name)
         if self._entries:
-            write_entries(self._folder / "all", self._entries)
+            with part_file(beside(self._folder / "all")) as out:
+                write_entries(out, self._entries)
         if not self._machines.is_here:
             try:
                 shutil.copyfile(self._trace, self._folder / "trace")

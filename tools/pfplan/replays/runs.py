@@ -14,7 +14,7 @@ from typing import IO
 
 from pfplan.common.errors import Status, Trouble, reason_of
 from pfplan.common.inputs import check_rules, check_trace
-from pfplan.common.outputs import whole_file
+from pfplan.common.outputs import part_file
 from pfplan.common.progress import Progress
 from pfplan.common.repository import program
 from pfplan.traces.insertions import NOTHING, Asking, Heard, Held, Insertions, asking
@@ -55,7 +55,7 @@ def run_replay(
     check_rules(replay.rules)
     check_trace(replay.trace)
     if asked.insertions:
-        with whole_file(replay.report) as file:
+        with part_file(replay.report) as file:
             row = 1
             for lines in stream_blocks(replay.rules, replay.trace, asked, heard):
                 file.writelines(_renumbered(lines, row))
@@ -63,7 +63,7 @@ def run_replay(
                 if progress:
                     progress.at(row)
         return
-    with whole_file(replay.report) as report, tempfile.TemporaryFile("w+", prefix="pfplan-") as errors:
+    with part_file(replay.report) as report, tempfile.TemporaryFile("w+", prefix="pfplan-") as errors:
         with _started(_words(replay.rules, replay.trace), report, errors) as process:
             _wait(process, Path(report.name), progress)
             _check_end(process.returncode, errors, replay.rules, replay.trace)

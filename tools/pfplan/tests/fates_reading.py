@@ -1,11 +1,13 @@
 """What becomes of connections, read slowly and apart from pfplan: over plain lists of packets, states, kills and
 flushes.
 
-Nothing of pfplan is used here. A report is a list of texts behind the rows' numbers, and a trace a list of records. No
-state may run out between its last packet and a flush: then the list of states is what the firewall holds.
+Nothing of pfplan is used here. A report is a list of texts behind the rows' numbers, and a trace a list of records.
+Which states are held before a flush, the machine itself says: a trace that ends before it is replayed with a packet of
+each state that was ever made.
 """
 
 import ipaddress
+from collections.abc import Callable
 from dataclasses import dataclass, field
 
 BLOCKED = ("block", "drop:max", "drop:max-src-nodes", "drop:src-nodes", "drop:max-src-states", "drop:states")
@@ -34,7 +36,7 @@ class Packet:
 
 @dataclass
 class State:
-    """A state that is held: the two ends by the direction of the packet that made it, its rule, and the source it
+    """A state that was made: the two ends by the direction of the packet that made it, its rule, and the source it
     counts for."""
 
     protocol: str
@@ -43,13 +45,20 @@ class State:
     rule: str
     source: str
 
+    def packet(self, moment: int) -> str:
+        """A record of a packet of it, without flags."""
+        return f"{moment},in,em9,{self.protocol},{','.join((*self.inner, *self.outer))},"
+
 
 @dataclass
 class Connection:
-    """All packets of one connection so far. `fate` is empty while it goes on."""
+    """The packets of one connection so far, since it was let in again where it was. `fate` is empty while it goes on;
+    `first` has its first packet, and `seen` is the moment of its last."""
 
     packets: list[Packet]
     is_counted: bool
+    seen: int
+    first: list[Packet]
     fate: str = ""
 
     def ends(self) -> set[End]:
@@ -59,10 +68,12 @@ class Connection:
 
 @dataclass
 class Reading:
-    """Reads a trace with its report. `flushes` has the rules that flush, by `@N`, with `rule` or `global`."""
+    """Reads a trace with its report. `flushes` has the rules that flush, by `@N`, with `rule` or `global`. `replay`
+    answers the texts of the report of some records."""
 
     users: list[str]
     flushes: dict[str, str]
+    replay: Callable[[list[str]], list[str]]
     connections: list[Connection] = field(default_factory=list)
     states: list[State] = field(default_factory=list)
     last: int = 0
@@ -74,10 +85,10 @@ class Reading:
             packet = packet_of(row, record, text)
             self.last = packet.moment
             if packet.word != "skip":
-                self.take(packet)
+                self.take(packet, records[: row - 1])
         found = []
         for it in self.connections:
-            first = it.packets[0]
+            first = it.first[0]
             if it.is_counted:
                 found.append(
                     ((first.protocol, *first.source, *first.target), first.row, it.fate or self.fate_at_end(it))
@@ -97,21 +108,29 @@ class Reading:
         ]
         return same[-1] if same else None
 
-    def take(self, packet: Packet) -> None:
+    def take(self, packet: Packet, before: list[str]) -> None:
         """A packet, after all those before it."""
         if self.is_user(packet.source) or self.is_user(packet.target):
             self.follow(packet)
-        self.change_states(packet)
+        self.change_states(packet, before)
 
     def follow(self, packet: Packet) -> None:
         """Puts a packet to its connection, or begins one, and notes a fate that is certain by now."""
         connection = self.latest(packet)
-        if connection is None or packet.protocol == "tcp" and packet.opens() and connection.fate:
+        if connection is None or packet.protocol == "tcp" and packet.opens() and is_another(connection, packet):
+            if connection is not None:
+                connection.fate = connection.fate or self.fate_at_end(connection)
             is_begun = packet.opens()
             counted = is_begun and self.is_user(packet.source)
-            self.connections.append(Connection([packet], counted, "" if counted else "nobody's"))
+            packets = [packet]
+            self.connections.append(Connection(packets, counted, packet.moment, packets, "" if is_begun else "stray"))
             return
-        if not connection.fate:
+        connection.seen = packet.moment
+        is_again = packet.protocol == "tcp" and packet.opens() and packet.source == connection.packets[0].source
+        if connection.fate in ("killed", "cut") and is_again and packet.word not in BLOCKED:
+            # it is tried again: what counts begins anew
+            connection.fate, connection.packets = "", [packet]
+        elif not connection.fate:
             connection.packets.append(packet)
             connection.fate = fate_after(connection.packets)
 
@@ -119,11 +138,22 @@ class Reading:
         """What became of a connection that goes on at the end of the trace."""
         if is_refused(connection.packets):
             return "refused"
-        if connection.packets[0].protocol != "tcp" or is_answered(connection.packets):
+        first = connection.packets[0]
+        through = [it for at, it in enumerate(connection.packets) if not is_refused(connection.packets[: at + 1])]
+        if first.protocol == "udp" and any(greets(it, first) for it in through):
             return "served"
-        return "late" if self.last - connection.packets[0].moment < 3 else "unanswered"
+        if first.protocol not in ("tcp", "udp") or is_answered(connection.packets):
+            return "served"
+        return "late" if self.last - let_in(connection.packets).moment < 3 else "unanswered"
 
-    def change_states(self, packet: Packet) -> None:
+    def held(self, moment: int, before: list[str]) -> list[State]:
+        """The states that are held after some records, at a moment: the machine answers a packet of each that was ever
+        made."""
+        packets = [it.packet(moment) for it in self.states]
+        said = self.replay(before + packets)[len(before) :]
+        return [it for it, text in zip(self.states, said, strict=True) if text.split(" ")[0] == "state"]
+
+    def change_states(self, packet: Packet, before: list[str]) -> None:
         """What a packet does to the states that are held; connections whose states are flushed are killed."""
         inner, outer = (packet.source, packet.target) if packet.place[0] == "in" else (packet.target, packet.source)
         mine = [it for it in self.states if (it.protocol, it.inner, it.outer) == (packet.protocol, inner, outer)]
@@ -135,10 +165,10 @@ class Reading:
             return
         flush = self.flushes.get(packet.rule, "")
         gone = list(mine)
-        if flush:
+        if flush and packet.killed > 1:
             gone += [
                 it
-                for it in self.states
+                for it in self.held(packet.moment, before)
                 if it not in mine and it.source == packet.source[0] and (flush == "global" or it.rule == packet.rule)
             ]
         assert len(gone) == packet.killed, (packet, gone)
@@ -155,13 +185,30 @@ def packet_of(row: int, record: str, text: str) -> Packet:
     column = record.split(",")
     word, rule, *more = text.split(" ")
     ends = [
-        ("" if not address else str(ipaddress.ip_address(address)), port)
+        ("" if not address else str(ipaddress.ip_address(address)), str(int(port)))
         for address, port in (column[4:6], column[6:8])
     ]
     killed = int(more[1].removeprefix("killed=")) if word.startswith("kill:") else 0
     return Packet(
         row, int(column[0]), (column[1], column[2]), column[3], ends[0], ends[1], column[8], word, rule, killed
     )
+
+
+def is_another(connection: Connection, packet: Packet) -> bool:
+    """Whether a SYN between the ends of a connection is none of it."""
+    packets, fate = connection.packets, connection.fate
+    if fate not in ("", "killed", "cut") or packet.moment - connection.seen >= 240:
+        return True
+    if fate and packet.source != packets[0].source:
+        return True
+    return is_answered(packets) and (bool(fate) or packet.word != "state")
+
+
+def let_in(packets: list[Packet]) -> Packet:
+    """The packet that let a connection in which is not refused: its first, or the first that went through after it
+    was refused."""
+    refused = [at for at in range(len(packets)) if is_refused(packets[: at + 1])]
+    return packets[refused[-1] + 1] if refused else packets[0]
 
 
 def is_refused(packets: list[Packet]) -> bool:

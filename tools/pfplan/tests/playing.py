@@ -23,13 +23,15 @@ class Scripted:
     says: Callable[[str, int], str]
     asked: list[str] = field(default_factory=list)
     texts: list[str] = field(default_factory=list)
+    calls: int = 0
     _before: dict[str, int] = field(default_factory=dict)
 
-    def decide(self, records: Sequence[str]) -> list[str]:
+    def decide(self, texts: Sequence[str], second: str = "") -> list[str]:
         """The texts, behind their rows."""
+        self.calls += 1
         lines = []
-        for it in records:
-            moment, _, rest = it.rstrip("\n").partition(",")
+        for it in texts:
+            moment, _, rest = f"{second}{it}".rstrip("\n").partition(",")
             text = (
                 "held - states=0 nodes=0 entries=0"
                 if rest.startswith("held")

@@ -11,6 +11,7 @@ from dataclasses import dataclass
 from pathlib import Path
 
 from pfplan.common.inputs import HEADER
+from pfplan.common.listings import NAME as LIST
 from pfplan.common.repository import TOP
 
 STAND_IN = Path(__file__).resolve().parent / "stand_in.py"
@@ -72,5 +73,5 @@ class FolderCase(unittest.TestCase):
         return self.write(name, "".join(f"{it}\n" for it in (*lines, f"end rows={len(lines)} {end}")))
 
     def left(self) -> list[str]:
-        """The names of the files in the folder, hidden ones too."""
-        return sorted(it.name for it in self.folder.iterdir())
+        """The names of the files in the folder, hidden ones too, but for pfplan's own list of them."""
+        return sorted(it.name for it in self.folder.iterdir() if it.name != LIST)

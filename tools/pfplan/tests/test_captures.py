@@ -123,8 +123,9 @@ class Captures(FolderCase):
         )
 
     def test_it_fails(self) -> None:
-        for name in ("told", "trace"):
-            self.write(name, "what stood there")
+        words = ("--told", "told", "--out", "trace")
+        self.assertEqual(self.call(f'echo {ANSWERS} > "$2"; {ONE}', *words).status, 0)
+        before = (self.read("told"), self.read("trace"))
         for end, status, why in (
             (
                 "echo 'capture: behind frame 1: the file ends within it' >&2; exit 1",
@@ -136,9 +137,9 @@ class Captures(FolderCase):
             ("kill -9 $$", Status.REFUSED, "status -9"),
         ):
             with self.subTest(why):
-                done = self.call(f'echo {ANSWERS} > "$2"; {ONE}; {end}', "--told", "told", "--out", "trace")
+                done = self.call(f'echo {ANSWERS} > "$2"; {ONE}; echo 9; {end}', *words)
                 self.assertEqual(done, Done(status, "", f"pfplan trace: {NAME}: pfstrace: {why}\n"))
-                self.assertEqual((self.read("told"), self.read("trace")), ("what stood there", "what stood there"))
+                self.assertEqual((self.read("told"), self.read("trace")), before)
                 self.assertEqual(self.left(), [NAME, "pfstrace", "told", "trace"])
                 self.assertEqual(self.call(f"{ONE}; {end}").out, "")
 
@@ -232,8 +233,8 @@ class Captures(FolderCase):
             (("--inside", "192.0.2.300"), "--inside: '192.0.2.300' is no prefix"),
             (("--outside", "192.0.2.0/24"), "'--outside': no such word; is --out meant? (pfplan trace --help)"),
             (("--if", "any"), "--interface/--if: 'any' is no name of an interface"),
-            (("--out", self.capture), "--out: this is the capture"),
-            (("--told", self.capture), "--told: this is the capture"),
+            (("--out", self.capture), f"{self.capture}: it is the input {self.capture}, which no output may replace"),
+            (("--told", self.capture), f"{self.capture}: it is the input {self.capture}, which no output may replace"),
         ):
             done = pfplan("trace", self.capture, *words)
             self.assertEqual((done.status, done.out, done.err), (2, "", f"pfplan trace: {why}\n"))

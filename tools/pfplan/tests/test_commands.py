@@ -79,8 +79,12 @@ class Commands(FolderCase):
         self.assertEqual((len(summary["held"]), summary["users"]["connections"]), (3, 10))
         self.assertIn("(w)", (into / "summary.txt").read_text("utf-8"))
         self.assertIn("received-on", (into / "report.html").read_text("utf-8"))
-        again = pfplan("run", into / "rules", trace, "--into", into, "--users", "198.51.100.0/24", "--held", 0)
+        words = ("run", into / "rules", trace, "--users", "198.51.100.0/24", "--held", 0, "--into")
+        again = pfplan(*words, self.folder / "another")
         self.assertEqual(again.status, 0, again.err)
+        self.assertEqual((self.folder / "another/rules").read_bytes(), (into / "rules").read_bytes())
+        refused = pfplan(*words, into)
+        self.assertEqual((refused.status, refused.err.count("which no output may replace")), (2, 1), refused.err)
 
     def test_the_names_are_arguments_and_not_shell_text(self) -> None:
         name = "$(touch here) 'a\"b"

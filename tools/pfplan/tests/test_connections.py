@@ -1,6 +1,7 @@
 """Summaries over drawn rulesets, traces and users: each connection's fate is that of a slow reading (fates_reading.py).
 
-PFPLAN_DRAWN says how many are drawn (300), PFPLAN_SEED which is the first.
+Which states are held before a flush, the machine itself says. PFPLAN_DRAWN says how many are drawn (300), PFPLAN_SEED
+which is the first.
 """
 
 import os
@@ -8,7 +9,10 @@ import random
 import unittest
 from collections import Counter
 from collections.abc import Iterator
+from pathlib import Path
 
+from pfplan.answers.held_states import states_held
+from pfplan.answers.measures import measure
 from pfplan.answers.sides import follow, side_of
 from pfplan.answers.summaries import Wanted, summarize
 from pfplan.commands.words import networks
@@ -42,7 +46,7 @@ class Drawer:
         return self.random.random() < share
 
     def ruleset(self) -> tuple[str, dict[str, str]]:
-        """A rules text, and the rules that flush with `rule` or `global`. States run out only where nothing flushes."""
+        """A rules text, and the rules that flush with `rule` or `global`."""
         lines = [
             f"set limit states {self.random.choice((3, 8, 1000, 1000))}",
             "set timeout { adaptive.start 0, adaptive.end 0 }",
@@ -64,7 +68,7 @@ class Drawer:
             "pass out proto udp flags any",
         ):
             items += [item] if self.chance(0.6) else []
-        if not flushes and self.chance(0.6):
+        if self.chance(0.6):
             lines.append(BRIEF)
         return "".join(f"{it}\n" for it in (*lines, *items)), flushes
 
@@ -97,7 +101,7 @@ class Drawer:
         service = self.random.choice(("80", "80", *PORTS, "443"))
         there, back = (
             f"{address},{port},{server},{service}",
-            f"{self.again(server)},{service},{self.again(address)},{port}",
+            f"{self.again(server)},{self.zeros(service)},{self.again(address)},{self.zeros(port)}",
         )
         protocol = self.random.choice(("tcp", "tcp", "tcp", "udp"))
         is_forwarded, is_out = self.chance(0.3), self.chance(0.15)
@@ -112,8 +116,9 @@ class Drawer:
         ]
         steps = [it for it in steps[: self.random.randint(1, len(steps))] if not self.chance(0.1)]
         steps = [it for step in steps for it in ([step, step] if self.chance(0.15) else [step])]
-        for ends, flags in steps:
-            moment += self.random.choice((0, 0, 1, 1, 3))
+        repeated = self.random.randint(1, 3) if self.chance(0.3) else 0
+        for at, (ends, flags) in enumerate([(there, "S")] * repeated + steps):
+            moment += self.random.choice((1, 2, 4, 8, 300)) if at < repeated else self.random.choice((0, 0, 1, 1, 3))
             direction, interface = ("in", "em0") if (ends is there) != is_out else ("out", "em0")
             hops = [(direction, interface)]
             if is_forwarded:
@@ -132,6 +137,10 @@ class Drawer:
     def again(self, address: str) -> str:
         """The address, maybe written in another way."""
         return address.replace("2001:db8:", "2001:0DB8:") if self.chance(0.5) else address
+
+    def zeros(self, port: str) -> str:
+        """The port, maybe written in another way."""
+        return f"00{port}" if self.chance(0.2) else port
 
 
 class Fates(FolderCase):
@@ -159,16 +168,19 @@ class Fates(FolderCase):
         records = drawer.trace()
         users = drawer.random.choice(USERS)
         rules, trace, report = self.write("rules", text), self.trace(records), self.folder / "report"
-        run_replay(Replay(rules, trace, report))
-        lines = report.read_text("latin-1").splitlines()
-        wanted = Reading(users, flushes).read(records, [it.partition(" ")[2] for it in lines[:-1]])
+        lines = self.replay(rules, records, report)
+        reading = Reading(users, flushes, lambda some: self.texts(rules, some))
+        wanted = reading.read(records, [it.partition(" ")[2] for it in lines[:-1]])
         found: list[tuple[tuple[str, ...], int, str]] = []
+        named = networks(",".join(users))
+        told = flushes_of(items_of(show_rules(rules)))
         side = side_of(
             "rules",
             iter(lines),
-            networks(",".join(users)),
+            named,
             lambda key, row, fate: found.append((key, row, fate)),
-            flushes=flushes_of(items_of(show_rules(rules))),
+            flushes=told,
+            holding=states_held(rules, trace, named, told, []),
         )
         follow(trace, [side], networks(",".join(users)))
         shown = "\n".join([text, *(f"{record}   {line}" for record, line in zip(records, lines, strict=False))])
@@ -181,7 +193,18 @@ class Fates(FolderCase):
             shown,
         )
         self.assertEqual(sum(it.connections for it in counted.refusals), counted.outcomes["refused"])
+        measured = measure(rules, trace, named, 0)
+        self.assertEqual(measured.outcomes, counted.outcomes, shown)
         return [fate for _, _, fate in wanted]
+
+    def replay(self, rules: Path, records: list[str], report: Path) -> list[str]:
+        """The lines of the report of some records."""
+        run_replay(Replay(rules, self.trace(records, f"{report.name}.trace"), report))
+        return report.read_text("latin-1").splitlines()
+
+    def texts(self, rules: Path, records: list[str]) -> list[str]:
+        """What a replay of its own answers to some records."""
+        return [it.partition(" ")[2] for it in self.replay(rules, records, self.folder / "asked")[:-1]]
 
 
 if __name__ == "__main__":

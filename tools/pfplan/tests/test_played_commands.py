@@ -134,7 +134,7 @@ class PlayedCommands(FolderCase):
         )
         found = json.loads(self.output(*words, "--json", "--want", "100%"))
         self.assertEqual([it["name"] for it in found["varied"]], ["max-src-states", "holder.rate"])
-        self.assertGreaterEqual(len(found["runs"]), 9)
+        self.assertLessEqual(len(found["runs"]), 6)
         meets = {tuple(it["values"]): it["meets"] for it in found["runs"]}
         self.assertIn(False, meets.values())
         self.assertIn(True, meets.values())
@@ -145,7 +145,7 @@ class PlayedCommands(FolderCase):
             for low, high in border["serves"]:
                 self.assertTrue(meets[low, border["second"]] and meets[high, border["second"]])
         page = self.folder / "map.html"
-        text = self.output(*words, "--grid", 2, "--runs", 2, "--page", page)
+        text = self.output(*words, "--grid", 2, "--runs", 6, "--page", page)
         self.assertIn("(down), now 50, by holder.rate (across), now 8: share served in per cent\n", text)
         self.assertIn("max-src-states", page.read_text("utf-8"))
 
@@ -187,6 +187,11 @@ class PlayedCommands(FolderCase):
                 ("run", self.rules, self.scenario, "--into", self.folder / "x", "--inside", "192.0.2.0/24"),
                 2,
                 "--inside: ",
+            ),
+            (
+                ("size", self.rules, self.scenario, *"--vary seconds=1..9 --vary holder.rate=1..9 --runs 3".split(" ")),
+                2,
+                "--runs: a map has four pairs or more, and 3 are asked for",
             ),
             (("compare", self.rules, self.open, self.scenario, "--users", "192.0.2.0/24"), 2, "--users: "),
             (("margins", self.rules, self.scenario, "--users", "192.0.2.0/24"), 2, "--users: "),

@@ -2,7 +2,7 @@
 
 import random
 import unittest
-from collections.abc import Callable
+from collections.abc import Callable, Sequence
 
 from pfplan.tests.playing import ONE, Scripted, blocks, lets_in, played, scenario
 from pfplan.traces.scenarios.counts import Count
@@ -128,6 +128,15 @@ class OneClient(unittest.TestCase):
         packets, count = self.play(refuses("in FA", 99))
         self.assertEqual([it for it in packets if "FA" in it], [f"{it} in FA!" for it in (1, 2, 4, 8, 16)])
         self.assertEqual((count.served, list(count.waits), count.gave_up, count.killed), (1, [0], 0, 0))
+
+    def test_vanished(self) -> None:
+        """Who vanishes is served, and sends no FIN."""
+        for requests in (0, 2):
+            packets, count = self.play(lets_in, vanish=100, requests=requests)
+            self.assertEqual([it for it in packets if "FA" in it], [])
+            self.assertEqual((count.served, count.served_at_once, count.gave_up), (1, 1, 0))
+        packets, _ = self.play(lets_in, vanish=0)
+        self.assertEqual(sum("FA" in it for it in packets), 2)
 
     def test_a_question(self) -> None:
         words = {"kind": "query", "from": "198.51.100.7/32", "hosts": 1, "rate": 1, "users": True}
@@ -255,20 +264,8 @@ class EveryPlay(unittest.TestCase):
                     self.assertEqual(len(it.waits), it.served)
                 self.assertLessEqual(it.killed, it.opened if it.group.kind != "visits" else it.connections)
             bad = sum("!" in it for it in firewall.packets())
-            self.assertEqual(
-                sum(one.packets for it in counts for one in it.refused.values()), bad - self.lost_answers(firewall)
-            )
-
-    def lost_answers(self, firewall: Scripted) -> int:
-        """SYN|ACK packets to forged addresses that did not go through: they are of no group."""
-        forged = {
-            (it.split(",")[4], it.split(",")[5])
-            for it in firewall.asked
-            if it.split(",")[1] == "in" and it.split(",")[8] == "S"
-        }
-        sure = {it for it in forged if not it[0].startswith(("198.51.100.", "203.0.113.", "2001:"))}
-        answers = [it.split(",") + [text] for it, text in zip(firewall.asked, firewall.texts)]
-        return sum((it[6], it[7]) in sure and it[1] == "out" and not it[9].startswith("pass") for it in answers)
+            # answers to forged SYN packets are of their group too
+            self.assertEqual(sum(one.packets for it in counts for one in it.refused.values()), bad)
 
     def test_order_of_packets(self) -> None:
         """Moments never fall; no client sends data before its SYN was answered; nothing is repeated within its
@@ -306,6 +303,41 @@ class EveryPlay(unittest.TestCase):
             return [it for it in firewall.asked if ",198.51.100." in it]
 
         self.assertEqual(homes(3), homes(300))
+
+    def test_users_begin_within_the_seconds(self) -> None:
+        """Also where the end of their group is later."""
+        groups: Sequence[dict[str, object]] = ({**ONE, "visits": 40}, {**ONE, "every": 2}, GROUPS["asked"])
+        for group in groups:
+            firewall = Scripted(lets_in)
+            played(scenario({"one": {**group, "end": 1000}}), firewall)
+            first = [it.split(" ") for it in firewall.packets()]
+            begun = [int(it[0]) for it in first if it[1] == "in" and it[2] in ("S", "udp")]
+            self.assertGreater(len(begun), 3)
+            self.assertLess(max(begun), 10)
+
+    def test_idle_time_costs_nothing(self) -> None:
+        """Only seconds with something in them are asked about, and how much is held 120 times between them."""
+        firewall = Scripted(lets_in)
+        played(scenario({"one": {**ONE, "visits": 10, "stay": 60}}, seconds=100_000), firewall)
+        self.assertLess(firewall.calls, 400)
+        moments = [int(it.split(",")[0]) for it in firewall.asked if ",held," in it]
+        self.assertLess(len(moments), 200)
+        self.assertEqual(moments, sorted(set(moments)))
+
+    def test_held_is_asked_at_the_end_of_each_second(self) -> None:
+        firewall = Scripted(lets_in)
+        played(scenario({"forged": {**GROUPS["forged"], "end": 3}, "one": ONE}, seconds=4, seed=5), firewall)
+        asked = [it.split(",")[:2] for it in firewall.asked]
+        for before, after in zip(asked, asked[1:]):
+            if before[0] != after[0]:
+                self.assertEqual(before[1], "held", (before, after))
+
+    def test_hosts_that_are_shut_out(self) -> None:
+        """Of two hosts of a group one is never let in."""
+        words = {"kind": "visits", "from": "198.51.100.0/29", "hosts": 2, "visits": 3, "reloads": 0, "patience": 2}
+        firewall = Scripted(lambda record, before: "block @0" if ",198.51.100.1," in record else "pass @0")
+        count = played(scenario({"homes": words}), firewall).counts[0]
+        self.assertEqual((count.served, len(count.hosts), len(count.served_hosts)), (3, 2, 1))
 
     def test_rate(self) -> None:
         for rate in (1, 7, 0.25, 99.5, 1000):

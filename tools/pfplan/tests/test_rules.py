@@ -9,6 +9,7 @@ from pathlib import Path
 
 from pfplan.__main__ import main
 from pfplan.common.errors import Trouble
+from pfplan.common.listings import NAME as LIST
 from pfplan.common.repository import TOP, program
 from pfplan.pf.conversion import RuleOptions, convert, convert_text
 from pfplan.pf.left_out import Leftover
@@ -83,10 +84,16 @@ class Rulesets(unittest.TestCase):
         with tempfile.TemporaryDirectory() as folder, contextlib.redirect_stderr(io.StringIO()):
             source, made = Path(folder, "pf.conf"), Path(folder, "made")
             source.write_text("pass in on em0\nblock frob\n", "utf-8")
-            made.write_text("kept\n", "utf-8")
-            self.assertEqual(main(["rules", str(source), "--out", str(made)]), 3)
-            self.assertEqual(made.read_text("utf-8"), "kept\n")
-            self.assertEqual(sorted(it.name for it in Path(folder).iterdir()), ["made", "pf.conf"])
+            words = ["rules", str(source), "--out", str(made)]
+            self.assertEqual(main(words), 3)
+            self.assertEqual([it.name for it in Path(folder).iterdir()], ["pf.conf"])
+            source.write_text("pass in on em0\n", "utf-8")
+            self.assertEqual(main(words), 0)
+            kept = made.read_text("utf-8")
+            source.write_text("pass in on em0\nblock frob\n", "utf-8")
+            self.assertEqual(main(words), 3)
+            self.assertEqual(made.read_text("utf-8"), kept)
+            self.assertEqual(sorted(it.name for it in Path(folder).iterdir()), [LIST, "made", "pf.conf"])
 
     def test_too_many_rules(self) -> None:
         """More rules than pfsrc takes are refused, and so are lists that would never end."""

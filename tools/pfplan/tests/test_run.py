@@ -137,7 +137,8 @@ class Running(FolderCase):
     def test_what_is_missing_is_said_first(self) -> None:
         rules = self.write("pf.conf", "block all\npass in on egress proto tcp to port 80\n")
         done = self.run_it(rules, self.records)
-        self.assertTrue(done.out.startswith(f"missing: that egress is a group ({rules}:2): only records"), done.out)
+        self.assertTrue(done.out.startswith("in doubt: 1 thing is missing that the rules need: that egress"), done.out)
+        self.assertIn(f"\nmissing: that egress is a group ({rules}:2): only records", done.out)
         self.assertIn("give --interface egress=IF or --ifconfig (pf passes more)", done.out)
         page = self.files()["report.html"]
         self.assertLess(page.index("give --interface egress=IF"), page.index("of the users"))
@@ -166,16 +167,19 @@ class Folders(FolderCase):
         place = self.folder / "place"
         place.mkdir()
         (place / "a").write_text("old", "utf-8")
-        with self.assertRaises(ZeroDivisionError), whole_folder(place, ("a", "b")) as made:
+        with self.assertRaises(ZeroDivisionError), whole_folder(place) as made:
             (made / "a").write_text("new", "utf-8")
             raise ZeroDivisionError
         self.assertEqual(((place / "a").read_text("utf-8"), self.left()), ("old", ["place"]))
-        with whole_folder(place, ("a", "b")) as made:
+        with whole_folder(place) as made:
             (made / "b").write_text("new", "utf-8")
-        self.assertEqual((sorted(it.name for it in place.iterdir()), self.left()), (["b"], ["place"]))
+        self.assertEqual((sorted(it.name for it in place.iterdir()), self.left()), ([".pfplan", "a", "b"], ["place"]))
+        with whole_folder(place) as made:
+            (made / "c").write_text("new", "utf-8")
+        self.assertEqual(sorted(it.name for it in place.iterdir()), [".pfplan", "a", "c"])
 
     def test_folders_above(self) -> None:
-        with whole_folder(self.folder / "x" / "y", ()) as made:
+        with whole_folder(self.folder / "x" / "y") as made:
             (made / "a").write_text("new", "utf-8")
         self.assertEqual((self.folder / "x/y/a").read_text("utf-8"), "new")
 

@@ -3,6 +3,7 @@ the same report."""
 
 import json
 import random
+import re
 import subprocess
 import unittest
 from pathlib import Path
@@ -72,6 +73,12 @@ MISTAKES = (
     (HEAD + "group = { a = 3 }\n", "group.a: wanted a table, as [group.a]"),
     ("time,dir,if,proto,src,sport,dst,dport,flags\n", "a trace, where a scenario is wanted"),
     ("", "an empty file, where a scenario is wanted"),
+    (f"seconds = {'1' * 5000}\n" + HOMES, "a number of more than 4,300 digits"),
+    (
+        HEAD.replace("10", "0x" + "f" * 5000) + HOMES,
+        "the head: seconds: wanted a whole number from 1 to 1000000; there is a number of more than 4,300 digits",
+    ),
+    (HEAD + HOMES + "vanish = 101\n", "group.homes: vanish: wanted a whole number from 0 to 100; there is 101"),
 )  # fmt: skip
 RULES = """set limit states 40
 table <bad> persist
@@ -168,6 +175,11 @@ class Reading(FolderCase):
             (homes.people, homes.visits, homes.retries, homes.patience, homes.reloads, homes.users),
             (3, 1, 6, 30, 1, True),
         )
+        self.assertEqual((homes.stay, homes.vanish), (60, 0))
+        self.assertEqual(
+            [it.address.version for it in homes.to],
+            [4, 4],
+        )
         self.assertEqual([it.shown() for it in homes.to], ["192.0.2.1:80", "192.0.2.1:443"])
 
     def test_the_example_that_is_printed(self) -> None:
@@ -253,12 +265,108 @@ class Command(FolderCase):
             self.assertEqual(again, kept[1].read_bytes(), rules)
             self.assertEqual(end.rows, again.count(b"\n") - 1)
 
+    def laid(self, *records: str, seconds: int = 10) -> tuple[int, str]:
+        """A play over which a trace of some records is laid."""
+        self.trace(records)
+        text = HEAD.replace("10", str(seconds)) + HOMES.replace("hosts", "stay = 1\nhosts")
+        return self.play(text + '[group.real]\nkind = "trace"\nfile = "trace"\n', self.write("rules", "pass\n"))
+
+    def test_faults_of_a_trace_that_is_laid_over_it(self) -> None:
+        """They name the user's file and row, and the folder has no trace."""
+        good = "5,in,em0,tcp,192.0.2.77,5000,192.0.2.1,80,S"
+        for bad, said in (
+            ("5,in,em0,tcp,192.0.2.777,5000,192.0.2.1,80,S", "row 2: field 5"),
+            ("5,in,em0", "row 2: columns"),
+            ("4" + good[1:], "row 2: time falls"),
+            ("x" + good[1:], "row 2: field 1"),
+            ("5,add,bad,,198.51.100.0/24,,,,", "row 2: an administrator's record, which a play does not take"),
+            ("5,held,,,,,,,", "row 2: 'held', an administrator's record, which a play does not take"),
+        ):
+            with self.subTest(said):
+                status, told = self.laid(good, bad)
+                self.assertEqual((status, told), (1, f"pfplan play: {self.folder}/trace: {said}\n"))
+                self.assertFalse((self.folder / "out/rules/trace.csv").exists())
+
+    def test_records_of_a_trace_that_are_not_played(self) -> None:
+        records = [f"{it},in,em0,tcp,192.0.2.77,{5000 + it},192.0.2.1,80,S" for it in range(400)]
+        for count, seconds in ((8, 10), (400, 5)):
+            self.assertEqual(self.laid(*records[:count], seconds=seconds), (0, ""))
+            group = json.loads((self.folder / "out/rules/summary.json").read_text("utf-8"))["groups"][1]
+            self.assertEqual(group["packets"] + group["not_played"], count)
+            self.assertEqual(group["not_played"] > 0, count == 400)
+            text = (self.folder / "out/summary.txt").read_text("utf-8")
+            self.assertEqual("not played: the play was over" in text, count == 400)
+        page = (self.folder / "out/report.html").read_text("utf-8")
+        self.assertIn("of its trace came after the play was over", page)
+
+    def test_the_most_states(self) -> None:
+        """Each second's purge takes out all that were made in the one before: at its end the limit is met."""
+        rules = "set limit states 60\nset timeout { tcp.first 1, tcp.opening 1, interval 1 }\npass\n"
+        flood = '[group.forged]\nkind = "syn"\nfrom = "203.0.113.0/24"\nrate = 90\n'
+        self.assertEqual(self.play(HEAD + flood, self.write("rules", rules)), (0, ""))
+        found = json.loads((self.folder / "out/rules/summary.json").read_text("utf-8"))
+        self.assertEqual((found["most_held"], found["limit_met"]), (60, True))
+        self.assertRegex((self.folder / "out/summary.txt").read_text("utf-8"), "most states held +60, limit met")
+
+    def test_who_is_shut_out_stands_first(self) -> None:
+        office = '[group.office]\nkind = "visits"\nfrom = "203.0.113.5/32"\nhosts = 1\npeople = 5\npatience = 3\n'
+        rules = self.write("rules", "pass\nblock in from 203.0.113.5\n")
+        self.assertEqual(self.play(HEAD + HOMES + office, rules), (0, ""))
+        text = (self.folder / "out/summary.txt").read_text("utf-8")
+        self.assertIn(
+            "shut out: office (0 of 5 served); 37 % of the users' connections are served without waiting, "
+            "37 % in the end",
+            text,
+        )
+        rules = self.write("rules", "pass\nblock in from 198.51.100.1\n")
+        self.assertEqual(self.play(HEAD + HOMES + "patience = 3\n", rules), (0, ""))
+        self.assertIn("shut out: 1 host of homes's 3; 66 %", (self.folder / "out/summary.txt").read_text("utf-8"))
+
+    def test_seeds(self) -> None:
+        """Each seed is played; the first is the scenario's own, whose files are kept."""
+        scenario_text = HEAD + HOMES.replace("hosts = 3", "hosts = 40\nstay = 2") + BOTS
+        words = self.write("s.toml", scenario_text), self.write("rules", "set limit states 30\npass\n")
+        done = pfplan("play", *words, "--into", self.folder / "many", "--seeds", 3)
+        self.assertEqual((done.status, done.err), (0, ""))
+        many = json.loads((self.folder / "many/rules/summary.json").read_text("utf-8"))
+        self.assertEqual([many["seed"], *(it["seed"] for it in many["other_seeds"])], [1, 2, 3])
+        second = self.write("s2.toml", "seed = 2\n" + scenario_text)
+        self.assertEqual(pfplan("play", second, words[1], "--into", self.folder / "one").status, 0)
+        one = json.loads((self.folder / "one/rules/summary.json").read_text("utf-8"))
+        keys = ("name", "connections", "served", "served_without_waiting", "gave_up")
+        self.assertEqual(many["other_seeds"][0]["groups"], [{it: group[it] for it in keys} for group in one["groups"]])
+        text = (self.folder / "many/summary.txt").read_text("utf-8")
+        self.assertIn("3 seeds from 1 on: median (lowest to highest)", text)
+        self.assertRegex(text, r"served without waiting +\d+ % \(\d+ % to \d+ %\)")
+        self.assertNotRegex(text, r"\d\.\d %")
+
+    def test_a_play_that_is_too_large(self) -> None:
+        """It is refused before it begins: words that are small alone can be too many together."""
+        large = HEAD.replace("10", "1000000") + HOMES + "people = 1000000\nvisits = 100000\nparallel = 100\n"
+        rules = self.write("rules", "pass\n")
+        status, said = self.play(large, rules)
+        self.assertEqual(status, 2)
+        self.assertIn("some 150,000,000,000,000 records are expected, 150,000,000,000,000 of them of group homes", said)
+        self.assertFalse((self.folder / "out").exists())
+        small = self.write("small.toml", HEAD + HOMES)
+        for words in (
+            ("play", small, rules, "--into", self.folder / "out"),
+            ("compare", rules, rules, small),
+            ("size", rules, small, "--vary", "homes.people=3..9"),
+        ):
+            done = pfplan(*words, "--most", 20)
+            self.assertEqual((done.status, done.out), (2, ""), words)
+            self.assertIn("some 45 records are expected", done.err)
+        done = pfplan("size", rules, small, "--vary", "homes.people=3..900000", "--most", 1000)
+        self.assertIn("some 13,500,000 records are expected", done.err)
+
     def test_numbers_for_machines(self) -> None:
         self.assertEqual(self.play(HEAD + HOMES + BOTS, self.write("rules", RULES)), (0, ""))
         summary = json.loads((self.folder / "out/rules/summary.json").read_text("utf-8"))
         self.assertEqual([it["name"] for it in summary["groups"]], ["homes", "bots"])
         self.assertEqual(summary["groups"][0]["connections"], 3)
-        self.assertEqual(summary["held"][0], {"moment": 0, "states": 0, "nodes": 0, "entries": 0})
+        self.assertEqual(summary["held"][0]["moment"], 0)
+        self.assertEqual(summary["most_held"], max(it["states"] for it in [*summary["held"], summary["end"]]))
 
     def test_entries_by_records(self) -> None:
         """A table that a rules text can't hold comes by records, which stand in the trace that came of the play."""
@@ -283,7 +391,7 @@ class Command(FolderCase):
         done = pfplan(*words, env={"PFSRC": str(script)})
         self.assertEqual((done.status, done.out), (4, ""))
         self.assertEqual(done.err, f"pfplan play: {script}: no memory (rules {self.folder}/out/rules/rules)\n")
-        self.assertEqual(sorted(it.name for it in (self.folder / "out/rules").iterdir()), ["left-out.txt", "rules"])
+        self.assertFalse((self.folder / "out").exists())
 
     def test_rules_refused(self) -> None:
         status, said = self.play(HEAD + HOMES, self.write("rules", "pass in port 80\n"))
@@ -324,7 +432,7 @@ class Command(FolderCase):
         for name in ("crawler", "dns", "office"):
             rules = [folder / f"{name}-{it}.conf" for it in ("first", "better")]
             done = pfplan("play", folder / f"{name}.toml", *rules, "--into", self.folder / "out")
-            shares = [it.split(": ")[1].split(" of the users")[0] for it in done.out.splitlines()[:2]]
+            shares = [re.findall(r"(\S+ %) of the users", it)[0] for it in done.out.splitlines()[:2]]
             self.assertEqual(shares, documented[name], name)
 
     def test_examples(self) -> None:

@@ -1,15 +1,18 @@
 """Which values are tried, and what is said of the curve."""
 
+import re
 import unittest
+from collections.abc import Callable, Sequence
 from fractions import Fraction
 
-from pfplan.answers import grids
+from pfplan.answers import grids, maps
 from pfplan.answers.changed_rules import Number
 from pfplan.answers.measures import Measure
 from pfplan.answers.sizes import Sizing, Vary, search
 from pfplan.commands.size import vary_word
 from pfplan.commands.words import share_word
-from pfplan.pages import size_texts
+from pfplan.common.errors import Trouble
+from pfplan.pages import map_texts, size_texts
 
 
 def measure(served: int, connections: int = 1000, refused: str = "") -> Measure:
@@ -87,6 +90,58 @@ class Searching(unittest.TestCase):
         self.assertTrue(any(42 <= it <= 46 for it in found))
 
 
+class Maps(unittest.TestCase):
+    """Maps of two numbers."""
+
+    def map_of(self, served: Callable[[int, int], bool], now: tuple[int, int], runs: int = 60) -> maps.Map:
+        """A map of numbers from 1 to 100, with the present values."""
+        varies = Vary("max", 1, 100), Vary("bots.rate", 1, 10)
+        grid = maps.grids_of(varies, now, 5, runs)
+
+        def measured(pairs: Sequence[maps.Pair]) -> list[Measure]:
+            return [measure(1000 if served(*it) else 700) for it in pairs]
+
+        found, is_cut = maps.search(grid, Fraction(99, 100), runs, measured)
+        varied = Number("max", now[0], (1,)), Number("bots.rate", now[1], ())
+        return maps.Map("s.toml", "homes", varied, Fraction(99, 100), found, grid, is_cut)
+
+    def test_runs_are_bounded(self) -> None:
+        for runs in (4, 7, 20, 60):
+            found = self.map_of(lambda first, second: first * second < 200, (40, 5), runs)
+            self.assertLessEqual(len(found.measures), runs)
+            self.assertTrue(found.is_cut or runs == 60)
+        with self.assertRaises(Trouble):
+            self.map_of(lambda first, second: True, (40, 5), 3)
+
+    def test_the_border_is_between_two_values(self) -> None:
+        found = self.map_of(lambda first, second: first <= 37, (40, 5))
+        upper, lower = map_texts.edges(found)
+        self.assertEqual((len(upper), lower), (len(found.grid[1]), []))
+        for second, height in upper:
+            self.assertTrue(37 <= height <= 38, (second, height))
+
+    def test_the_present_values(self) -> None:
+        for now, said, mood in (
+            ((40, 5), "serve 70.0 % of the users, which is too few: 99 % are wanted.", "answer bad"),
+            ((30, 5), "serve 100 % of the users, which is enough.", "answer good"),
+            ((400, 5), "were not tried.", 'answer"'),
+        ):
+            found = self.map_of(lambda first, second: first <= 37, now)
+            place = f"The present values, max {now[0]} and bots.rate 5, "
+            self.assertIn(place + said, map_texts.text_of(found))
+            page = map_texts.page_of(found)
+            self.assertIn(mood, page)
+            self.assertIn(place + said, page)
+
+    def test_colours(self) -> None:
+        """Each pair of the grid has one, and the present one a frame."""
+        found = self.map_of(lambda first, second: first <= 37, (40, 5))
+        page = map_texts.page_of(found)
+        cells = len(found.grid[0]) * len(found.grid[1])
+        self.assertEqual(len(re.findall(r'class="share (?:served|failed)', page)), cells)
+        self.assertEqual(page.count('class="share failed now" style="--lack: 30%">70<'), 1)
+
+
 class Words(unittest.TestCase):
     """The words of the command line."""
 
@@ -118,6 +173,12 @@ class Texts(unittest.TestCase):
         self.assertIn("rises and falls no more than once", text)
         self.assertIn("| now", text)
         self.assertEqual([it[0] for it in text.splitlines()[4:8]], [" ", " ", "*", "*"])
+
+    def test_the_present_value_fails(self) -> None:
+        failing = self.sizing({10: 500, 40: 989, 41: 995, 90: 1000})
+        self.assertIn("The present value, 40, fails: it serves 98.9 %.", size_texts.text_of(failing))
+        self.assertIn("answer bad", size_texts.page_of(failing))
+        self.assertNotIn("fails", size_texts.text_of(self.sizing({10: 500, 40: 995})))
 
     def test_not_once(self) -> None:
         text = size_texts.text_of(self.sizing({10: 995, 40: 900, 90: 1000}))

@@ -6,13 +6,16 @@ from collections.abc import Sequence
 from unittest import mock
 
 from pfplan.answers import sources
+from pfplan.answers.comparisons import Asked, compare
 from pfplan.answers.connections import Connections, Refusal, Reply
+from pfplan.answers.measures import measure
 from pfplan.answers.sources import Sources
 from pfplan.answers.summaries import Summary, Users, Wanted, summarize, summarize_blocks
 from pfplan.commands.words import networks
 from pfplan.common.errors import Trouble
 from pfplan.common.repository import TOP
 from pfplan.pages.summary_texts import share, text_of
+from pfplan.replays.runs import Replay, run_replay
 from pfplan.tests.support import FolderCase, pfplan
 from pfplan.traces.records import WORDS, blocks_of_lines
 
@@ -111,7 +114,12 @@ class Summaries(FolderCase):
         )
         report = self.report(["new @0", "state @0", "state @0"])
         self.assertEqual(outcomes(summarize(report, Wanted(trace, networks("2001:db8::/64")))), {"served": 1})
-        again = self.trace(["1,in,em0,udp,2001:db8::1,1000,2001:db8:f::1,53,"] * 3)
+        asked, answer = (
+            f"1,{way},em0,udp,{ends}," for way, ends in (
+                ("in", "2001:db8::1,1000,2001:db8:f::1,53"), ("out", "2001:db8:f::1,53,2001:db8::1,1000")
+            )
+        )  # fmt: skip
+        again = self.trace([asked, answer, asked])
         summary = summarize(report, Wanted(again, networks("192.0.2.0/24,2001:db8::/64")))
         self.assertEqual(outcomes(summary), {"served": 1})
 
@@ -255,7 +263,7 @@ class Fates(FolderCase):
             "state @1",
             "kill:max-src-conn-rate @1 overload=added killed=2",
         ]
-        self.assertEqual(self.fates(records, texts), {"served": 1, "killed": 2})
+        self.assertEqual(self.fates(records, texts, rules=None), {"served": 1, "killed": 2})
 
     def test_both_ends_are_users(self) -> None:
         users = "198.51.100.0/24,192.0.2.0/24"
@@ -303,6 +311,87 @@ class Fates(FolderCase):
             records, ["new @1", "state @1", "kill:max-src-conn-rate @1 overload=added killed=1", "block @0", "block @0"]
         )
         self.assertEqual(found.refusals, [Refusal("block", "@0", 2, 1, ("kill:max-src-conn-rate", "@1"), 7, 7)])
+
+    def test_a_repeated_syn_after_a_flush(self) -> None:
+        """Eight connections, five of which are flushed half open, and their SYN repeated: they are eight."""
+        half = [packet(f"1:{port}>s1:80", "S") for port in (1, 2, 3, 4, 5)]
+        others = [it for port in (6, 7, 8) for it in handshake(port, 1)]
+        again = [packet(f"1:{port}>s1:80", "S", 2) for port in (1, 2, 3, 4, 5)]
+        kill = "kill:max-src-conn-rate @1 overload=added killed=8"
+        texts = ["new @1"] * 5 + ["new @1", "state @1", "state @1"] * 2 + ["new @1", "state @1", kill]
+        found = self.users([*half, *others, *again], [*texts, *["block @0"] * 5])
+        self.assertEqual((found.connections, found.outcomes["killed"]), (8, 8))
+        # one of them is let in again, and served
+        served = handshake(1, 3)
+        records = [*half, *others, *again, *served]
+        self.assertEqual(
+            self.fates(records, [*texts, *["block @0"] * 5, "new @1", "state @1", "state @1"]),
+            {"killed": 7, "served": 1},
+        )
+
+    def test_the_fourth_syn_is_served(self) -> None:
+        records = [packet("1:1>s1:80", "S", moment) for moment in (0, 4, 12)] + handshake(1, 28)
+        texts = ["new @1", "drop:states @1", "drop:states @1", "new @1", "state @1", "state @1"]
+        self.assertEqual(self.fates(records, texts), {"served": 1})
+        self.assertEqual(self.fates(records[:3], texts[:3]), {"cut": 1})
+
+    def test_another_connection_of_the_same_ports(self) -> None:
+        there, back = "1:1>s1:80", "s1:80>1:1"
+        syn = packet(there, "S", 60)
+        new = ["new @1", "state @1", "state @1"]
+        self.assertEqual(self.fates([*handshake(1), syn], [*new, "new @1"]), {"served": 1, "unanswered": 1})
+        self.assertEqual(self.fates([*handshake(1), syn], [*new, "state @1"]), {"served": 1})
+        refused = packet(back, "RA", 1, "out,em0")
+        self.assertEqual(
+            self.fates([packet(there, "S"), refused, syn], ["new @1", "state @1", "state @1"]), {"unanswered": 2}
+        )
+        quiet = [packet(there, "S", moment) for moment in (0, 239)]
+        self.assertEqual(self.fates(quiet[:1] + [syn], ["block @0", "block @0"]), {"refused": 1})
+        later = [packet(there, "S", 0), packet(there, "S", 240)]
+        report = self.report(["block @0", "block @0"])
+        for records, count in ((quiet, 1), (later, 2)):
+            found = summarize(report, Wanted(self.trace(records), USERS)).users
+            assert found is not None
+            self.assertEqual(found.outcomes["refused"], count)
+
+    def test_a_question_without_an_answer(self) -> None:
+        asked = "0,in,em0,udp,198.51.100.1,0009,192.0.2.1,53,"
+        answer = "0,out,em0,17,192.0.2.1,0053,198.51.100.1,9,"
+        self.assertEqual(self.fates([asked, asked], ["new @2", "state @2"]), {"unanswered": 1})
+        self.assertEqual(self.fates([asked, answer], ["new @2", "state @2"]), {"served": 1})
+        late = asked.replace("0,in", "98,in", 1)
+        self.assertEqual(self.fates([late], ["new @2"]), {"late": 1})
+
+    def test_ports_are_numbers(self) -> None:
+        records = handshake(1)
+        records[2] = records[2].replace(",80,", ",0080,").replace(",1,", ",01,", 1)
+        self.assertEqual(self.fates(records, ["new @1", "state @1", "state @1"]), {"served": 1})
+
+
+class States(FolderCase):
+    """Whose states a kill took, as the machine holds them."""
+
+    def test_a_state_that_had_run_out_is_not_killed(self) -> None:
+        rules = self.write(
+            "rules",
+            "set timeout { tcp.first 3, interval 1 }\ntable <bad> persist\n"
+            "pass in proto tcp to any port 80 keep state (max-src-conn 1, overload <bad> flush)\n",
+        )
+        records = [*handshake(1, 1), packet("1:2>s1:80", "S", 8), *handshake(3, 20), packet("1:1>s1:80", "A", 40)]
+        trace = self.trace(records)
+        report = self.folder / "report"
+        run_replay(Replay(rules, trace, report))
+        self.assertIn("7 kill:max-src-conn @0 overload=added killed=2", report.read_text("latin-1"))
+        summary = summarize(report, Wanted(trace, USERS, rules))
+        self.assertEqual(outcomes(summary), {"killed": 2, "unanswered": 1})
+        self.assertEqual(sum(it.tried for it in summary.steps), 3)
+        self.assertEqual(measure(rules, trace, USERS, 2).outcomes["killed"], 2)
+        other = self.write("other", "pass in proto tcp keep state (max-src-conn 9, overload <bad> flush)\n")
+        with self.assertRaises(Trouble) as raised:
+            summarize(report, Wanted(trace, USERS, other))
+        self.assertIn("not the report of", raised.exception.message)
+        found = compare(["a", "b"], [rules, rules], trace, [[], []], Asked(USERS))
+        self.assertEqual([it.outcomes["killed"] for it in found.measures], [2, 2])
 
 
 class Bounds(unittest.TestCase):

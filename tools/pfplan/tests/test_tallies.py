@@ -7,7 +7,7 @@ from pathlib import Path
 from typing import Any
 from unittest import mock
 
-from pfplan.answers import tallies
+from pfplan.answers import measures, tallies
 from pfplan.answers.sides import Side, follow, side_of
 from pfplan.answers.tallies import tally, trace_texts
 from pfplan.commands.words import networks
@@ -29,7 +29,7 @@ USERS = ("198.51.100.0/24", "198.51.100.3", "0.0.0.0/0", "198.51.100.1,198.51.10
 def blocks_of(size: int) -> Iterator[None]:
     """Blocks of so many bytes are read."""
     with ExitStack() as stack:
-        for module in (records, runs, tallies):
+        for module in (measures, records, runs, tallies):
             stack.enter_context(mock.patch.object(module, "BLOCK", size))
         yield
 
@@ -83,6 +83,22 @@ class Counts(FolderCase):
                     one, other = self.both(many if seed % 2 else rules, trace, users, moments, entries)
                 self.assertEqual(one, other)
                 self.assertIsInstance(one, tuple)
+
+    def test_only_what_turns_is_counted(self) -> None:
+        """A change that leaves all answers is replayed, and not counted; what comes of each is as of itself alone."""
+        trace = self.trace(drawn_records(5, 400))
+        more = ("", "set timeout tcp.established 86399\n", "set limit states 4\n", "", "block quick proto udp\n")
+        texts = [RULES + it for it in more]
+        paths = [self.write(f"rules-{at}", text) for at, text in enumerate(texts)]
+        users = networks(USERS[0])
+        for size in (60, 700, 1 << 19):
+            for moments in (0, 3):
+                with blocks_of(size), asking(trace, moments, ()) as asked:
+                    alone = [measures.measure(it, trace, users, moments) for it in paths]
+                    with measures.Measurer(trace, users, asked) as measurer:
+                        with mock.patch.object(measures, "tally", wraps=tally) as counted:
+                            self.assertEqual([measurer.measure(it) for it in paths], alone)
+                    self.assertEqual(counted.call_count, 3)
 
     def test_odd_traces(self) -> None:
         """Other line ends, blank lines and no last line end are read alike; a quote, a fault and no records are told

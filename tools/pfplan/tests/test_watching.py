@@ -332,7 +332,7 @@ class Watching(FolderCase):
         )
         self.assertEqual(done.returncode, Status.FAILED)
         self.assertEqual(done.stderr.decode().splitlines()[-1], f"pfplan watch: {program}: no memory (rules new.conf)")
-        self.assertEqual(sorted(it.name for it in self.into.iterdir()), ["left-out.txt", "rules"])
+        self.assertFalse(self.into.exists())
 
 
 class Counts(unittest.TestCase):
@@ -384,9 +384,9 @@ class Counts(unittest.TestCase):
         # the one that went on talking was kept
         self.assertEqual(connections.forgotten, len(ended))
         self.assertGreater(connections.forgotten, 970)
-        self.assertEqual({it for _, it in ended}, {"served"})
+        self.assertEqual({it for _, it in ended}, {"unanswered"})
         connections.finish()
-        self.assertEqual(connections.outcomes, Counter(served=1001))
+        self.assertEqual(connections.outcomes, Counter(unanswered=998, late=3))
 
     def test_forgotten_connections_are_told(self) -> None:
         view = View("x.conf", End(0, 1, 1, 0), {"states": 5}, {}, {}, 0, 0, (), Counter(served=1), (), 1234)

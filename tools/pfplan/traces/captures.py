@@ -8,12 +8,11 @@ import subprocess
 import tempfile
 from collections.abc import Iterable, Iterator, Sequence
 from pathlib import Path
-from typing import IO
+from typing import IO, TextIO
 
 from pfplan.common.errors import Status, Trouble, reason_of
 from pfplan.common.inputs import Kind, kind_of
 from pfplan.common.networks import Network
-from pfplan.common.outputs import whole_file
 from pfplan.common.repository import check_program, program
 from pfplan.traces.accounts import NEITHER_WAY, frames_of, reasons_of
 
@@ -36,12 +35,12 @@ def check_capture(path: Path, name: Path | str | None = None) -> None:
 
 
 def make_trace(
-    capture: Path, inside: Sequence[Network], trace: Path | None, *, name: str | None = None, macs: Sequence[str] = (),
-    told: Path | None = None, is_zero: bool = False, is_partial: bool = False, shown: Path | str | None = None,
+    capture: Path, inside: Sequence[Network], out: TextIO, *, name: str | None = None, macs: Sequence[str] = (),
+    told: TextIO | None = None, is_zero: bool = False, is_partial: bool = False, shown: Path | str | None = None,
     is_log: bool = False,
 ) -> list[str]:  # fmt: skip
-    """Writes the trace of a capture, and answers the lines of the account. Trouble where the capture is refused; then
-    nothing is written.
+    """Writes the trace of a capture, and answers the lines of the account. Trouble where the capture is refused: what
+    was written until then is not whole.
 
     `name` is the interface of every record, and `macs` are its addresses on its Ethernet, by which directions are sure.
     `told` gets pf's own answers. With `is_zero` moments count from the first record's. With `is_partial` a capture that
@@ -51,16 +50,12 @@ def make_trace(
     shown = shown or capture
     if str(capture) != "-":
         check_capture(capture, shown)
-        for word, written in (("--out", trace), ("--told", told)):
-            if written and os.path.realpath(written) == os.path.realpath(shown):
-                raise Trouble(f"{word}: this is the capture")
     check_program("pfstrace")
     words = [program("pfstrace"), *way_words(inside, macs, name)]
     # a name that begins with a hyphen is no option behind a folder's
     named = [] if str(capture) == "-" else [f"./{capture}" if str(capture).startswith("-") else str(capture)]
     with contextlib.ExitStack() as stack:
         answers = ["--told", stack.enter_context(_answers(told))] if told else []
-        out = stack.enter_context(whole_file(trace))
         with _running([*words, *answers, *named], capture, shown, is_partial) as (lines, account):
             out.writelines(from_zero(lines) if is_zero else lines)
         check_account(account, shown, has_inside=is_log or bool(inside))
@@ -111,14 +106,14 @@ def check_account(account: Sequence[str], capture: Path | str, *, has_inside: bo
 
 
 @contextlib.contextmanager
-def _answers(told: Path) -> Iterator[str]:
+def _answers(told: TextIO) -> Iterator[str]:
     """The name of a file for pfstrace to write pf's answers to, which are in `told` once all has ended well. It makes
     that file anew."""
-    with whole_file(told) as whole, tempfile.TemporaryDirectory(prefix="pfplan-") as folder:
+    with tempfile.TemporaryDirectory(prefix="pfplan-") as folder:
         name = Path(folder, "told")
         yield str(name)
         with open(name, encoding="latin-1") as file:
-            shutil.copyfileobj(file, whole)
+            shutil.copyfileobj(file, told)
 
 
 @contextlib.contextmanager

@@ -10,10 +10,10 @@ import hashlib
 import re
 from collections.abc import Collection, Iterable, Iterator, Sequence
 from pathlib import Path
+from typing import TextIO
 
 from pfplan.common.errors import Status, Trouble
 from pfplan.common.inputs import HEADER
-from pfplan.common.outputs import whole_file
 from pfplan.traces.records import Traces
 
 ENDING = ".entries"
@@ -73,12 +73,9 @@ def moved(lines: Sequence[str], names: Collection[str]) -> tuple[list[str], list
     return left, records
 
 
-def write_entries(rules: Path, records: Sequence[str]) -> Path:
-    """Writes the file beside a rules text, and answers its name. Trouble with status 4 where that fails."""
-    path = beside(rules)
-    with whole_file(path) as out:
-        out.writelines(f"{it}\n" for it in (HEADER, *records))
-    return path
+def write_entries(out: TextIO, records: Sequence[str]) -> None:
+    """Writes the file that stands beside a rules text."""
+    out.writelines(f"{it}\n" for it in (HEADER, *records))
 
 
 def read_entries(path: Path) -> list[str]:

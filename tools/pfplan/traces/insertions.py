@@ -8,8 +8,9 @@ import bisect
 import contextlib
 import shutil
 import tempfile
-from collections.abc import Iterator, Sequence
+from collections.abc import Iterator, Mapping, Sequence
 from dataclasses import dataclass, field
+from itertools import accumulate
 from pathlib import Path
 from typing import IO
 
@@ -126,22 +127,24 @@ NOTHING = Asking(None)
 
 
 @contextlib.contextmanager
-def asking(trace: Path, moments: int, entries: Sequence[str] = ()) -> Iterator[Asking]:
+def asking(
+    trace: Path, moments: int, entries: Sequence[str] = (), before: Mapping[int, Sequence[str]] | None = None
+) -> Iterator[Asking]:
     """Puts entries (entries.py) before the first record, and questions how much is held at so many moments, evenly
-    from the first to the last.
+    from the first to the last. Or, with no moments, records of `before` before those of its rows.
 
     The trace is a regular file; where its lines end otherwise than with a line feed, or it has blank ones, a copy is
     replayed, which goes at the end. Trouble as Traces where it is no trace.
     """
     wanted = moments_of(trace, moments)
-    if not wanted and not entries:
+    if not wanted and not entries and not before:
         yield NOTHING
         return
     with contextlib.ExitStack() as stack:
-        places = _places(trace, wanted)
+        places = _places_before(trace, before) if before else _places(trace, wanted)
         if places is None:
             trace = stack.enter_context(_plain(trace))
-            places = _places(trace, wanted) or []
+            places = (_places_before(trace, before) if before else _places(trace, wanted)) or []
         if entries:
             if not places or places[0].behind:
                 places.insert(0, Place(0, len(HEADER) + 1))
@@ -169,7 +172,7 @@ def _places(trace: Path, wanted: Sequence[int]) -> list[Place] | None:
         records, offset = 0, len(HEADER) + 1
         while left and (block := file.read(_BLOCK)):
             block += b"" if block.endswith(b"\n") else file.readline(LONGEST)
-            if b'"' in block or b"\r" in block or block.rfind(b"\n\n") >= 0 or block.startswith(b"\n"):
+            if _is_odd(block):
                 return None
             if _moment_of(block[block.rfind(b"\n", 0, -1) + 1 :]) > left[0]:
                 _place_in(block.splitlines(keepends=True), left, records, offset, places)
@@ -178,6 +181,34 @@ def _places(trace: Path, wanted: Sequence[int]) -> list[Place] | None:
     for moment in left:
         _put(places, Place(records, offset, [_question(moment)]))
     return places
+
+
+def _places_before(trace: Path, records: Mapping[int, Sequence[str]]) -> list[Place] | None:
+    """The places before some rows, with the records that are put there; None where the lines of the trace are not
+    plain.
+    """
+    left = sorted(records, reverse=True)
+    places: list[Place] = []
+    with open(trace, "rb") as file:
+        if file.readline(LONGEST) != f"{HEADER}\n".encode():
+            return None
+        behind, offset = 0, len(HEADER) + 1
+        while left and (block := file.read(_BLOCK)):
+            block += b"" if block.endswith(b"\n") else file.readline(LONGEST)
+            if _is_odd(block):
+                return None
+            lines = block.splitlines(keepends=True)
+            begins = list(accumulate(map(len, lines), initial=0))
+            while left and left[-1] <= behind + len(lines):
+                row = left.pop()
+                places.append(Place(row - 1, offset + begins[row - 1 - behind], list(records[row])))
+            behind, offset = behind + len(lines), offset + len(block)
+    return places
+
+
+def _is_odd(block: bytes) -> bool:
+    """Whether lines are not plain."""
+    return b'"' in block or b"\r" in block or block.rfind(b"\n\n") >= 0 or block.startswith(b"\n")
 
 
 def _place_in(lines: Sequence[bytes], left: list[int], records: int, offset: int, places: list[Place]) -> None:

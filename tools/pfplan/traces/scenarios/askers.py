@@ -36,7 +36,7 @@ class Question:
         self._port = host.take()
         self._there: tuple[str, ...] = ()
         self._back: tuple[str, ...] = ()
-        crew.count.begin()
+        crew.count.begin(host.name)
 
     def open(self) -> None:
         """Asks for the first time."""
@@ -96,7 +96,7 @@ class Question:
             self._host.busy.discard(self._port)
         if is_answered:
             crew.count.opened += 1
-            crew.count.serve(self._began, max(0, crew.world.now - self._began - crew.cycle))
+            crew.count.serve(self._host.name, self._began, max(0, crew.world.now - self._began - crew.cycle))
         else:
             crew.count.give_up(self._began)
         if self._manner.is_awaited:

@@ -87,7 +87,7 @@ class Client:
         self._step = SLOTS
         self._turn = 0
         self._waiting: tuple[str, int] = ("", 0)
-        crew.count.begin()
+        crew.count.begin(host.name)
 
     def open(self) -> None:
         """Begins an attempt, from a new port."""
@@ -204,16 +204,17 @@ class Client:
 
 @dataclass(frozen=True)
 class Habit:
-    """What visitors do: how many requests, how many slots from one to the next, and how often they come back
-    after an attempt that failed."""
+    """What visitors do: how many requests, how many slots from one to the next, how often they come back after an
+    attempt that failed, and whether they go without a FIN."""
 
     requests: int
     gap: int
     reloads: int
+    vanishes: bool = False
 
 
 class Visitor(Client):
-    """A person who asks, waits for each answer, and closes.
+    """A person who asks, waits for each answer, and closes or vanishes.
 
     Served is who has the last answer, or where nothing is asked, who could close.
     """
@@ -257,13 +258,18 @@ class Visitor(Client):
             return
         if self._asked < self._habit.requests:
             self.want("PA", self._asked + 1)
+        elif self._habit.vanishes:
+            self.leave()
+            self._serve(self._crew.cycle + self._habit.gap)
+            self._crew.world.going -= 1
         else:
             self.close()
 
     def _serve(self, undisturbed: int) -> None:
         if not self._is_done:
             self._is_done = True
-            self._crew.count.serve(self._began, max(0, self._crew.world.now - self._began - undisturbed))
+            waited = self._crew.world.now - self._began - undisturbed
+            self._crew.count.serve(self._host.name, self._began, max(0, waited))
 
     def closed(self) -> None:
         """It is over."""

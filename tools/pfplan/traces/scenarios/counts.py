@@ -5,6 +5,7 @@ from collections import Counter
 from collections.abc import Sequence
 from dataclasses import dataclass, field
 
+from pfplan.traces.records import read_held
 from pfplan.traces.scenarios.model import Group
 from pfplan.traces.scenarios.worlds import SLOTS, Fate
 
@@ -24,7 +25,9 @@ class Count:
 
     `waits` are those of the connections that were served, in slots; `killed` had been let in and were cut off.
 
-    `prompt`, `late` and `gave_up_at` count connections by the second in which they began.
+    `prompt`, `late` and `lost` count connections by the second in which they began. `hosts` are the addresses of users
+    that wanted one, `served_hosts` those of them that were served at all. `left_over` are records of a trace to which
+    the play did not come.
     """
 
     group: Group
@@ -44,19 +47,26 @@ class Count:
     refused: dict[str, Refusal] = field(default_factory=dict)
     states_killed: int = 0
     overloads: Counter[str] = field(default_factory=Counter)
+    hosts: set[str] = field(default_factory=set)
+    served_hosts: set[str] = field(default_factory=set)
+    left_over: int = 0
 
     @property
     def served_at_once(self) -> int:
         """How many were served within `wait` seconds of what they take undisturbed."""
         return sum(self.prompt.values())
 
-    def begin(self) -> None:
-        """A connection is wanted."""
+    def begin(self, host: str) -> None:
+        """A host wants a connection."""
         self.connections += 1
+        if self.group.users:
+            self.hosts.add(host)
 
-    def serve(self, begin: int, waited: int) -> None:
-        """A connection that began in a slot was served, so many slots later than undisturbed."""
+    def serve(self, host: str, begin: int, waited: int) -> None:
+        """A connection of a host that began in a slot was served, so many slots later than undisturbed."""
         self.served += 1
+        if self.group.users:
+            self.served_hosts.add(host)
         self.waits.append(waited)
         (self.prompt if waited <= self.wait * SLOTS else self.late)[begin // SLOTS] += 1
 
@@ -65,17 +75,17 @@ class Count:
         self.gave_up += 1
         self.lost[begin // SLOTS] += 1
 
-    def refuse(self, fate: Fate, slot: int) -> None:
-        """A packet did not go through."""
+    def refuse(self, fate: Fate, slot: int, packets: int = 1) -> None:
+        """Packets of one fate did not go through."""
         second = slot // SLOTS
         if fate.overload:
-            self.states_killed += fate.killed
-            self.overloads[fate.overload] += 1
+            self.states_killed += fate.killed * packets
+            self.overloads[fate.overload] += packets
         there = self.refused.get(fate.word)
         if there is None:
-            self.refused[fate.word] = Refusal(1, second, second)
+            self.refused[fate.word] = Refusal(packets, second, second)
         else:
-            there.packets += 1
+            there.packets += packets
             there.last = second
 
     def wait_at(self, share: float) -> float | None:
@@ -98,10 +108,25 @@ class Fill:
 
 @dataclass
 class Tally:
-    """What a play comes to: the groups in the scenario's order, and what was held at moments."""
+    """What a play comes to: the groups in the scenario's order, and what was held: of each `step` seconds the moment at
+    which the most states were."""
 
     counts: list[Count]
+    step: int = 1
     fills: list[Fill] = field(default_factory=list)
+
+    def hear_held(self, moment: int, line: str) -> None:
+        """So much is held at the end of a second, as a line of the report says."""
+        held = read_held(line)
+        fill = Fill(moment, held.states, held.nodes, held.entries)
+        if not self.fills or self.fills[-1].moment // self.step != moment // self.step:
+            self.fills.append(fill)
+        elif self.fills[-1].states < fill.states:
+            self.fills[-1] = fill
+
+    def is_met(self, word: str) -> bool:
+        """Whether a limit refused a packet, or an answer to one."""
+        return any(word in it.refused for it in self.counts)
 
     def users(self) -> Sequence[Count]:
         """The groups of users."""

@@ -15,6 +15,9 @@ REQUIRED = object()
 SECONDS = 1_000_000
 HOSTS = 16_777_216
 RATE = 1_000_000
+MOST_SEED = 2_147_483_646
+# what is said of a number that Python does not write out
+TOO_LONG = "a number of more than 4,300 digits"
 
 
 class Wanted(ValueError):
@@ -179,5 +182,8 @@ def shown(value: Any) -> str:
     """A value of a table as it is told."""
     if isinstance(value, bool):
         return "true" if value else "false"
-    whole_text = f'"{value}"' if isinstance(value, str) else str(value)
+    try:
+        whole_text = f'"{value}"' if isinstance(value, str) else str(value)
+    except ValueError:
+        return TOO_LONG
     return whole_text if len(whole_text) <= 60 else whole_text[:57] + ".."

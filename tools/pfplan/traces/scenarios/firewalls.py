@@ -8,6 +8,7 @@ import fcntl
 import os
 import subprocess
 import tempfile
+import time
 from collections.abc import Sequence
 from dataclasses import dataclass
 from pathlib import Path
@@ -22,15 +23,18 @@ from pfplan.traces.records import End, read_answer
 PIPE = 1 << 20
 # Bytes that a record takes at most, and a line of a report. A part of what is asked fits into the pipe, whatever it is.
 LONGEST = 160
+# Lines that are waited for without a pause, and the pause for each where there are more.
+FEW = 4
+SECONDS_A_LINE = 0.000_002
 
 
 class Firewall(Protocol):
     """What decides on packets."""
 
-    def decide(self, records: Sequence[str]) -> list[str]:
-        """The line of the report for each record.
+    def decide(self, texts: Sequence[str], second: str = "") -> list[str]:
+        """The line of the report for each record: these texts behind the second.
 
-        Both are whole lines of a trace and a report; records have their line feeds, lines do not.
+        A text has its line feed; lines have none. Whole records are texts behind no second.
         """
 
     def end(self) -> End:
@@ -93,14 +97,19 @@ class Pfsrc:
         self._process.wait()
         self._errors.close()
 
-    def decide(self, records: Sequence[str]) -> list[str]:
+    def decide(self, texts: Sequence[str], second: str = "") -> list[str]:
         """As `Firewall.decide`. Trouble as the program's own where it ends."""
-        found: list[str] = []
-        for at in range(0, len(records), self._most):
-            part = records[at : at + self._most]
-            self._write("".join(part).encode("latin-1"))
-            found += self._read(len(part))
-        return found
+        if len(texts) <= self._most:
+            return self._ask(texts, second)
+        parts = (texts[at : at + self._most] for at in range(0, len(texts), self._most))
+        return [line for part in parts for line in self._ask(part, second)]
+
+    def _ask(self, texts: Sequence[str], second: str) -> list[str]:
+        """The lines for records that fit into the pipe."""
+        if not texts:
+            return []
+        self._write((second + second.join(texts)).encode("latin-1"))
+        return self._read(len(texts))
 
     def end(self) -> End:
         """As `Firewall.end`. Trouble as the program's own where it does not end well."""
@@ -116,29 +125,36 @@ class Pfsrc:
     def _write(self, records: bytes) -> None:
         if self._kept.trace:
             self._kept.trace.write(records)
-        left = memoryview(records)
         try:
-            while left:
-                left = left[os.write(self._in, left) :]
+            sent = os.write(self._in, records)
+            while sent < len(records):
+                sent += os.write(self._in, memoryview(records)[sent:])
         except BrokenPipeError:
             raise self._trouble() from None
 
     def _read(self, count: int) -> list[str]:
-        """So many lines."""
+        """So many lines.
+
+        The program writes line by line. To wait a little until it has written several costs less than to wake up for
+        each.
+        """
         parts = [self._rest] if self._rest else []
         found = self._rest.count(b"\n")
         while found < count:
-            part = os.read(self._out, PIPE)
+            if count - found > FEW:
+                time.sleep((count - found) * SECONDS_A_LINE)
+            part = os.read(self._out, (count - found) * LONGEST)
             if not part:
                 raise self._trouble()
             parts.append(part)
             found += part.count(b"\n")
-        whole = b"".join(parts)
+        whole = parts[0] if len(parts) == 1 else b"".join(parts)
         lines = whole.decode("latin-1").split("\n")
-        self._rest = "\n".join(lines[count:]).encode("latin-1")
+        self._rest = "\n".join(lines[count:]).encode("latin-1") if found > count or lines[-1] else b""
         if self._kept.report:
             self._kept.report.write(whole[: len(whole) - len(self._rest)] if self._rest else whole)
-        return lines[:count]
+        del lines[count:]
+        return lines
 
     def _trouble(self) -> Trouble:
         """Why the program ended: its own line, with the name of the rules before it."""
@@ -151,6 +167,24 @@ class Pfsrc:
             return Trouble(f"{self._rules}: {said.removeprefix('rules: ')}", Status.RULES)
         ends = {1: Status.REFUSED, 70: Status.NOT_BUILT}
         return Trouble(f"{program()}: {said} (rules {self._rules})", ends.get(status, Status.FAILED))
+
+
+def check_records(trace: Path) -> None:
+    """Trouble with status 1 where a record of a trace is none that the program takes: it says which, and why."""
+    with tempfile.NamedTemporaryFile(prefix="pfplan-", suffix=".conf") as rules:
+        rules.write(b"pass\n")
+        rules.flush()
+        words = [program(), "replay", rules.name, str(trace)]
+        try:
+            done = subprocess.run(words, stdout=subprocess.DEVNULL, stderr=subprocess.PIPE, check=False)
+        except OSError as error:
+            raise Trouble(f"{words[0]}: can't be run: {reason_of(error)}", Status.NOT_BUILT) from None
+    said = done.stderr.decode("latin-1").strip()
+    if done.returncode:
+        if said.endswith(": table"):
+            said = said.removesuffix("table") + "an administrator's record, which a play does not take"
+        ends = {1: Status.REFUSED, 70: Status.NOT_BUILT}
+        raise Trouble(f"{trace}: {said.removeprefix('trace: ')}", ends.get(done.returncode, Status.FAILED))
 
 
 def _grown(pipe: int) -> int:
@@ -169,11 +203,12 @@ class Open:
         self._rows = 0
         self._keep(f"{HEADER}\n")
 
-    def decide(self, records: Sequence[str]) -> list[str]:
+    def decide(self, texts: Sequence[str], second: str = "") -> list[str]:
         """As `Firewall.decide`."""
-        self._keep("".join(records))
+        if texts:
+            self._keep(second + second.join(texts))
         first = self._rows + 1
-        self._rows += len(records)
+        self._rows += len(texts)
         return [f"{row} pass -" for row in range(first, self._rows + 1)]
 
     def end(self) -> End:

@@ -62,7 +62,7 @@ class Flooder(Client):
 
     def _serve(self, undisturbed: int) -> None:
         self._has_all = True
-        self._crew.count.serve(self._began, max(0, self._crew.world.now - self._began - undisturbed))
+        self._crew.count.serve(self._host.name, self._began, max(0, self._crew.world.now - self._began - undisturbed))
         self._end()
 
     def _end(self) -> None:
@@ -72,23 +72,28 @@ class Flooder(Client):
 
 
 class Pace:
-    """How many come in a slot, at a rate a second."""
+    """How many come in a slot, at a rate a second, from a first slot to below a last one; to the end of all without
+    one."""
 
     def __init__(self, rate: Fraction, first: int, last: int | None) -> None:
         self._share = (rate / SLOTS).as_integer_ratio()
-        self.first = first
-        self.last = last
+        self._first = first
+        self._last = last
 
     def of(self, slot: int) -> int:
-        """How many come in this slot."""
-        if slot < self.first or self.last is not None and slot >= self.last:
-            return 0
+        """How many come in this slot, which is one of these."""
         return self._before(slot + 1) - self._before(slot)
+
+    def next(self, slot: int) -> int | None:
+        """The next slot in which one comes, from one on."""
+        part, whole = self._share
+        found = self._first + self._before(max(slot, self._first)) * whole // part
+        return found if self._last is None or found < self._last else None
 
     def _before(self, slot: int) -> int:
         """How many come before a slot: the first comes in the first one."""
         part, whole = self._share
-        return -(-(slot - self.first) * part // whole)
+        return -(-(slot - self._first) * part // whole)
 
 
 class Openers:
@@ -102,6 +107,7 @@ class Openers:
         self._hosts = hosts
         self._addresses = addresses
         self._make = make
+        self.next = pace.next
 
     def emit(self, slot: int) -> tuple[list[Entry], list[Entry]]:
         """Opens the connections of a slot, whose packets come among those of all others."""
@@ -113,15 +119,11 @@ class Openers:
 
 @dataclass(frozen=True)
 class Forgery:
-    """What is forged: the flags, and how many packets come when.
-
-    `backlog` answers SYN packets that come through, after so many slots.
-    """
+    """What is forged: the flags, and how many packets come when. `backlog` answers SYN packets that come through."""
 
     flags: str
     pace: Pace
     backlog: Backlog | None
-    answer: int
 
 
 class Forger:
@@ -142,6 +144,7 @@ class Forger:
         self._before, self._behind = ways[0].parts(self._end)
         is_plain = addresses.version == 4 and len(ways) == 1 and not ways[0].is_forwarded
         self._make = self._plain if is_plain else self._general
+        self.next = forgery.pace.next
 
     def emit(self, slot: int) -> tuple[list[Entry], list[Entry]]:
         """What is sent in a slot: half before what others send, half behind."""
@@ -163,11 +166,7 @@ class Forger:
             return
         self._count.passed += 1
         if self._forgery.backlog is not None:
-            self._world.at(self._world.now + self._forgery.answer, self._hear_plain, source)
-
-    def _hear_plain(self, source: str) -> None:
-        assert self._forgery.backlog is not None
-        self._forgery.backlog.hear((f"{self._ways[0].answers_to}{source},SA\n",))
+            self._forgery.backlog.come((f"{self._ways[0].answers_to}{source},SA\n",))
 
     def _general(self) -> Entry:
         """A packet of either family, to one of several servers, that may be forwarded."""
@@ -183,4 +182,4 @@ class Forger:
             return
         self._count.passed += 1
         if self._forgery.backlog is not None:
-            self._world.at(self._world.now + self._forgery.answer, self._forgery.backlog.hear, back)
+            self._forgery.backlog.come(back)

@@ -10,7 +10,7 @@ from itertools import groupby
 from pathlib import Path
 
 from pfplan.common.errors import Status, Trouble
-from pfplan.traces.records import Traces
+from pfplan.traces.records import ORDERS, Traces
 from pfplan.traces.scenarios.counts import Count
 from pfplan.traces.scenarios.worlds import SLOTS, Entry, Fate, World
 
@@ -19,39 +19,75 @@ class Layer:
     """The records of a trace, those of a second spread evenly over it. The first comes in the group's first second."""
 
     def __init__(self, world: World, count: Count, trace: Path, name: str) -> None:
+        """`name` stands in messages for the trace, which may be made of a capture."""
         self._world = world
         self._count = count
+        self._trace = Traces(trace)
         self._name = name
-        self._seconds = self._by_second(trace)
-        self._held: tuple[int, list[str]] | None = next(self._seconds, None)
-        self._zero = self._held[0] if self._held else 0
-        self.first = count.group.begin * SLOTS
-        self.last = None if count.group.end is None else count.group.end * SLOTS
+        self._row = 0
+        self._first = count.group.begin * SLOTS
+        self._last = None if count.group.end is None else count.group.end * SLOTS
+        self._parts = self._by_slot()
+        self._held = next(self._parts, None)
 
-    def _by_second(self, trace: Path) -> Iterator[tuple[int, list[str]]]:
-        """The records of each second, without their moments."""
-        lines = (it for block in Traces(trace).blocks() for it in block)
-        for second, records in groupby(lines, key=lambda it: it.partition(",")[0]):
-            if not second.isdigit():
-                raise Trouble(f"{self._name}: the moment '{second}' is no number", Status.REFUSED)
-            yield int(second), [it[len(second) :] + "\n" for it in records]
+    def next(self, slot: int) -> int | None:
+        """The slot of the records that come next; None at the end of the trace or of the group's time."""
+        if self._held is None or self._last is not None and self._held[0] >= self._last:
+            return None
+        return self._held[0]
 
     def emit(self, slot: int) -> tuple[list[Entry], list[Entry]]:
         """The records of a slot, before those of others."""
-        if slot < self.first or self.last is not None and slot >= self.last:
-            return [], []
-        second, part = divmod(slot - self.first, SLOTS)
-        while self._held and self._held[0] - self._zero < second:
-            self._held = next(self._seconds, None)
-        if self._held is None or self._held[0] - self._zero > second:
-            return [], []
-        records = self._held[1]
-        mine = records[part * len(records) // SLOTS : (part + 1) * len(records) // SLOTS]
+        assert self._held is not None
+        mine = self._held[1]
+        self._held = next(self._parts, None)
         self._count.packets += len(mine)
         return [(it, self._hear_fate, None) for it in mine], []
+
+    def end(self) -> None:
+        """The play is over: counts the records that it did not come to."""
+        left = 0 if self._held is None else len(self._held[1])
+        self._count.left_over = left + sum(len(records) for _, records in self._parts)
 
     def _hear_fate(self, _: None, fate: Fate) -> None:
         if fate.passes:
             self._count.passed += 1
         else:
             self._count.refuse(fate, self._world.now)
+
+    def _by_slot(self) -> Iterator[tuple[int, list[str]]]:
+        """The slots that have records, and these, without their moments."""
+        zero: int | None = None
+        for second, records in self._by_second():
+            zero = second if zero is None else zero
+            begin = self._first + (second - zero) * SLOTS
+            ends = [(part + 1) * len(records) // SLOTS for part in range(SLOTS)]
+            for part, (low, high) in enumerate(zip([0, *ends], ends)):
+                if low < high:
+                    yield begin + part, records[low:high]
+
+    def _by_second(self) -> Iterator[tuple[int, list[str]]]:
+        """The records of each second. Trouble where one is an administrator's, or comes before the one in front."""
+        before = 0
+        lines = (it for block in self._trace.blocks() for it in block)
+        for second, records in groupby(lines, key=lambda it: it.partition(",")[0]):
+            row = self._row + 1
+            if not (second.isascii() and second.isdigit()):
+                raise Trouble(f"{self._name}: row {row}: the moment '{second[:40]}' is no number", Status.REFUSED)
+            if int(second) < before:
+                raise Trouble(f"{self._name}: row {row}: time falls, from {before} to {int(second)}", Status.REFUSED)
+            before = int(second)
+            found = []
+            for it in records:
+                self._row += 1
+                self._check(it)
+                found.append(it[len(second) :] + "\n")
+            yield before, found
+
+    def _check(self, line: str) -> None:
+        word = line.split(",", 2)[1] if "," in line else ""
+        if word in ORDERS:
+            raise Trouble(
+                f"{self._name}: row {self._row}: '{word}', an administrator's record, which a play does not take",
+                Status.REFUSED,
+            )

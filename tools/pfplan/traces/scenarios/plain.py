@@ -4,6 +4,7 @@ from pathlib import Path
 
 from pfplan.common.outputs import whole_file
 from pfplan.common.progress import Progress
+from pfplan.traces.scenarios.expecting import MOST, check_expected
 from pfplan.traces.scenarios.firewalls import Open
 from pfplan.traces.scenarios.playing import seldom_collected
 from pfplan.traces.scenarios.plays import Play, traces_of
@@ -16,6 +17,7 @@ def write_plain(scenario: Path, out: Path | None) -> None:
     Forged packets get no answer. Trouble as `read_scenario`, or where writing fails.
     """
     read = read_scenario(scenario)
+    check_expected(read, MOST)
     progress = Progress("trace", read.seconds, "seconds")
     try:
         with whole_file(out) as file, traces_of(read) as traces, seldom_collected():

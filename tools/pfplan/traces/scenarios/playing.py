@@ -12,7 +12,7 @@ from dataclasses import dataclass
 from pathlib import Path
 
 from pfplan.common.errors import Status, Trouble
-from pfplan.common.outputs import whole_file
+from pfplan.common.outputs import part_file
 from pfplan.common.progress import Progress
 from pfplan.traces.records import End
 from pfplan.traces.scenarios.counts import Tally
@@ -41,14 +41,20 @@ class Task:
 class Played:
     """What a play came to. `last` is the last second."""
 
+    scenario: Scenario
     tally: Tally
     end: End
     last: int
 
     @property
     def most_held(self) -> int:
-        """The most states at the moments at which the firewall was asked, and at the end."""
+        """The most states at the end of a second in which packets came, and at the end."""
         return max([it.states for it in self.tally.fills] + [self.end.states])
+
+    @property
+    def is_full(self) -> bool:
+        """Whether `set limit states` was met."""
+        return self.tally.is_met("drop:states")
 
 
 def play(task: Task, hear: Callable[[int], None] | None = None) -> Played:
@@ -71,7 +77,7 @@ def play(task: Task, hear: Callable[[int], None] | None = None) -> Played:
         stack.enter_context(seldom_collected())
         game = Play(task.scenario, firewall, task.returning, traces)
         end = game.run(at, task.entries)
-    return Played(game.tally, end, last)
+    return Played(task.scenario, game.tally, end, last)
 
 
 @contextlib.contextmanager
@@ -91,7 +97,7 @@ def _kept(path: Path | None) -> Iterator[Writer | None]:
     if path is None:
         yield None
         return
-    with whole_file(path) as file:
+    with part_file(path) as file:
         yield file.buffer
         file.buffer.flush()
 
@@ -126,8 +132,10 @@ def play_all(tasks: Sequence[Task], jobs: int) -> list[Played]:
 
 
 def _heed() -> None:
-    """A process of a pool: an interrupt from the keyboard reaches it through the first process, which ends it."""
-    signal.signal(signal.SIGINT, signal.SIG_IGN)
+    """A process of a pool: an interrupt, from the keyboard or as the terminal goes, reaches it through the first
+    process, which ends it."""
+    for it in (signal.SIGINT, signal.SIGHUP):
+        signal.signal(it, signal.SIG_IGN)
     signal.signal(signal.SIGTERM, lambda number, frame: sys.exit(int(Status.INTERRUPTED)))
 
 

@@ -10,20 +10,21 @@ from pathlib import Path
 from random import Random
 
 from pfplan.common.inputs import Kind, check_readable, kind_of
+from pfplan.common.outputs import part_file
 from pfplan.traces.captures import make_trace
 from pfplan.traces.moments import step_of
 from pfplan.traces.records import End
 from pfplan.traces.scenarios.askers import Manner, Question
 from pfplan.traces.scenarios.clients import Client, Crew, Habit, Visitor
-from pfplan.traces.scenarios.counts import Count, Fill, Tally
-from pfplan.traces.scenarios.firewalls import Firewall
+from pfplan.traces.scenarios.counts import Count, Tally
+from pfplan.traces.scenarios.firewalls import Firewall, check_records
 from pfplan.traces.scenarios.flooders import Flooder, Forger, Forgery, Openers, Pace
 from pfplan.traces.scenarios.hosts import Addresses, Host, Hosts, Way
 from pfplan.traces.scenarios.laid import Layer
 from pfplan.traces.scenarios.model import Askers, Crowd, Forgers, Group, Holders, Laid, Scenario, Visits
 from pfplan.traces.scenarios.returning import Answer
 from pfplan.traces.scenarios.servers import Backlog
-from pfplan.traces.scenarios.worlds import SLOTS, Emitter, Entry, Fate, World, slots_of
+from pfplan.traces.scenarios.worlds import SLOTS, Asking, Emitter, World, slots_of
 
 
 class Play:
@@ -48,9 +49,9 @@ class Play:
         self._answer = slots_of(scenario.answer)
         self._world = World(firewall, returning, self._lookahead(), scenario.seconds)
         self._hosts = Hosts()
-        self._backlog = Backlog(self._world)
-        self._emitters: list[tuple[int, int | None, Emitter]] = []
-        self.tally = Tally([Count(it, scenario.wait) for it in scenario.groups])
+        self._emitters: list[Emitter] = []
+        self._layers: list[Layer] = []
+        self.tally = Tally([Count(it, scenario.wait) for it in scenario.groups], step_of(0, scenario.seconds))
 
     def _lookahead(self) -> int:
         """Slots within which nobody hears of a packet's fate.
@@ -67,26 +68,13 @@ class Play:
         `hear` hears of the seconds; `entries` are records by which tables get theirs. Trouble as the firewall's.
         """
         self._world.put(entries)
-        if not self._is_plain:
-            self._ask_held()
         for count in self.tally.counts:
             self._place(count)
-        return self._world.run(self._emitters, hear)
-
-    def _ask_held(self) -> None:
-        """Has the firewall asked how much is held, at most 120 times within the scenario's seconds, and as often
-        behind them."""
-        step = step_of(0, self._scenario.seconds)
-
-        def emit(slot: int) -> tuple[list[Entry], list[Entry]]:
-            second, part = divmod(slot, SLOTS)
-            return ([] if part or second % step else [(",held,,,,,,,\n", self._hear_held, second)]), []
-
-        self._emitters.append((0, None, emit))
-
-    def _hear_held(self, second: int, fate: Fate) -> None:
-        numbers = [int(it.rpartition("=")[2]) for it in fate.text.split(" ")[2:]]
-        self.tally.fills.append(Fill(second, *numbers))
+        asking = None if self._is_plain else Asking(self.tally.step, self.tally.hear_held)
+        end = self._world.run(self._emitters, hear, asking)
+        for it in self._layers:
+            it.end()
+        return end
 
     def _place(self, count: Count) -> None:
         """Has a group begin what it does."""
@@ -102,8 +90,8 @@ class Play:
         elif isinstance(group, Forgers):
             self._place_forgers(group, count)
         elif isinstance(group, Laid):
-            layer = Layer(self._world, count, self._traces[group.name], str(group.file))
-            self._emitters.append((layer.first, layer.last, layer.emit))
+            self._layers.append(Layer(self._world, count, self._traces[group.name], str(group.file)))
+            self._emitters.append(self._layers[-1])
 
     def _crew(self, group: Crowd, count: Count, protocol: str, retries: int, patience: int) -> Crew:
         ways = self._ways(group, protocol)
@@ -129,19 +117,22 @@ class Play:
         return Random(f"{self._scenario.seed} {group.name}")
 
     def _last(self, group: Group) -> int | None:
-        """The slot below which a group begins what it does; a flood without an end goes on as long as users do."""
-        if group.end is not None:
-            return group.end * SLOTS
-        return self._scenario.seconds * SLOTS if group.users or self._is_plain else None
+        """The slot below which a group begins what it does: users within the scenario's seconds; a flood without an end
+        as long as they do."""
+        if group.users or self._is_plain:
+            return min(group.end or self._scenario.seconds, self._scenario.seconds) * SLOTS
+        return None if group.end is None else group.end * SLOTS
 
     def _place_visits(self, group: Visits, count: Count) -> None:
         crew = self._crew(group, count, "tcp", group.retries, group.patience)
         gap = group.stay * SLOTS // max(1, group.requests)
-        habit = Habit(group.requests, gap, group.reloads)
+        habits = [Habit(group.requests, gap, group.reloads, it) for it in (False, True)]
+        vanishing = Random(f"{self._scenario.seed} {group.name} vanish")
         names = Addresses(group.origin, group.hosts)
         first, last = group.begin * SLOTS, self._last(group) or 0
 
         def visit(host: int) -> None:
+            habit = habits[group.vanish > 0 and vanishing.random() * 100 < group.vanish]
             for _ in range(group.parallel):
                 Visitor(crew, self._hosts.of(names.name(host)), habit).open()
 
@@ -151,8 +142,7 @@ class Play:
 
     def _open(self, group: Holders | Askers, crew: Crew, make: Callable[[Host], Client | Question]) -> None:
         pace = Pace(group.rate, group.begin * SLOTS, self._last(group))
-        openers = Openers(crew, pace, self._hosts, Addresses(group.origin, group.hosts), make)
-        self._emitters.append((pace.first, pace.last, openers.emit))
+        self._emitters.append(Openers(crew, pace, self._hosts, Addresses(group.origin, group.hosts), make))
 
     def _place_askers(self, group: Askers, count: Count) -> None:
         crew = self._crew(group, count, "udp", group.retries, 0)
@@ -169,11 +159,10 @@ class Play:
         pace = Pace(group.rate, group.begin * SLOTS, self._last(group))
         is_tcp = group.kind == "syn"
         ways = self._ways(group, "tcp" if is_tcp else "udp")
-        backlog = self._backlog if is_tcp and not self._is_plain else None
-        forgery = Forgery("S" if is_tcp else "", pace, backlog, self._answer)
+        backlog = Backlog(self._world, count, self._answer) if is_tcp and not self._is_plain else None
+        forgery = Forgery("S" if is_tcp else "", pace, backlog)
         addresses = Addresses(group.origin, group.hosts)
-        forger = Forger(self._world, count, ways, self._random(group), addresses, forgery)
-        self._emitters.append((pace.first, pace.last, forger.emit))
+        self._emitters.append(Forger(self._world, count, ways, self._random(group), addresses, forgery))
 
 
 def _moments(group: Visits, first: int, last: int, random: Random) -> Iterator[tuple[int, int]]:
@@ -192,7 +181,7 @@ def _moments(group: Visits, first: int, last: int, random: Random) -> Iterator[t
 def traces_of(scenario: Scenario) -> Iterator[dict[str, Path]]:
     """The traces of the groups that are laid over a play; those of captures are made for it.
 
-    Trouble where a file can't be read.
+    Trouble where a file can't be read, or a record of it is none.
     """
     with tempfile.TemporaryDirectory(prefix="pfplan-") as folder:
         found = {}
@@ -201,8 +190,12 @@ def traces_of(scenario: Scenario) -> Iterator[dict[str, Path]]:
                 continue
             check_readable(it.file)
             found[it.name] = it.file
-            if kind_of(it.file) is not Kind.TRACE:
+            if kind_of(it.file) is Kind.TRACE:
+                check_records(it.file)
+            else:
                 found[it.name] = Path(folder, it.name)
-                for line in make_trace(it.file, list(it.inside), found[it.name], name=it.interface, is_zero=True):
+                with part_file(found[it.name]) as out:
+                    account = make_trace(it.file, list(it.inside), out, name=it.interface, is_zero=True)
+                for line in account:
                     print(f"{it.name}: {line}", file=sys.stderr)
         yield found

@@ -56,7 +56,8 @@ OF_KIND: Mapping[str, tuple[Field, ...]] = {
         whole("every", 0, fields.SECONDS, 0),
         whole("parallel", 1, 100, 1),
         whole("requests", 0, 10_000, 3),
-        whole("stay", 1, 86400, 5),
+        whole("stay", 1, 86400, 60),
+        whole("vanish", 0, 100, 0),
         *_TRIES,
         whole("reloads", 0, 100, 1),
         flag("users", True),
@@ -70,7 +71,7 @@ OF_KIND: Mapping[str, tuple[Field, ...]] = {
 }
 _WHOLE = (
     whole("seconds", 1, fields.SECONDS),
-    whole("seed", 1, 2147483646, 1),
+    whole("seed", 1, fields.MOST_SEED, 1),
     interface("interface", "em0"),
     whole("answer", 1, 900, 20),
     whole("wait", 0, 86400, 3),
@@ -110,6 +111,8 @@ def read_tables(path: Path) -> dict[str, Any]:
         raise Trouble(f"{path}: no TOML: {visible(str(error))}", Status.REFUSED) from None
     except RecursionError:
         raise Trouble(f"{path}: no TOML: too deep", Status.REFUSED) from None
+    except ValueError:
+        raise Trouble(f"{path}: {fields.TOO_LONG}", Status.REFUSED) from None
 
 
 def is_scenario(path: Path) -> bool:
@@ -271,7 +274,7 @@ def _crowd(kind: str, common: dict[str, Any], found: Mapping[str, Any], head: Ma
     if kind == "visits":
         more = {
             it: found[it]
-            for it in ("visits", "every", "parallel", "requests", "stay", "retries", "patience", "reloads")
+            for it in ("visits", "every", "parallel", "requests", "stay", "vanish", "retries", "patience", "reloads")
         }
         return Visits(**common, people=found["people"] or found["hosts"], **more)
     end = head["seconds"] if found["end"] is None else found["end"]

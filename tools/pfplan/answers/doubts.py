@@ -1,0 +1,131 @@
+"""Why an answer may be of something else than what was meant: what is told first, and makes a page red."""
+
+from __future__ import annotations
+
+import re
+from collections.abc import Collection, Iterable, Mapping, Sequence
+from pathlib import Path
+from typing import Protocol
+
+from pfplan.common.figures import counted, share_text
+from pfplan.common.inputs import Kind, kind_of
+from pfplan.pf.reading_canonical_text import interfaces_of
+from pfplan.traces.accounts import NEITHER_WAY, Frames
+from pfplan.traces.records import ORDERS, Traces
+from pfplan.traces.scenarios.model import Laid, Scenario
+
+# The share of a capture's packets that may be unread, and how many interfaces or missing things a sentence names.
+SMALL, NAMED = 0.05, 5
+# Why a frame is no record that would be one if it were understood.
+_UNREAD = (NEITHER_WAY, "cut before their ports", "of a link type that is not read")
+_PORTS = re.compile(r" to .*?port (?:= )?(\d+)(?::(\d+))?")
+
+
+class Left(Protocol):
+    """What was left out of a pf.conf."""
+
+    @property
+    def text(self) -> str:
+        """What stands there."""
+
+    @property
+    def changes_answer(self) -> bool:
+        """Whether that can change an answer."""
+
+    @property
+    def is_missing(self) -> bool:
+        """Whether a word of the command line gives what is not there."""
+
+
+def of_interfaces(items: Sequence[str], seen: Collection[str], skipped: Collection[int] = ()) -> list[str]:
+    """Rules of interfaces that no record has, and records of interfaces that no rule names. `items` are the texts of
+    rules by number, of which `skipped` stand for `set skip`."""
+    named = interfaces_of(items, skipped)
+    without_records, without_rules = sorted(named - set(seen)), sorted(set(seen) - named) if named else []
+    found = []
+    if without_records and seen:
+        found.append(
+            f"rules are of {_listed(without_records)}, and no record is: these rules were not asked (--if names the "
+            "interface of a capture)"
+        )
+    if without_rules:
+        found.append(f"records are of {_listed(without_rules)}, and no rule names it")
+    return found
+
+
+def of_frames(frames: Frames | None) -> list[str]:
+    """More than a small share of a capture's packets that are not read, or whose directions are in doubt."""
+    if frames is None:
+        return []
+    unread = {why: frames.others.get(why, 0) for why in _UNREAD if frames.others.get(why)}
+    packets, count = frames.records + sum(unread.values()), sum(unread.values())
+    found = []
+    if count > SMALL * packets:
+        whys = ", ".join(f"{number:,} {why}" for why, number in sorted(unread.items(), key=lambda it: -it[1]))
+        inside = "; does --inside name all networks behind the firewall?" if NEITHER_WAY in unread else ""
+        found.append(f"{share_text(count, packets)} of the capture's packets are not read: {whys}{inside}")
+    return found + [it for it in frames.notes if it.startswith("the networks of --inside say the other direction")]
+
+
+def of_missing(leftovers: Iterable[Left]) -> list[str]:
+    """What a pf.conf leaves to its machine, and nobody gave: entries, anchors, addresses, groups."""
+    missing = [it.text for it in leftovers if it.changes_answer and it.is_missing]
+    if not missing:
+        return []
+    verb = "is" if len(missing) == 1 else "are"
+    return [f"{counted(len(missing), 'thing')} {verb} missing that the rules need: {_listed(missing)}"]
+
+
+def of_users(users: str, connections: int) -> list[str]:
+    """That there is nobody of whom the answer could be."""
+    return [] if connections or not users else [f"no connection of the users {users} is in the trace"]
+
+
+def of_directions(items: Sequence[str], begun: Mapping[tuple[str, str], int]) -> list[str]:
+    """That inside and outside look swapped: most connections of users, by direction and port, go the way in which no
+    rule is of their port, while a rule of the other way is."""
+    ports: dict[str, set[int]] = {"in": set(), "out": set()}
+    for text in items:
+        for way in ports.keys() & set(text.split(" ")[:3]):
+            ports[way].update(_ports(text))
+    turned = {"in": ports["out"] - ports["in"], "out": ports["in"] - ports["out"]}
+    wrong = sum(count for (way, port), count in begun.items() if port.isdigit() and int(port) in turned.get(way, ()))
+    total = sum(begun.values())
+    if not total or 2 * wrong <= total:
+        return []
+    return [
+        f"inside and outside look swapped: {wrong:,} of {counted(total, 'connection')} of users go the way in which no "
+        "rule is of their port"
+    ]
+
+
+def of_replay(items: Sequence[str], trace: Path, scenario: Scenario | None) -> list[str]:
+    """The doubts of a replay of a trace, or of a play, under rules of these texts."""
+    return of_interfaces(items, interfaces_played(scenario) if scenario else interfaces_in(trace))
+
+
+def interfaces_in(trace: Path) -> set[str]:
+    """The interfaces that the records of a trace have."""
+    found: set[str] = set()
+    for lines in Traces(trace).blocks():
+        found.update(name for way, name in {tuple(it.split(",", 3)[1:3]) for it in lines} if way not in ORDERS)
+    return found
+
+
+def interfaces_played(scenario: Scenario) -> set[str]:
+    """The interfaces that the packets of a scenario have."""
+    found = {*(name for _, name in scenario.forward.networks), *scenario.forward.interfaces.values()}
+    for it in scenario.groups:
+        is_trace = isinstance(it, Laid) and kind_of(it.file) is Kind.TRACE
+        found |= interfaces_in(it.file) if isinstance(it, Laid) and is_trace else {it.interface}
+    return found - {""}
+
+
+def _ports(text: str) -> Iterable[int]:
+    found = _PORTS.search(text)
+    return range(int(found[1]), int(found[2] or found[1]) + 1) if found else ()
+
+
+def _listed(names: Sequence[str]) -> str:
+    more = f" and {len(names) - NAMED:,} more" if len(names) > NAMED else ""
+    return ", ".join(names[:NAMED]) + more
