@@ -32,26 +32,33 @@ class Kind(enum.Enum):
 
 
 # Files that were given or read, by device and inode, with the name that the user knows: no output replaces one.
-_taken: dict[tuple[int, int], str] = {}
+_taken: dict[tuple[int, int], Path] = {}
 
 
 def take(path: Path) -> None:
     """Notes an input: a file on a disk, also behind links or as standard input. Of another nothing is noted."""
+    found = _regular_file(path)
+    if found:
+        _taken.setdefault(found, path)
+
+
+def _regular_file(path: Path | int) -> tuple[int, int] | None:
+    """The device and the inode of a file on a disk."""
     try:
-        found = os.fstat(0) if str(path) == "-" else os.stat(path)
+        found = os.stat(0 if str(path) == "-" else path)
     except (OSError, ValueError):
-        return
-    if stat.S_ISREG(found.st_mode):
-        _taken.setdefault((found.st_dev, found.st_ino), name_of(path))
+        return None
+    return (found.st_dev, found.st_ino) if stat.S_ISREG(found.st_mode) else None
 
 
 def taken_as(path: Path | int) -> str:
-    """The name of the input that a file is, by device and inode, or that an open file is; nothing where it is none."""
-    try:
-        found = os.stat(path)
-    except (OSError, ValueError):
-        return ""
-    return _taken.get((found.st_dev, found.st_ino), "")
+    """The name of the input that a file is, by device and inode, or that an open file is; nothing where it is none.
+
+    An input that is no more is none: a system gives its inode to the next file.
+    """
+    found = _regular_file(path)
+    taken = _taken.get(found) if found else None
+    return name_of(taken) if taken and _regular_file(taken) == found else ""
 
 
 def take_none() -> None:

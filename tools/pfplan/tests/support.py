@@ -10,7 +10,7 @@ from collections.abc import Iterable, Mapping
 from dataclasses import dataclass
 from pathlib import Path
 
-from pfplan.common.inputs import HEADER
+from pfplan.common.inputs import HEADER, take_none
 from pfplan.common.listings import NAME as LIST
 from pfplan.common.repository import TOP
 
@@ -53,6 +53,7 @@ class FolderCase(unittest.TestCase):
     """A test with a folder of its own."""
 
     def setUp(self) -> None:
+        take_none()
         made = tempfile.TemporaryDirectory(prefix="pfplan-test-")
         self.addCleanup(made.cleanup)
         self.folder = Path(made.name)
