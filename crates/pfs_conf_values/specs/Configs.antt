@@ -1,9 +1,10 @@
 -- A configuration: what a rules text says, and what is read of it.
-use Rattle.std.specs.Prelude.{ℕ, ◌==◌, ◌&&◌, ◌||◌, nat_lt, max, Bool, false, Option, Some, None, unwrap_or, List, length, map, option_map, position, slice_get, slice_index, slice_index_or}
+use Rattle.std.specs.Prelude.{ℕ, ◌==◌, ◌&&◌, ◌||◌, not, nat_lt, max, Bool, false, if◌then◌else◌, Option, Some, None, unwrap_or, List, length, map, option_map, position, slice_get, slice_index, slice_index_or}
 use Rattle.std.specs.List.{sum_by}
 use Rattle.std.specs.Option.{option_and_then}
 use Rattle.std.specs.Str.{bytes_eq}
 use Rattle.pfs_conf_values.specs.Limits.{limit_value}
+use Rattle.pfs_conf_values.specs.Profiles.{effective, is_openbsd}
 use Rattle.pfs_conf_values.specs.Timeouts.{place_of, no_timeouts}
 use Rattle.pfs_conf_values.specs.declared.actions.Action.{Action}
 use Rattle.pfs_conf_values.specs.declared.actions.Action.TheVariants as action
@@ -23,20 +24,25 @@ use Rattle.pfs_conf_values.specs.declared.items.ItemKind.{ItemKind}
 use Rattle.pfs_conf_values.specs.declared.items.ItemKind.TheVariants as what
 use Rattle.pfs_conf_values.specs.declared.limits.LimitName.{LimitName}
 use Rattle.pfs_conf_values.specs.declared.limits.Limits.{Limits}
+use Rattle.pfs_conf_values.specs.declared.profiles.Profile.{Profile}
+use Rattle.pfs_conf_values.specs.declared.profiles.Profile.TheVariants as profile
 use Rattle.pfs_conf_values.specs.declared.tables.TableDef.{TableDef}
 use Rattle.pfs_conf_values.specs.declared.timeouts.TimeoutName.{TimeoutName}
 use Rattle.pfs_conf_values.specs.declared.timeouts.TimeoutName.TheVariants as timeout
 
--- what a rules text says: the limits, the 16 timeouts by their places, the tables by their numbers, and the items in order
+-- what a rules text says: its profile, the limits, the 16 timeouts by their places, the tables by their numbers, and the items in
+-- order
 pub record Conf : Type 0 where
+  pub profile : Profile
   pub limits : Limits
   pub timeouts : List ℕ
   pub tables : List TableDef
   pub items : List Item
 
 -- the configuration of these parts
-abbrev pub conf_of : Limits → List ℕ → List TableDef → List Item → Conf
-conf_of limits timeouts tables items = record { limits = limits; timeouts = timeouts; tables = tables; items = items }
+abbrev pub conf_of : Profile → Limits → List ℕ → List TableDef → List Item → Conf
+conf_of profile limits timeouts tables items =
+    record { profile = profile; limits = limits; timeouts = timeouts; tables = tables; items = items }
 
 -- ---- what is read of it
 
@@ -93,6 +99,7 @@ no_options = record {
   max_src_conn = None;
   max_src_conn_rate = None;
   overload = None;
+  sloppy = false;
   timeouts = no_timeouts;
 }
 
@@ -109,30 +116,41 @@ abbrev pub given_timeout : TimeoutName → Option StateOptions → Option ℕ
 given_timeout name None = None
 given_timeout name (Some o) = slice_index_or o.timeouts (place_of name) None
 
--- the value that the rule of a number gives for a timeout
+-- the value that the rule of a number gives for a timeout, if it has effect
 abbrev pub rule_timeout_of : Conf → ℕ → TimeoutName → Option ℕ
-rule_timeout_of conf n name = given_timeout name (options_at conf n)
+rule_timeout_of conf n name = effective conf.profile (given_timeout name (options_at conf n))
+
+-- whether the states of TCP that the rule of a number makes are tracked by OpenBSD's table of full states: under its profile, but
+-- for `sloppy` (pf.conf(5), STATEFUL TRACKING OPTIONS, "sloppy")
+abbrev pub tracks_fully : Conf → ℕ → Bool
+tracks_fully conf n = is_openbsd conf.profile && not (options_of conf n).sloppy
 
 -- the seconds of `max-src-conn-rate N/S`
 abbrev pub rate_seconds : Option Rate → ℕ
 rate_seconds None = 0
 rate_seconds (Some r) = r.seconds
 
+-- the value that a rule gives for `src.track`, or else this one
+abbrev pub src_track_or : ℕ → StateOptions → ℕ
+src_track_or value o = unwrap_or (slice_index_or o.timeouts (place_of timeout.SrcTrack) None) value
+
 -- how long a source node of a rule alone is kept after its last state left: the greater of `src.track`, the rule's or else
--- the global one, and of the seconds of its rate (own)
-abbrev pub rule_retention : ℕ → StateOptions → ℕ
-rule_retention global o =
-    max (unwrap_or (slice_index_or o.timeouts (place_of timeout.SrcTrack) None) global) (rate_seconds o.max_src_conn_rate)
+-- the global one, and of the seconds of its rate (own); of OpenBSD the greater of the two that the rule gives, and the global
+-- `src.track` where both are 0 or not given (certain)
+abbrev pub rule_retention : Profile → ℕ → StateOptions → ℕ
+rule_retention profile.Own global o = max (src_track_or global o) (rate_seconds o.max_src_conn_rate)
+rule_retention profile.OpenBsd74 global o =
+    let own = max (src_track_or 0 o) (rate_seconds o.max_src_conn_rate) in if own == 0 then global else own
 
 -- how long a source node is kept, by the scope of its rule: one that rules share for the global `src.track`
 -- (pf.conf(5), STATEFUL TRACKING OPTIONS)
-abbrev pub retention_in : ℕ → StateOptions → Option Scope → ℕ
-retention_in global o (Some scope.Rule) = rule_retention global o
-retention_in global o _ = global
+abbrev pub retention_in : Profile → ℕ → StateOptions → Option Scope → ℕ
+retention_in profile global o (Some scope.Rule) = rule_retention profile global o
+retention_in profile global o _ = global
 
 -- how long a source node of the rule of a number is kept
 abbrev pub retention_of : Conf → ℕ → ℕ
-retention_of conf n = retention_in (timeout_of conf timeout.SrcTrack) (options_of conf n) (options_of conf n).scope
+retention_of conf n = retention_in conf.profile (timeout_of conf timeout.SrcTrack) (options_of conf n) (options_of conf n).scope
 
 -- how many entries tables have together
 abbrev pub entries_in : List TableDef → ℕ

@@ -7,5 +7,6 @@ pub mod Invariants
 pub mod Limits
 pub mod LoadRules
 pub mod Order
+pub mod Profiles
 pub mod Siblings
 pub mod Timeouts

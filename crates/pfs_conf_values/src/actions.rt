@@ -49,6 +49,8 @@ pub struct StateOptions {
     pub max_src_conn_rate: Option<Rate>,
     /// `overload`: what happens to a source that goes past the last two.
     pub overload: Option<Overload>,
+    /// `sloppy`: its states of TCP are tracked by the table of sloppy states, under every profile.
+    pub sloppy: bool,
     /// The rule's own timeouts.
     pub timeouts: RuleTimeouts,
 }

@@ -2,28 +2,31 @@
 
 ghost use Rattle.std.specs.Prelude.{◌≡◌, ◌<◌, ◌≤◌, ◌-◌, ◌^◌, IfOk, IfSome, IsSome, length, min, position, slice_get};
 ghost use Rattle.std.specs.Option.{option_copied};
-ghost use Rattle.pfs_conf_values.specs.Configs.{conf_of, entries_in, entry_count_of, has_name, is_const_table, limit_of, options_at, rate_seconds, retention_in, retention_of, rule_at, rule_timeout_of, scope_of, table_named, timeout_of};
+ghost use Rattle.pfs_conf_values.specs.Configs.{conf_of, entries_in, entry_count_of, has_name, is_const_table, limit_of, options_at, rate_seconds, retention_in, retention_of, rule_at, rule_retention, rule_timeout_of, scope_of, src_track_or, table_named, timeout_of, tracks_fully};
 ghost use Rattle.pfs_conf_values.specs.Hashing.{hasher_of};
 ghost use Rattle.pfs_conf_values.specs.Invariants.{IsConfig, IsTable};
 ghost use Rattle.pfs_conf_values.specs.LoadRules.{AreOptions, IsItem, IsRule};
+ghost use Rattle.pfs_conf_values.specs.Profiles.{effective};
 
 use crate::actions::{Action, Rate, Scope, StateOptions};
 use crate::filters::TableNo;
 use crate::hashing::RulesHasher;
 use crate::items::{Item, ItemKind, Rule, RuleNo};
 use crate::limits::{LimitName, Limits};
+use crate::profiles::Profile;
 use crate::tables::{TableDef, copy_tables};
 use crate::timeouts::{TimeoutName, Timeouts};
 use pfs_addr_values::NoMemory;
 use std::marker::Model;
 
-/// What an accepted rules text says: limits, timeouts, tables and items, with defaults filled in.
+/// What an accepted rules text says: its profile, limits, timeouts, tables and items, with defaults filled in.
 ///
 /// Clauses see a `Conf`. Every one keeps `IsConfig`, the load rules: `keeps_load_rules` states them to a proof, as do
 /// `limit`, `item_count` and `table_count`, and `item`, `rule`, `options` and `table` state what they give keeps of
 /// them. No reader takes memory. Each takes constant time but for `table_named`, which goes through the tables.
 #[derive(Debug, Drop)]
 pub struct Config {
+    profile: Profile,
     limits: Limits,
     timeouts: Timeouts,
     tables: Vec<TableDef>,
@@ -38,26 +41,28 @@ impl Model for Config {
 
     ghost Value = { Conf };
 
-    ghost view = { λ c. record { limits = c.limits; timeouts = c.timeouts; tables = c.tables.items; items = c.items.items } };
+    ghost view = { λ c. record { profile = c.profile; limits = c.limits; timeouts = c.timeouts; tables = c.tables.items; items = c.items.items } };
 
-    ghost invariant = { λ c. IsConfigKept c.entries c.hasher (record { limits = c.limits; timeouts = c.timeouts; tables = c.tables.items; items = c.items.items }) };
+    ghost invariant = { λ c. IsConfigKept c.entries c.hasher (record { profile = c.profile; limits = c.limits; timeouts = c.timeouts; tables = c.tables.items; items = c.items.items }) };
 }
 
 impl Config {
     /// The configuration of these parts, which keep the load rules. It counts the entries, feeds the hasher with all parts, and takes no
     /// memory.
     pub fn of_parts(
+        profile: Profile,
         limits: Limits,
         timeouts: Timeouts,
         tables: Vec<TableDef>,
         items: Vec<Item>,
     ) -> Config
-        requires { IsConfig (conf_of limits timeouts tables.items items.items) }
-        ensures { result ≡ conf_of limits timeouts tables.items items.items }
+        requires { IsConfig (conf_of profile limits timeouts tables.items items.items) }
+        ensures { result ≡ conf_of profile limits timeouts tables.items items.items }
     {
         let entries = count_entries(&tables);
-        let hasher = RulesHasher::of_parts(&limits, &timeouts, &tables, &items);
+        let hasher = RulesHasher::of_parts(profile, &limits, &timeouts, &tables, &items);
         Config {
+            profile,
             limits,
             timeouts,
             tables,
@@ -72,6 +77,25 @@ impl Config {
         ensures { IsConfig self.now }
     {
         let _ = &self.items;
+    }
+
+    /// Whose machine the text asks for.
+    pub fn profile(&self) -> Profile
+        ensures { result ≡ self.now.profile }
+    {
+        self.profile
+    }
+
+    /// Whether the states of TCP that a rule makes are tracked by OpenBSD's table of full states: under its profile, but for
+    /// `sloppy`. (pf.conf(5), STATEFUL TRACKING OPTIONS, "sloppy")
+    pub fn tracks_fully(&self, number: RuleNo) -> bool
+        ensures { result ≡ tracks_fully self.now number.0 }
+    {
+        let sloppy = match self.options(number) {
+            Some(options) => options.sloppy,
+            None => false,
+        };
+        self.profile.is_openbsd() && !sloppy
     }
 
     /// How many rules and anchors there are: at most 10,000.
@@ -173,11 +197,15 @@ impl Config {
         self.timeouts.get(name)
     }
 
-    /// The value that a rule gives for a timeout of its own states, if it keeps state and gives one.
+    /// The value that a rule gives for a timeout of its own states, if it keeps state and gives one that has effect: under the
+    /// profile of OpenBSD 7.4 a value of 0 has none.
     pub fn rule_timeout(&self, number: RuleNo, name: TimeoutName) -> Option<u64>
         ensures { result ≡ rule_timeout_of self.now number.0 name }
     {
         let value = self.options(number)?.timeouts.get(name)?;
+        if value == 0 && self.profile.is_openbsd() {
+            return None;
+        }
         Some(u64::from(value))
     }
 
@@ -191,7 +219,8 @@ impl Config {
 
     /// The seconds for which a source node of a rule that tracks sources is kept after its last state left. For a node
     /// of the rule alone: the greater of `src.track` (the rule's, or else the global one) and the seconds of its
-    /// `max-src-conn-rate`. For a node that rules share: the global `src.track`. (own to this profile)
+    /// `max-src-conn-rate`; under the profile of OpenBSD 7.4 the greater of the two that the rule gives, and the global
+    /// `src.track` where both are 0 or not given. For a node that rules share: the global `src.track`.
     pub fn retention(&self, number: RuleNo) -> u64
         requires { IsSome (scope_of self.now number.0) }
         ensures { result ≡ retention_of self.now number.0 }
@@ -200,7 +229,7 @@ impl Config {
         let Some(options) = self.options(number) else {
             return global;
         };
-        retention_by(options, global)
+        retention_by(self.profile, options, global)
     }
 
     /// The hasher that was fed with all that the configuration says.
@@ -218,6 +247,7 @@ impl Config {
         let items = Vec::from_slice(alloc, &self.items)?;
         let tables = copy_tables(alloc, &self.tables)?;
         Ok(Config {
+            profile: self.profile,
             limits: self.limits,
             timeouts: self.timeouts,
             tables,
@@ -254,18 +284,37 @@ fn has_name(table: &TableDef, name: &[u8]) -> bool
 }
 
 /// The retention of a source node of a rule with these options, where this is the global `src.track`.
-fn retention_by(options: &StateOptions, global: u64) -> u64
-    ensures { result ≡ retention_in global options.now options.now.scope }
+fn retention_by(profile: Profile, options: &StateOptions, global: u64) -> u64
+    ensures { result ≡ retention_in profile global options.now options.now.scope }
 {
     match options.scope {
-        Some(Scope::Rule) => {
-            let own = match options.timeouts.get(TimeoutName::SrcTrack) {
-                Some(seconds) => u64::from(seconds),
-                None => global,
-            };
-            own.max(rate_seconds(options.max_src_conn_rate))
-        }
+        Some(Scope::Rule) => rule_retention(profile, options, global),
         _ => global,
+    }
+}
+
+/// The retention of a source node of a rule alone with these options, where this is the global `src.track`. It takes no memory.
+/// (pf.conf(5), OPTIONS, "src.track"; own but under the profile of OpenBSD 7.4)
+pub fn rule_retention(profile: Profile, options: &StateOptions, global: u64) -> u64
+    ensures { result ≡ rule_retention profile global options.now }
+{
+    let rate = rate_seconds(options.max_src_conn_rate);
+    match profile {
+        Profile::Own => src_track_or(global, options).max(rate),
+        Profile::OpenBsd74 => match src_track_or(0, options).max(rate) {
+            0 => global,
+            own => own,
+        },
+    }
+}
+
+/// The value that a rule gives for `src.track`, or else this one.
+fn src_track_or(value: u64, options: &StateOptions) -> u64
+    ensures { result ≡ src_track_or value options.now }
+{
+    match options.timeouts.get(TimeoutName::SrcTrack) {
+        Some(seconds) => u64::from(seconds),
+        None => value,
     }
 }
 

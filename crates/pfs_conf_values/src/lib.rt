@@ -7,14 +7,16 @@ mod filters;
 mod hashing;
 mod items;
 mod limits;
+mod profiles;
 mod tables;
 mod timeouts;
 
 pub use actions::{Action, Overload, Rate, Scope, StateOptions};
-pub use configs::{Config, count_entries};
+pub use configs::{Config, count_entries, rule_retention};
 pub use filters::{Family, Filter, FlagTest, Host, Interface, Ports, Side, TableName, TableNo};
 pub use hashing::RulesHasher;
 pub use items::{Anchor, AnchorName, Item, ItemKind, Rule, RuleNo};
 pub use limits::{LimitName, Limits};
+pub use profiles::Profile;
 pub use tables::{Entries, TableDef};
 pub use timeouts::{RuleTimeouts, TimeoutName, Timeouts};
