@@ -1,5 +1,5 @@
 -- What a slice of plain lists leaves is what the definitions say.
-use Rattle.std.proofs.Common.{◌≡◌, ◌∙◌, ◌<◌, ◌≤◌, ◌-◌, ◌&&◌, ◌⊎◌, inl, inr, not, if◌then◌else◌, ℕ, Bool, false, Option, is_some, List, length, filter, map, min, take, drop, refl, ap, sym, subst}
+use Rattle.std.proofs.Common.{◌≡◌, ◌∙◌, ◌<◌, ◌≤◌, ◌-◌, ◌&&◌, ◌⊎◌, inl, inr, not, if◌then◌else◌, ℕ, Bool, false, Option, None, is_some, List, length, filter, map, min, take, drop, refl, ap, sym, subst}
 use Rattle.std.specs.Prelude.{slice_index}
 use Rattle.std.specs.Option.{option_and_then}
 use Rattle.std.proofs.lemmas.Bool.{cases_lt}
@@ -7,9 +7,12 @@ use Rattle.std.proofs.lemmas.List.{drop_min, length-take, take_min}
 use Rattle.std.proofs.lemmas.List.Elements.{filter_agree}
 use Rattle.std.proofs.lemmas.Option.{slice_get_past}
 use Rattle.pfs_conf_values.specs.Configs.{Conf, given_timeout, options_in, rule_in, rule_timeout_of}
+use Rattle.pfs_conf_values.specs.Profiles.{effective}
 use Rattle.pfs_conf_values.specs.declared.actions.StateOptions.{StateOptions}
 use Rattle.pfs_conf_values.specs.declared.items.Item.{Item}
 use Rattle.pfs_conf_values.specs.declared.items.Rule.{Rule}
+use Rattle.pfs_conf_values.specs.declared.profiles.Profile.{Profile}
+use Rattle.pfs_conf_values.specs.declared.profiles.Profile.TheVariants as profile
 use Rattle.pfs_conf_values.specs.declared.timeouts.TimeoutName.TheVariants.{AdaptiveStart, AdaptiveEnd}
 use Rattle.pfs_track.specs.Lifetimes.{is_expired, lifetime_under, scaled_lifetime, value_for}
 use Rattle.pfs_track.specs.StatePhases.{slot}
@@ -35,12 +38,17 @@ lifetime-unread conf rule phase a b all none =
     let under : ℕ → ℕ = lifetime_under (value_for conf rule (slot phase)) (value_for conf rule AdaptiveStart) (value_for conf rule AdaptiveEnd) in
     ap (λ (own : Bool). under (if own then a else all)) none ∙ sym (ap (λ (own : Bool). under (if own then b else all)) none)
 
+-- what is not given has no effect
+ungiven : (p : Profile) → is_some (effective p None) ≡ false
+ungiven profile.Own = refl
+ungiven profile.OpenBsd74 = refl
+
 -- nor on those of a rule that there is not
 lifetime-past : (conf : Conf) (rule : ℕ) (phase : StatePhase) (a b all : ℕ) → length conf.items ≤ rule
     → scaled_lifetime conf rule phase a all ≡ scaled_lifetime conf rule phase b all
 lifetime-past conf rule phase a b all past =
     lifetime-unread conf rule phase a b all
-    (subst (λ (i : Option Item). is_some (given_timeout AdaptiveStart (options_by i)) ≡ false) (sym (slice_get_past conf.items rule past)) refl)
+    (subst (λ (i : Option Item). is_some (effective conf.profile (given_timeout AdaptiveStart (options_by i))) ≡ false) (sym (slice_get_past conf.items rule past)) (ungiven conf.profile))
 
 -- the lifetime under the counts of the rules is the lifetime under the counts of the states
 lifetime-counts : (conf : Conf) (counts : List ℕ) (states : List State) (all : ℕ) → length counts ≡ length conf.items → AreCounts counts states

@@ -15,8 +15,10 @@ use Rattle.pfs_conf_values.specs.declared.actions.Scope.TheVariants as scope
 use Rattle.pfs_conf_values.specs.declared.actions.StateOptions.{StateOptions}
 use Rattle.pfs_conf_values.specs.declared.items.Item.{Item}
 use Rattle.pfs_conf_values.specs.declared.items.ItemKind.TheVariants as what
-use Rattle.pfs_store_contract.specs.Calls.{packet_limit, answer_at, world_at, world_killed, node_slice_of, state_slice_of, touch_of, world_touched}
+use Rattle.pfs_conf_values.specs.declared.profiles.Profile.TheVariants as profile
+use Rattle.pfs_store_contract.specs.Calls.{flushed_count, packet_limit, answer_at, world_at, world_killed, node_slice_of, state_slice_of, touch_of, world_touched}
 use Rattle.pfs_store_contract.specs.Purging.{purge, state_share, state_slice}
+use Rattle.pfs_store_contract.specs.Touching.{reopens}
 use Rattle.pfs_store_contract.specs.Worlds.{World, empty_world, state_with}
 use Rattle.pfs_store_contract.specs.declared.records.Limit.TheVariants as limit
 use Rattle.pfs_store_contract.specs.declared.records.Touched.{Touched}
@@ -30,6 +32,7 @@ keeping o = record { depth = 0; what = what.Rule (record { quick = false; filter
 -- limits of states and nodes, `udp.first`, `src.track`, `interval`, the adaptive pair, and rules with these options
 abbrev conf_of : ℕ → ℕ → ℕ → ℕ → ℕ → ℕ → ℕ → List Item → Conf
 conf_of states src_nodes udp_first src_track interval start end items = record {
+  profile = profile.Own;
   limits = record { states = states; src_nodes = src_nodes; tables = 1000; table_entries = 200000 };
   timeouts = 120 ∷ 30 ∷ 86400 ∷ 900 ∷ 45 ∷ 90 ∷ udp_first ∷ 30 ∷ 60 ∷ 60 ∷ 30 ∷ 60 ∷ src_track ∷ interval ∷ start ∷ end ∷ [];
   tables = [];
@@ -45,6 +48,9 @@ a1 = V4 (198 ∷ 51 ∷ 100 ∷ 1 ∷ [])
 
 abbrev a2 : Addr
 a2 = V4 (198 ∷ 51 ∷ 100 ∷ 2 ∷ [])
+
+abbrev a3 : Addr
+a3 = V4 (198 ∷ 51 ∷ 100 ∷ 3 ∷ [])
 
 abbrev end_at : Addr → ℕ → Endpoint
 end_at addr port = record { addr = addr; port = port }
@@ -63,6 +69,10 @@ udp source port = record {
   destination = end_at (V4 (192 ∷ 0 ∷ 2 ∷ 1 ∷ [])) 53;
   flags = flagged false false;
 }
+
+-- a packet of the server to it
+abbrev udp_out : Addr → ℕ → PacketView
+udp_out to port = record (udp to port) { dir = Out; source = (udp to port).destination; destination = end_at to port }
 
 -- the three packets of a handshake
 abbrev syn : Addr → ℕ → PacketView
@@ -154,6 +164,7 @@ abbrev tells : ℕ → ℕ → ℕ → Option Touched
 tells connections value last = Some (record {
   rule = record { 0 = 0 };
   source = a1;
+  dir = In;
   completed = true;
   connections = connections;
   score = record { value = value; last = last };
@@ -255,3 +266,60 @@ two-first = refl
 
 third-alone : state_slice_of slow (after_new slow (state_slice slow three 1) (udp a1 4) 1) 2 ≡ record { examined = 1; removed = 1 }
 third-alone = refl
+
+-- ---- under the profile of OpenBSD 7.4
+
+abbrev of_openbsd : Conf → Conf
+of_openbsd conf = record conf { profile = profile.OpenBsd74 }
+
+-- one state at most, and nodes that are kept for 20 seconds
+abbrev single : Conf
+single = of_openbsd (conf_of 100 100 5 20 1 0 0 (keeping (record no_options { scope = Some scope.Rule; max = Some 1; max_src_nodes = Some 2 }) ∷ []))
+
+-- `max` refuses the second source, whose node stays
+abbrev refused : World
+refused = after_new single (after_new single empty_world (udp a1 1) 0) (udp a2 1) 3
+
+refused-max : packet_limit single (after_new single empty_world (udp a1 1) 0) (udp a2 1) 0 ≡ Some limit.Max
+refused-max = refl
+
+refused-noded : length refused.nodes ≡ 2
+refused-noded = refl
+
+-- before `max` the third source meets `max-src-nodes`
+third-nodes : packet_limit single refused (udp a3 1) 0 ≡ Some limit.MaxSrcNodes
+third-nodes = refl
+
+-- the node without a state leaves at once; the other one 20 seconds after its last state, which left at 5
+refused-goes : node_slice_of single refused 3 ≡ record { examined = 2; removed = 1 }
+refused-goes = refl
+
+stays-24 : node_slice_of single (purge single refused 5) 24 ≡ record { examined = 1; removed = 0 }
+stays-24 = refl
+
+goes-25 : node_slice_of single (purge single refused 5) 25 ≡ record { examined = 1; removed = 1 }
+goes-25 = refl
+
+-- a state of the source, and one to it: a flush of what came in from there takes both; without the profile the first
+abbrev both_ways : Conf → World
+both_ways conf = after_new conf (after_new conf empty_world (udp a1 1) 0) (udp_out a1 2) 0
+
+both-flushed : flushed_count profile.OpenBsd74 (both_ways slow) In a1 None ≡ 2
+both-flushed = refl
+
+one-flushed : flushed_count profile.Own (both_ways slow) In a1 None ≡ 1
+one-flushed = refl
+
+-- a connection that was reset: a SYN of its ports is one of no state; without the profile it is one of that state
+abbrev reset : Conf → World
+reset conf = after_more conf (after_new conf empty_world (syn a1 1) 0) (record (syn a1 1) { flags = record (flagged false false) { rst = true } }) 1
+
+reset-reopens : option_map (reopens (of_openbsd connected) (syn a1 1)) (state_with (key_of (syn a1 1)) (reset (of_openbsd connected))) ≡ Some true
+reset-reopens = refl
+
+reset-stays : option_map (reopens connected (syn a1 1)) (state_with (key_of (syn a1 1)) (reset connected)) ≡ Some false
+reset-stays = refl
+
+-- with ACK it does not
+reset-acknowledged : option_map (reopens (of_openbsd connected) (record (syn a1 1) { flags = flagged true true })) (state_with (key_of (syn a1 1)) (reset (of_openbsd connected))) ≡ Some false
+reset-acknowledged = refl

@@ -1,11 +1,14 @@
--- The limits that a new state meets, and the world with it. (pf.conf(5), OPTIONS, "set limit", and STATEFUL TRACKING OPTIONS;
--- the order of the limits is own)
+-- The limits that a new state meets, and the world with it, or after a refusal. (pf.conf(5), OPTIONS, "set limit", and STATEFUL
+-- TRACKING OPTIONS; the order of the limits is own, but under the profile of OpenBSD 7.4)
 use Rattle.std.specs.Prelude.{ℕ, ◌+◌, ◌&&◌, not, nat_le, Bool, false, if◌then◌else◌, Option, Some, None, List, [], ◌∷◌, ◌++◌, length}
 use Rattle.pfs_addr_values.specs.Packets.{PacketView}
 use Rattle.pfs_addr_values.specs.Keys.{key_of}
 use Rattle.pfs_addr_values.specs.declared.addresses.Addr.{Addr}
-use Rattle.pfs_conf_values.specs.Configs.{Conf, limit_of, options_of}
+use Rattle.pfs_conf_values.specs.Configs.{Conf, limit_of, options_of, tracks_fully}
+use Rattle.pfs_conf_values.specs.Profiles.{is_openbsd}
 use Rattle.pfs_conf_values.specs.declared.limits.LimitName.TheVariants as limit_name
+use Rattle.pfs_conf_values.specs.declared.profiles.Profile.{Profile}
+use Rattle.pfs_conf_values.specs.declared.profiles.Profile.TheVariants as profile
 use Rattle.pfs_track.specs.Scores.{zero_score}
 use Rattle.pfs_track.specs.StatePhases.{first_phase}
 use Rattle.pfs_store_contract.specs.Worlds.{World}
@@ -28,6 +31,11 @@ abbrev pub tracks : Option NodeScope → (NodeScope → Bool) → Bool
 tracks None test = false
 tracks (Some scope) test = test scope
 
+-- a rule's maximum of states is asked before what is asked of the source (own); of OpenBSD behind it (likely)
+abbrev pub in_order : Profile → Bool × Limit → List (Bool × Limit) → List (Bool × Limit)
+in_order profile.Own max of_source = max ∷ of_source
+in_order profile.OpenBsd74 max of_source = of_source ++ max ∷ []
+
 -- the first limit that a state of this rule and source would meet: the rule's maximum of states; for a source without a
 -- node in the rule's scope, the maximum of its nodes and the limit of all nodes; for one with a node, the maximum of the
 -- node's states; the limit of all states
@@ -35,39 +43,52 @@ abbrev pub limit_met : Conf → World → ℕ → Addr → Option Limit
 limit_met conf w rule source =
     let o = options_of conf rule in
     let scope = node_scope_of conf rule in
-    first_met ((reaches_maximum o.max (rule_states rule w.states), limit.Max)
-    ∷ (tracks scope (λ s. not (has_node s source w.nodes) && reaches_maximum o.max_src_nodes (scope_nodes s w.nodes)), limit.MaxSrcNodes)
+    first_met (in_order conf.profile (reaches_maximum o.max (rule_states rule w.states), limit.Max) (
+    (tracks scope (λ s. not (has_node s source w.nodes) && reaches_maximum o.max_src_nodes (scope_nodes s w.nodes)), limit.MaxSrcNodes)
     ∷ (tracks scope (λ s. not (has_node s source w.nodes) && nat_le (limit_of conf limit_name.SrcNodes) (length w.nodes)), limit.SrcNodes)
     ∷ (tracks scope (λ s. has_node s source w.nodes && reaches_maximum o.max_src_states (node_states conf s source w.states)), limit.MaxSrcStates)
-    ∷ (nat_le (limit_of conf limit_name.States) (length w.states), limit.States)
-    ∷ [])
+    ∷ []) ++ (nat_le (limit_of conf limit_name.States) (length w.states), limit.States) ∷ [])
 
 -- ---- a new state
 
 -- the state that a packet makes
-abbrev pub new_state : ℕ → PacketView → ℕ → ℕ → State
-new_state number p rule now = record {
+abbrev pub new_state : Conf → ℕ → PacketView → ℕ → ℕ → State
+new_state conf number p rule now = record {
   number = number;
   key = key_of p;
   dir = p.dir;
   source = p.source.addr;
   rule = record { 0 = rule };
-  phase = first_phase p.proto;
+  phase = first_phase (tracks_fully conf rule) p.proto;
   last = now;
 }
 
 -- the node that is made with it, where its source has none in the rule's scope
-abbrev pub new_node : ℕ → NodeScope → Addr → Node
-new_node number scope source = record { number = number; scope = scope; source = source; score = zero_score; idle = 0 }
+abbrev pub new_node : ℕ → NodeScope → Addr → ℕ → Node
+new_node number scope source now = record { number = number; scope = scope; source = source; score = zero_score; expires = now }
 
-abbrev pub nodes_with : List Node → ℕ → Addr → Option NodeScope → List Node
-nodes_with nodes number source None = nodes
-nodes_with nodes number source (Some scope) = if has_node scope source nodes then nodes else nodes ++ new_node number scope source ∷ []
+abbrev pub nodes_with : List Node → ℕ → Addr → ℕ → Option NodeScope → List Node
+nodes_with nodes number source now None = nodes
+nodes_with nodes number source now (Some scope) = if has_node scope source nodes then nodes else nodes ++ new_node number scope source now ∷ []
 
 -- the world with one state more: numbers count from 1 and are never used again
 abbrev pub world_after_admission : Conf → World → PacketView → ℕ → ℕ → World
 world_after_admission conf w p rule now = record w {
-  states = w.states ++ new_state (w.made + 1) p rule now ∷ [];
-  nodes = nodes_with w.nodes (w.made + 1) p.source.addr (node_scope_of conf rule);
+  states = w.states ++ new_state conf (w.made + 1) p rule now ∷ [];
+  nodes = nodes_with w.nodes (w.made + 1) p.source.addr now (node_scope_of conf rule);
   made = w.made + 1;
 }
+
+-- ---- a refusal
+
+-- whether a refusal leaves a node: of OpenBSD, where `max` refuses a source that has none (likely)
+abbrev pub leaves_node : Conf → World → Addr → ℕ → Limit → Bool
+leaves_node conf w source rule limit.Max = is_openbsd conf.profile && tracks (node_scope_of conf rule) (λ s. not (has_node s source w.nodes))
+leaves_node conf w source rule _ = false
+
+-- the world after it: nothing changes but that node, which takes a number and may leave at once
+abbrev pub world_after_refusal : Conf → World → Addr → ℕ → ℕ → Limit → World
+world_after_refusal conf w source rule now l =
+    if leaves_node conf w source rule l
+    then record w { nodes = nodes_with w.nodes (w.made + 1) source now (node_scope_of conf rule); made = w.made + 1 }
+    else w

@@ -1,15 +1,17 @@
 -- What the calls of a store answer and leave, by the definitions of the machine.
-use Rattle.std.specs.Prelude.{ℕ, ◌+◌, ◌-◌, ◌==◌, not, Bool, if◌then◌else◌, Option, Some, None, List, length, filter, take, Result, Ok, Err}
+use Rattle.std.specs.Prelude.{ℕ, ◌≡◌, ◌+◌, ◌-◌, ◌==◌, not, false, Bool, if◌then◌else◌, Option, Some, None, List, length, filter, take, Result, Ok, Err}
 use Rattle.pfs_addr_values.specs.Packets.{PacketView}
 use Rattle.pfs_addr_values.specs.declared.addresses.Addr.{Addr}
+use Rattle.pfs_addr_values.specs.declared.packets.Dir.{Dir}
 use Rattle.pfs_conf_values.specs.Configs.{Conf}
 use Rattle.pfs_conf_values.specs.declared.items.RuleNo.{RuleNo}
+use Rattle.pfs_conf_values.specs.declared.profiles.Profile.{Profile}
 use Rattle.pfs_track.specs.Scores.{zero_score}
-use Rattle.pfs_store_contract.specs.Admission.{world_after_admission, limit_met}
-use Rattle.pfs_store_contract.specs.Counts.{is_of_source, node_scope_of}
-use Rattle.pfs_store_contract.specs.Leaving.{is_flushed, world_without}
+use Rattle.pfs_store_contract.specs.Admission.{leaves_node, limit_met, world_after_admission, world_after_refusal}
+use Rattle.pfs_store_contract.specs.Counts.{node_scope_of}
+use Rattle.pfs_store_contract.specs.Leaving.{is_beside, is_flushed, world_without}
 use Rattle.pfs_store_contract.specs.Purging.{node_round, node_share, node_slice, state_round, state_share, state_slice}
-use Rattle.pfs_store_contract.specs.Touching.{completes_at, connections_in, score_in, world_after_touch}
+use Rattle.pfs_store_contract.specs.Touching.{completes_at, connections_in, reopens, score_in, world_after_touch}
 use Rattle.pfs_store_contract.specs.Worlds.{World}
 use Rattle.pfs_store_contract.specs.declared.records.Limit.{Limit}
 use Rattle.pfs_store_contract.specs.declared.records.Slice.{Slice}
@@ -36,10 +38,14 @@ abbrev pub answer_at : World → Option Limit → Result StateNo Limit
 answer_at w None = Ok (record { 0 = w.made + 1 })
 answer_at w (Some l) = Err l
 
--- a refusal changes nothing
 abbrev pub world_at : Conf → World → PacketView → ℕ → ℕ → Option Limit → World
 world_at conf w p rule now None = world_after_admission conf w p rule now
-world_at conf w p rule now (Some l) = w
+world_at conf w p rule now (Some l) = world_after_refusal conf w p.source.addr rule now l
+
+-- a refusal takes no memory, but for a node that it leaves
+abbrev pub IsFreeRefusal : Conf → World → PacketView → ℕ → Option Limit → Type 0
+IsFreeRefusal conf w p rule None = ⊥
+IsFreeRefusal conf w p rule (Some l) = leaves_node conf w p.source.addr rule l ≡ false
 
 -- ---- a packet of the state that has its key
 
@@ -47,11 +53,24 @@ abbrev pub world_touched : Conf → World → PacketView → ℕ → Option Stat
 world_touched conf w p now None = w
 world_touched conf w p now (Some s) = world_after_touch conf w s p now
 
--- the rule, the source, whether the handshake completed, and the connections and the score after it
+-- every state but one
+abbrev pub other_than : ℕ → State → Bool
+other_than number s = not (s.number == number)
+
+abbrev pub world_killed : Conf → World → ℕ → ℕ → World
+world_killed conf w number now = world_without conf w (other_than number) now
+
+-- a SYN for a connection that has closed kills its state
+abbrev pub world_reopened : Conf → World → PacketView → ℕ → Option State → World
+world_reopened conf w p now None = w
+world_reopened conf w p now (Some s) = if reopens conf p s then world_killed conf w s.number now else w
+
+-- the rule, the source, the direction in which it was made, whether the handshake completed, and the connections and the score after it
 abbrev pub touch_of : Conf → World → PacketView → ℕ → State → Touched
 touch_of conf w p now s = record {
   rule = s.rule;
   source = s.source;
+  dir = s.dir;
   completed = completes_at p s;
   connections = connections_in conf s.source (world_after_touch conf w s p now).states (node_scope_of conf s.rule.0);
   score = score_in s.source (world_after_touch conf w s p now).nodes (node_scope_of conf s.rule.0);
@@ -64,29 +83,22 @@ told_at told t = record t { connections = if told then t.connections else 0; sco
 abbrev pub renewal_of : Conf → World → PacketView → ℕ → State → Touched
 renewal_of conf w p now s = told_at (completes_at p s) (touch_of conf w p now s)
 
--- ---- states are killed or flushed
-
--- one state is killed
-abbrev pub other_than : ℕ → State → Bool
-other_than number s = not (s.number == number)
-
-abbrev pub world_killed : Conf → World → ℕ → ℕ → World
-world_killed conf w number now = world_without conf w (other_than number) now
+-- ---- states are flushed
 
 -- the states of a source are flushed, all of them or those of one rule
-abbrev pub stays_unflushed : Addr → Option RuleNo → State → Bool
-stays_unflushed source rule s = not (is_flushed source rule s)
+abbrev pub stays_unflushed : Profile → Dir → Addr → Option RuleNo → State → Bool
+stays_unflushed profile dir source rule s = not (is_flushed profile dir source rule s)
 
-abbrev pub world_flushed : Conf → World → Addr → Option RuleNo → ℕ → World
-world_flushed conf w source rule now = world_without conf w (stays_unflushed source rule) now
+abbrev pub world_flushed : Conf → World → Dir → Addr → Option RuleNo → ℕ → World
+world_flushed conf w dir source rule now = world_without conf w (stays_unflushed conf.profile dir source rule) now
 
 -- how many are flushed
-abbrev pub flushed_count : World → Addr → Option RuleNo → ℕ
-flushed_count w source rule = length (filter (is_flushed source rule) w.states)
+abbrev pub flushed_count : Profile → World → Dir → Addr → Option RuleNo → ℕ
+flushed_count profile w dir source rule = length (filter (is_flushed profile dir source rule) w.states)
 
--- the states of a source, of whatever rules
-abbrev pub source_states : Addr → List State → ℕ
-source_states source states = length (filter (is_of_source source) states)
+-- the states that a flush takes for those of a source, of whatever rules
+abbrev pub source_states : Profile → Dir → Addr → List State → ℕ
+source_states profile dir source states = length (filter (is_beside profile dir source) states)
 
 -- ---- how many a slice examines and takes out
 

@@ -2,12 +2,14 @@
 -- "max-src-conn-rate" and "overload"; that the state itself is killed in any case is own)
 use Rattle.std.specs.Prelude.{ℕ, ◌*◌, ◌==◌, not, nat_lt, Bool, false, Option, Some, None}
 use Rattle.pfs_addr_values.specs.declared.addresses.Addr.{Addr}
+use Rattle.pfs_addr_values.specs.declared.packets.Dir.{Dir}
 use Rattle.pfs_conf_values.specs.Configs.{Conf, options_of}
 use Rattle.pfs_conf_values.specs.declared.actions.Overload.{Overload}
 use Rattle.pfs_conf_values.specs.declared.actions.Rate.{Rate}
 use Rattle.pfs_conf_values.specs.declared.actions.Scope.{Scope}
 use Rattle.pfs_conf_values.specs.declared.actions.Scope.TheVariants as scope
 use Rattle.pfs_conf_values.specs.declared.items.RuleNo.{RuleNo}
+use Rattle.pfs_conf_values.specs.declared.profiles.Profile.{Profile}
 use Rattle.pfs_store_contract.specs.Counts.{exceeds_maximum, node_scope_of}
 use Rattle.pfs_store_contract.specs.Leaving.{is_flushed}
 use Rattle.pfs_store_contract.specs.Touching.{connections_in, score_in}
@@ -32,12 +34,12 @@ abbrev pub flush_of : Option Overload → Option Scope
 flush_of None = None
 flush_of (Some o) = o.flush
 
--- a state is killed with that of this number, rule and source: that one itself; with `flush` those of its source and rule;
+-- a state is killed with that of this number, direction, rule and source: that one itself; with `flush` those of its source and rule;
 -- with `flush global` those of its source (itself is one of them)
-abbrev pub goes_with : Option Scope → ℕ → RuleNo → Addr → State → Bool
-goes_with None number rule source s = s.number == number
-goes_with (Some scope.Rule) number rule source s = is_flushed source (Some rule) s
-goes_with (Some scope.Global) number rule source s = is_flushed source None s
+abbrev pub goes_with : Profile → Option Scope → ℕ → Dir → RuleNo → Addr → State → Bool
+goes_with profile None number dir rule source s = s.number == number
+goes_with profile (Some scope.Rule) number dir rule source s = is_flushed profile dir source (Some rule) s
+goes_with profile (Some scope.Global) number dir rule source s = is_flushed profile dir source None s
 
-abbrev pub stays_at_kill : Option Scope → ℕ → RuleNo → Addr → State → Bool
-stays_at_kill flush number rule source s = not (goes_with flush number rule source s)
+abbrev pub stays_at_kill : Profile → Option Scope → ℕ → Dir → RuleNo → Addr → State → Bool
+stays_at_kill profile flush number dir rule source s = not (goes_with profile flush number dir rule source s)

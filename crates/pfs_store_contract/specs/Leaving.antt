@@ -1,19 +1,35 @@
--- States leave: by a purge, killed, or flushed. A node that loses its last state gets an idle moment. (pf.conf(5), STATEFUL
--- TRACKING OPTIONS; the idle moment is own)
-use Rattle.std.specs.Prelude.{ℕ, ◌==◌, ◌&&◌, nat_lt, Bool, if◌then◌else◌, Option, Some, None, List, filter, map}
+-- States leave: by a purge, killed, or flushed. A node that loses its last state is kept for its retention from then on. (pf.conf(5),
+-- STATEFUL TRACKING OPTIONS)
+use Rattle.std.specs.Prelude.{ℕ, ◌+◌, ◌==◌, ◌&&◌, nat_lt, Bool, if◌then◌else◌, Option, Some, None, List, filter, map}
 use Rattle.pfs_addr_values.specs.declared.addresses.Addr.{Addr}
-use Rattle.pfs_conf_values.specs.Configs.{Conf}
+use Rattle.pfs_addr_values.specs.Sameness.{same_addr}
+use Rattle.pfs_addr_values.specs.declared.packets.Dir.{Dir}
+use Rattle.pfs_addr_values.specs.declared.packets.Dir.TheVariants as dir
+use Rattle.pfs_addr_values.specs.declared.packets.Endpoint.{Endpoint}
+use Rattle.pfs_addr_values.specs.declared.packets.FlowKey.{FlowKey}
+use Rattle.pfs_conf_values.specs.Configs.{Conf, options_of, rule_retention, timeout_of}
+use Rattle.pfs_conf_values.specs.declared.profiles.Profile.{Profile}
+use Rattle.pfs_conf_values.specs.declared.profiles.Profile.TheVariants as profile
+use Rattle.pfs_conf_values.specs.declared.timeouts.TimeoutName.TheVariants as timeout
 use Rattle.pfs_conf_values.specs.declared.items.RuleNo.{RuleNo}
 use Rattle.pfs_store_contract.specs.Worlds.{World, holds_number}
 use Rattle.pfs_store_contract.specs.Counts.{node_states, is_of_rule, is_of_source}
 use Rattle.pfs_store_contract.specs.declared.records.Node.{Node}
+use Rattle.pfs_store_contract.specs.declared.records.NodeScope.{NodeScope}
+use Rattle.pfs_store_contract.specs.declared.records.NodeScope.TheVariants as node_scope
 use Rattle.pfs_store_contract.specs.declared.records.State.{State}
 
--- a node that had states before and has none after has been idle since now
+-- how long a node without states is kept: of a rule alone, by its `src.track` and the seconds of its rate; of all, for the global
+-- `src.track`
+abbrev pub node_retention : Conf → NodeScope → ℕ
+node_retention conf (node_scope.Rule rule) = rule_retention conf.profile (timeout_of conf timeout.SrcTrack) (options_of conf rule.0)
+node_retention conf node_scope.Global = timeout_of conf timeout.SrcTrack
+
+-- a node that had states before and has none after may leave when its retention is over
 abbrev pub node_after_leaving : Conf → List State → List State → ℕ → Node → Node
 node_after_leaving conf before after now n =
     if nat_lt 0 (node_states conf n.scope n.source before) && (node_states conf n.scope n.source after == 0)
-    then record n { idle = now }
+    then record n { expires = now + node_retention conf n.scope }
     else n
 
 -- the world in which these states stay, and these state numbers are pending
@@ -25,7 +41,18 @@ world_with_stay conf w states pending now =
 abbrev pub world_without : Conf → World → (State → Bool) → ℕ → World
 world_without conf w stays now = world_with_stay conf w (filter stays w.states) (filter (holds_number (filter stays w.states)) w.pending_states) now
 
+-- the end of a key on the side from which packets of a direction come
+abbrev pub end_on : Dir → FlowKey → Endpoint
+end_on dir.In key = key.a
+end_on dir.Out key = key.b
+
+-- the states that a flush takes for those of the source of a state that was made in this direction: those that the source made
+-- (own); of OpenBSD those whose key has it at the end from which packets of that direction come (likely)
+abbrev pub is_beside : Profile → Dir → Addr → State → Bool
+is_beside profile.Own dir source s = is_of_source source s
+is_beside profile.OpenBsd74 dir source s = same_addr (end_on dir s.key).addr source
+
 -- the states of a source that are flushed: all of them, or those of one rule
-abbrev pub is_flushed : Addr → Option RuleNo → State → Bool
-is_flushed source None s = is_of_source source s
-is_flushed source (Some rule) s = is_of_rule rule.0 s && is_of_source source s
+abbrev pub is_flushed : Profile → Dir → Addr → Option RuleNo → State → Bool
+is_flushed profile dir source None s = is_beside profile dir source s
+is_flushed profile dir source (Some rule) s = is_of_rule rule.0 s && is_beside profile dir source s

@@ -3,7 +3,7 @@
 -- "interval" for how often all are examined)
 use Rattle.std.specs.Prelude.{ℕ, ◌+◌, ◌/◌, ◌==◌, ◌&&◌, not, nat_le, Bool, List, [], ◌∷◌, length, take, drop, filter, map}
 use Rattle.std.specs.List.{list_any}
-use Rattle.pfs_conf_values.specs.Configs.{Conf, limit_of, timeout_of, options_of, rule_retention}
+use Rattle.pfs_conf_values.specs.Configs.{Conf, limit_of, timeout_of}
 use Rattle.pfs_conf_values.specs.declared.limits.LimitName.TheVariants as limit_name
 use Rattle.pfs_conf_values.specs.declared.timeouts.TimeoutName.TheVariants as timeout
 use Rattle.pfs_track.specs.Lifetimes.{scaled_lifetime, is_expired}
@@ -11,8 +11,6 @@ use Rattle.pfs_store_contract.specs.Worlds.{World}
 use Rattle.pfs_store_contract.specs.Counts.{rule_states, node_states}
 use Rattle.pfs_store_contract.specs.Leaving.{world_with_stay}
 use Rattle.pfs_store_contract.specs.declared.records.Node.{Node}
-use Rattle.pfs_store_contract.specs.declared.records.NodeScope.{NodeScope}
-use Rattle.pfs_store_contract.specs.declared.records.NodeScope.TheVariants as node_scope
 use Rattle.pfs_store_contract.specs.declared.records.State.{State}
 
 -- ---- rounds
@@ -63,15 +61,9 @@ node_share conf = share (limit_of conf limit_name.SrcNodes) (timeout_of conf tim
 abbrev pub node_round : World → List ℕ
 node_round w = round (node_numbers w.nodes) w.pending_nodes
 
--- how long a node without states is kept: of a rule alone, the greater of its `src.track` and of the seconds of its rate;
--- of all, the global `src.track`
-abbrev pub node_retention : Conf → NodeScope → ℕ
-node_retention conf (node_scope.Rule rule) = rule_retention (timeout_of conf timeout.SrcTrack) (options_of conf rule.0)
-node_retention conf node_scope.Global = timeout_of conf timeout.SrcTrack
-
--- a node has no state, and its retention is over
+-- a node has no state, and the moment has come from which it may leave
 abbrev pub is_over : Conf → List State → ℕ → Node → Bool
-is_over conf states now n = (node_states conf n.scope n.source states == 0) && nat_le (n.idle + node_retention conf n.scope) now
+is_over conf states now n = (node_states conf n.scope n.source states == 0) && nat_le n.expires now
 
 abbrev pub node_stays : Conf → List State → ℕ → List ℕ → Node → Bool
 node_stays conf states now examined n = not (is_among examined n.number && is_over conf states now n)

@@ -4,7 +4,7 @@ use Rattle.std.specs.List.{AllByRecursion}
 use Rattle.pfs_conf_values.specs.Configs.{Conf}
 use Rattle.pfs_track.specs.Lifetimes.{scaled_lifetime}
 use Rattle.pfs_store_contract.specs.Counts.{node_states, rule_states}
-use Rattle.pfs_store_contract.specs.Purging.{node_numbers, node_retention, node_share, round, state_numbers, state_share}
+use Rattle.pfs_store_contract.specs.Purging.{node_numbers, node_share, round, state_numbers, state_share}
 use Rattle.pfs_store_contract.specs.Worlds.{World}
 use Rattle.pfs_store_contract.specs.declared.records.Node.{Node}
 use Rattle.pfs_store_contract.specs.declared.records.State.{State}
@@ -32,7 +32,7 @@ StateStays conf states until s = until ≤ s.last + scaled_lifetime conf s.rule.
 
 -- a node does not leave before a moment, unless it has states and they leave
 abbrev pub NodeStays : Conf → List State → ℕ → Node → Type 0
-NodeStays conf states until n = node_states conf n.scope n.source states ≡ 0 → until ≤ n.idle + node_retention conf n.scope
+NodeStays conf states until n = node_states conf n.scope n.source states ≡ 0 → until ≤ n.expires
 
 -- a number is one of those of which it is told that they stay
 pub record IsTold (staying : Staying) (number : ℕ) : Type 0 where

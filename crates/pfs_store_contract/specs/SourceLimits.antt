@@ -5,6 +5,8 @@ use Rattle.pfs_addr_values.specs.declared.addresses.Addr.{Addr}
 use Rattle.pfs_conf_values.specs.Configs.{Conf, limit_of, options_of}
 use Rattle.pfs_conf_values.specs.declared.actions.StateOptions.{StateOptions}
 use Rattle.pfs_conf_values.specs.declared.limits.LimitName.TheVariants as limit_name
+use Rattle.pfs_conf_values.specs.declared.profiles.Profile.{Profile}
+use Rattle.pfs_conf_values.specs.declared.profiles.Profile.TheVariants as profile
 use Rattle.pfs_store_contract.specs.Worlds.{World}
 use Rattle.pfs_store_contract.specs.Counts.{node_scope_of, rule_states, node_states, scope_nodes, has_node, reaches_maximum}
 use Rattle.pfs_store_contract.specs.declared.records.Limit.{Limit}
@@ -33,9 +35,17 @@ source_limit conf w o source None = None
 source_limit conf w o source (Some scope) =
     if has_node scope source w.nodes then held_node_limit conf w o scope source else new_node_limit conf w o scope
 
+-- the limit of a rule's states
+abbrev pub maximum_limit : World → ℕ → StateOptions → Option Limit
+maximum_limit w rule o = if reaches_maximum o.max (rule_states rule w.states) then Some limit.Max else None
+
+-- that of the rule's states and that of the source, in the order of the profile
+abbrev pub rule_limit : Profile → Option Limit → Option Limit → Option Limit
+rule_limit profile.Own maximum of_source = first_of maximum of_source
+rule_limit profile.OpenBsd74 maximum of_source = first_of of_source maximum
+
 -- one after the other
 abbrev pub limit_in_turn : Conf → World → ℕ → Addr → Option Limit
 limit_in_turn conf w rule source =
-    first_of (if reaches_maximum (options_of conf rule).max (rule_states rule w.states) then Some limit.Max else None)
-    (first_of (source_limit conf w (options_of conf rule) source (node_scope_of conf rule))
-    (if nat_le (limit_of conf limit_name.States) (length w.states) then Some limit.States else None))
+    first_of (rule_limit conf.profile (maximum_limit w rule (options_of conf rule)) (source_limit conf w (options_of conf rule) source (node_scope_of conf rule)))
+    (if nat_le (limit_of conf limit_name.States) (length w.states) then Some limit.States else None)

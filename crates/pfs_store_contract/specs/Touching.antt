@@ -1,14 +1,15 @@
 -- A packet of a state that is held: its phase is renewed, and at a completed handshake of a rule with a rate its node's
 -- score. (pf.conf(5), STATEFUL TRACKING OPTIONS; the table of phases and the score are own)
-use Rattle.std.specs.Prelude.{ℕ, ◌==◌, Bool, true, false, if◌then◌else◌, Option, Some, None, List, map, option_map, unwrap_or}
+use Rattle.std.specs.Prelude.{ℕ, ◌==◌, ◌&&◌, not, Bool, true, false, if◌then◌else◌, Option, Some, None, List, map, option_map, unwrap_or}
 use Rattle.std.specs.List.{find}
 use Rattle.pfs_addr_values.specs.Packets.{PacketView}
 use Rattle.pfs_addr_values.specs.declared.addresses.Addr.{Addr}
 use Rattle.pfs_addr_values.specs.contracts.packets.DirPartialEq.TheImpl as dir_eq
 use Rattle.pfs_conf_values.specs.Configs.{Conf, options_of}
+use Rattle.pfs_conf_values.specs.Profiles.{is_openbsd}
 use Rattle.pfs_conf_values.specs.declared.actions.Rate.{Rate}
 use Rattle.pfs_track.specs.Scores.{score_after, zero_score}
-use Rattle.pfs_track.specs.StatePhases.{phase_after, completes}
+use Rattle.pfs_track.specs.StatePhases.{completes, has_closed, phase_after}
 use Rattle.pfs_track.specs.declared.scores.Score.{Score}
 use Rattle.pfs_store_contract.specs.Worlds.{World}
 use Rattle.pfs_store_contract.specs.Counts.{is_node, node_connections, node_scope_of}
@@ -23,6 +24,10 @@ goes_forward p s = (dir_eq.ghosts).eq p.dir s.dir
 -- a packet completes the handshake of a state
 abbrev pub completes_at : PacketView → State → Bool
 completes_at p s = completes s.phase (goes_forward p s) p.flags
+
+-- a SYN without ACK for a connection that has closed: of OpenBSD its state leaves, and the packet is one of no state (certain)
+abbrev pub reopens : Conf → PacketView → State → Bool
+reopens conf p s = is_openbsd conf.profile && (p.flags.syn && not p.flags.ack) && has_closed s.phase
 
 -- the state after its packet
 abbrev pub state_after_packet : PacketView → ℕ → State → State

@@ -7,7 +7,7 @@ use pfs_addr_values::{Addr, Dir, FlowKey};
 use pfs_conf_values::RuleNo;
 use pfs_track::{Score, StatePhase};
 
-/// The number of a state: they count from 1 in the order of making, and none is used again.
+/// The number of a state: they rise from 1 in the order of making, and none is used again.
 #[derive(Debug, Clone, Copy, PartialEq, Eq)]
 pub struct StateNo(pub u64);
 
@@ -43,7 +43,7 @@ pub enum NodeScope {
 /// (pf.conf(5), STATEFUL TRACKING OPTIONS)
 #[derive(Debug, Clone, Copy, PartialEq, Eq)]
 pub struct Node {
-    /// The number of the state with which it was made.
+    /// Its number: that of the state with which it was made; of a node that a refusal leaves, one of its own.
     pub number: u64,
     /// Its scope.
     pub scope: NodeScope,
@@ -51,8 +51,9 @@ pub struct Node {
     pub source: Addr,
     /// The score of its handshakes.
     pub score: Score,
-    /// The moment at which its last state left, in seconds; 0 until then.
-    pub idle: u64,
+    /// The moment from which on it may leave where it has no state, in seconds: when its retention is over, that began when its
+    /// last state left; until then the moment at which it was made.
+    pub expires: u64,
 }
 
 /// The limit that refuses a state. (pf.conf(5), OPTIONS, "set limit", and STATEFUL TRACKING OPTIONS)
@@ -88,6 +89,8 @@ pub struct Touched {
     pub rule: RuleNo,
     /// The source of the state.
     pub source: Addr,
+    /// The direction of the packet that made it.
+    pub dir: Dir,
     /// Whether the handshake completed with it.
     pub completed: bool,
     /// The connections of the source's node after it; 0 for a rule that tracks no sources.

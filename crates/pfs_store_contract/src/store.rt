@@ -4,14 +4,16 @@ ghost use Rattle.std.specs.Prelude.{◌≡◌, ◌+◌, ◌<◌, ◌≤◌, ◌^
 ghost use Rattle.pfs_addr_values.specs.Keys.{key_of};
 ghost use Rattle.pfs_addr_values.specs.Packets.{run_limit};
 ghost use Rattle.pfs_conf_values.specs.Configs.{Conf, options_at};
-ghost use Rattle.pfs_store_contract.specs.Calls.{packet_limit, answer_at, world_at, source_states, world_flushed, flushed_count, world_killed, node_slice_of, state_slice_of, renewal_of, touch_of, world_touched, state_number, state_rule};
+ghost use Rattle.pfs_track.specs.StatePhases.{has_closed};
+ghost use Rattle.pfs_store_contract.specs.Calls.{IsFreeRefusal, answer_at, flushed_count, node_slice_of, packet_limit, renewal_of, source_states, state_number, state_rule, state_slice_of, touch_of, world_at, world_flushed, world_killed, world_touched};
 ghost use Rattle.pfs_store_contract.specs.Purging.{node_slice, state_slice};
 ghost use Rattle.pfs_store_contract.specs.Quiet.{NodesStay, StatesStay, world_after_quiet};
 ghost use Rattle.pfs_store_contract.specs.Worlds.{IsUpToNow, World, holds_number, state_with};
 ghost use Rattle.pfs_store_contract.specs.declared.records.Found.{Found};
+ghost use Rattle.pfs_store_contract.specs.declared.records.State.{State};
 
 use crate::records::{Found, Limit, Slice, StateNo, Staying, Touched, Watched};
-use pfs_addr_values::{Addr, FlowKey, Meter, NoMemory, Packet};
+use pfs_addr_values::{Addr, Dir, FlowKey, Meter, NoMemory, Packet};
 use pfs_conf_values::RuleNo;
 
 /// States and source nodes, however they are kept.
@@ -50,18 +52,22 @@ pub trait Store {
     fn node_count(&self) -> u64
         ensures { result ≡ length (world self.now).nodes };
 
-    /// How many states were ever made.
+    /// How many numbers were used: one for each state that was made, and one for each source node that a refusal left.
     fn made(&self) -> u64
         ensures { result ≡ (world self.now).made };
 
     /// Makes a state for a packet whose key no state has, at a rule that keeps state. It makes a source node with it
     /// where the rule tracks sources and the source has none in its scope. It returns the number of the state, or the
     /// first limit that the state would meet: `max`; for a source without a node `max-src-nodes` and the limit of
-    /// source nodes; for one with a node `max-src-states`; the limit of states.
+    /// source nodes; for one with a node `max-src-states`; the limit of states. Under the profile of OpenBSD 7.4 `max` is asked
+    /// behind those of the source.
     ///
-    /// `NoMemory` where no limit is met and memory for them was refused; where a limit is met no memory is taken. In
-    /// both cases what is held is unchanged. Fewer than 1,000,000,000 states were made before. It looks at no record.
-    /// (pf.conf(5), OPTIONS, "set limit", and STATEFUL TRACKING OPTIONS; the order of the limits is own to this profile)
+    /// A refusal leaves what is held unchanged, but for one case: where `max` refuses under that profile, and the rule tracks
+    /// sources and the source has no node in its scope, a node is made and stays, which may leave from `now` on.
+    ///
+    /// `NoMemory` where memory for a state or a node was refused; then what is held is unchanged. Where a limit is met memory is
+    /// taken for that node alone. Fewer than 1,000,000,000 numbers were used before. It looks at no record.
+    /// (pf.conf(5), OPTIONS, "set limit", and STATEFUL TRACKING OPTIONS; the order of the limits is own, and likely OpenBSD's)
     fn admit(
         &mut self,
         packet: &Packet,
@@ -77,7 +83,8 @@ pub trait Store {
             ≡ world_at (config self.old) (world self.old) packet.now rule.0 now
             (packet_limit (config self.old) (world self.old) packet.now rule.0)) }
         ensures err { OnErr result (world self.new ≡ world self.old) }
-        ensures no_memory { IsSome (packet_limit (config self.old) (world self.old) packet.now rule.0) → IsOk result }
+        ensures no_memory { IsFreeRefusal (config self.old) (world self.old) packet.now rule.0
+            (packet_limit (config self.old) (world self.old) packet.now rule.0) → IsOk result }
         ensures config { config self.new ≡ config self.old };
 
     /// Takes a packet of the state that was found by its key: the state's phase and the moment of its last packet are renewed,
@@ -119,9 +126,21 @@ pub trait Store {
         self.touch(found, packet, now, meter).told_where_completed()
     }
 
-    /// Takes out the state that was found. A node that loses its last state has been idle since `now`. It looks at one record.
+    /// Whether both peers of the state that was found have closed their connection, or it was reset. It looks at one record.
+    fn has_closed(&self, found: Found, key: &FlowKey, meter: &mut Meter) -> bool
+        requires held { option_map state_number (state_with key.now (world self.now)) ≡ Some found.number }
+        requires reached { reaches self.now found ≡ true }
+        requires meter { meter.old ≤ 2 ^ 63 }
+        ensures answer { Some result ≡ option_map (λ (s : State). has_closed s.phase) (state_with key.now (world self.now)) }
+        ensures looks { counts ≡ true → meter.new ≡ meter.old + 1 }
+        ensures uncounted { counts ≡ false → meter.new ≡ meter.old }
+        ensures most { meter.new ≤ meter.old + run_limit };
+
+    /// Takes out the state that was found. A node that loses its last state is kept for its retention from `now` on. It looks at
+    /// one record.
     fn kill(&mut self, found: Found, now: u64, meter: &mut Meter)
         requires reached { reaches self.old found ≡ true }
+        requires moment { now ≤ 2 ^ 63 }
         requires meter { meter.old ≤ 2 ^ 63 }
         ensures world { world self.new ≡ world_killed (config self.old) (world self.old) found.number.0 now }
         ensures looks { counts ≡ true → meter.new ≡ meter.old + 1 }
@@ -129,24 +148,34 @@ pub trait Store {
         ensures most { meter.new ≤ meter.old + run_limit }
         ensures config { config self.new ≡ config self.old };
 
-    /// Takes out the states of a source, all of them or those of one rule, and returns how many they are. A node that
-    /// loses its last state has been idle since `now`. It looks at each record that leaves, and at no more than one for
-    /// each state of the source. (pf.conf(5), STATEFUL TRACKING OPTIONS, "flush")
-    fn flush(&mut self, source: Addr, rule: Option<RuleNo>, now: u64, meter: &mut Meter) -> u64
+    /// Takes out the states of a source, all of them or those of one rule, and returns how many they are: those that it made; under
+    /// the profile of OpenBSD 7.4 those whose key has it at the end from which packets of this direction come. A node that
+    /// loses its last state is kept for its retention from `now` on. It looks at each record that leaves, and at no more than one
+    /// for each state of the source. (pf.conf(5), STATEFUL TRACKING OPTIONS, "flush")
+    fn flush(
+        &mut self,
+        dir: Dir,
+        source: Addr,
+        rule: Option<RuleNo>,
+        now: u64,
+        meter: &mut Meter,
+    ) -> u64
+        requires moment { now ≤ 2 ^ 63 }
         requires meter { meter.old ≤ 2 ^ 63 }
-        ensures answer { result ≡ flushed_count (world self.old) source rule }
-        ensures world { world self.new ≡ world_flushed (config self.old) (world self.old) source rule now }
+        ensures answer { result ≡ flushed_count (config self.old).profile (world self.old) dir source rule }
+        ensures world { world self.new ≡ world_flushed (config self.old) (world self.old) dir source rule now }
         ensures looks { counts ≡ true → meter.old + result ≤ meter.new }
-        ensures few_looks { counts ≡ true → meter.new ≤ meter.old + source_states source (world self.old).states }
+        ensures few_looks { counts ≡ true → meter.new ≤ meter.old + source_states (config self.old).profile dir source (world self.old).states }
         ensures uncounted { counts ≡ false → meter.new ≡ meter.old }
         ensures most { meter.new ≤ meter.old + run_limit }
         ensures config { config self.new ≡ config self.old };
 
     /// Examines the next states of the round, or the first of a new one: of L, the limit of states, and `interval` at most
     /// 1 + L / `interval`. Those leave that are expired at `now` under the counts before the call. A node that loses its last
-    /// state has been idle since `now`. It looks at each record that it examines.
-    /// (pf.conf(5), OPTIONS, "interval"; the rounds are own to this profile)
+    /// state is kept for its retention from `now` on. It looks at each record that it examines.
+    /// (pf.conf(5), OPTIONS, "interval"; the rounds are own)
     fn purge_states(&mut self, now: u64, meter: &mut Meter) -> Slice
+        requires moment { now ≤ 2 ^ 63 }
         requires meter { meter.old ≤ 2 ^ 63 }
         ensures answer { result ≡ state_slice_of (config self.old) (world self.old) now }
         ensures world { world self.new ≡ state_slice (config self.old) (world self.old) now }
@@ -156,8 +185,8 @@ pub trait Store {
         ensures config { config self.new ≡ config self.old };
 
     /// Examines the next source nodes of their round, or the first of a new one, at most so many as `purge_states` does by
-    /// the limit of source nodes. Those leave that have no state, and whose retention after their idle moment is over at
-    /// `now`. It looks at no record of a state. (pf.conf(5), OPTIONS, "src.track"; the rounds are own to this profile)
+    /// the limit of source nodes. Those leave that have no state, and whose retention is over at `now`. It looks at
+    /// no record of a state. (pf.conf(5), OPTIONS, "src.track"; the rounds are own)
     fn purge_nodes(&mut self, now: u64) -> Slice
         ensures answer { result ≡ node_slice_of (config self.old) (world self.old) now }
         ensures world { world self.new ≡ node_slice (config self.old) (world self.old) now }
@@ -167,6 +196,7 @@ pub trait Store {
     /// examined, by their numbers; and whether the round is over. A kind of store that does not know it returns the moment 0.
     /// (pf.conf(5), OPTIONS, "interval"; the rounds are own)
     fn watch_states(&mut self, now: u64, meter: &mut Meter) -> Watched
+        requires moment { now ≤ 2 ^ 63 }
         requires meter { meter.old ≤ 2 ^ 63 }
         ensures answer { result.slice ≡ state_slice_of (config self.old) (world self.old) now }
         ensures world { world self.new ≡ state_slice (config self.old) (world self.old) now }

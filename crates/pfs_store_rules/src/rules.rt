@@ -1,11 +1,11 @@
 //! What a rule asks of a store: its options, the scope of its source nodes and how long they stay, and its maximums.
 
 ghost use Rattle.std.specs.Prelude.{◌≡◌, IsSome, slice_index};
-ghost use Rattle.pfs_conf_values.specs.Configs.{options_at, options_of, rule_retention};
+ghost use Rattle.pfs_conf_values.specs.Configs.{options_at, options_of};
 ghost use Rattle.pfs_store_contract.specs.Counts.{node_scope_of, reaches_maximum};
-ghost use Rattle.pfs_store_contract.specs.Purging.{node_retention};
+ghost use Rattle.pfs_store_contract.specs.Leaving.{node_retention};
 
-use pfs_conf_values::{Config, RuleNo, Scope, StateOptions, TimeoutName};
+use pfs_conf_values::{Config, RuleNo, Scope, StateOptions, TimeoutName, rule_retention};
 use pfs_store_contract::NodeScope;
 
 /// The options of a rule that keeps state. It takes no memory.
@@ -37,24 +37,10 @@ pub fn node_retention(config: &Config, scope: NodeScope) -> u64
     let global = config.timeout(TimeoutName::SrcTrack);
     match scope {
         NodeScope::Rule(rule) => match config.options(rule) {
-            Some(options) => rule_retention(options, global),
+            Some(options) => rule_retention(config.profile(), options, global),
             None => global,
         },
         NodeScope::Global => global,
-    }
-}
-
-/// The greater of `src.track` and of the seconds of the rate, in the options of a rule.
-fn rule_retention(options: &StateOptions, global: u64) -> u64
-    ensures { result ≡ rule_retention global options.now }
-{
-    let seconds = match options.timeouts.get(TimeoutName::SrcTrack) {
-        Some(seconds) => u64::from(seconds),
-        None => global,
-    };
-    match options.max_src_conn_rate {
-        Some(rate) => seconds.max(u64::from(rate.seconds)),
-        None => seconds,
     }
 }
 

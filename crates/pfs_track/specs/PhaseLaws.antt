@@ -22,16 +22,16 @@ once true now shown never h = absurd (never (shown refl))
 once false now shown never h = (refl, h)
 
 -- no packet lowers the rank of the maker, nor of the other
-pub tcp_step-maker : (p : TcpPhase) (forward : Bool) (flags : Flags) → rank_number p.maker ≤ rank_number (tcp_step p forward flags).maker
-tcp_step-maker p forward flags = (peers-rise forward flags p.maker p.other).first
+pub tcp_step-maker : (full : Bool) (p : TcpPhase) (forward : Bool) (flags : Flags) → rank_number p.maker ≤ rank_number (tcp_step full p forward flags).maker
+tcp_step-maker full p forward flags = (peers-rise full forward flags p.maker p.other).first
 
-pub tcp_step-other : (p : TcpPhase) (forward : Bool) (flags : Flags) → rank_number p.other ≤ rank_number (tcp_step p forward flags).other
-tcp_step-other p forward flags = (peers-rise forward flags p.maker p.other).second
+pub tcp_step-other : (full : Bool) (p : TcpPhase) (forward : Bool) (flags : Flags) → rank_number p.other ≤ rank_number (tcp_step full p forward flags).other
+tcp_step-other full p forward flags = (peers-rise full forward flags p.maker p.other).second
 
 -- a handshake completes only where it has not, since both ranks would be at ESTABLISHED; and then it has
-pub tcp_completes-once : (p : TcpPhase) (forward : Bool) (flags : Flags) → tcp_completes p forward flags ≡ true
-    → (p.complete ≡ false) × ((tcp_step p forward flags).complete ≡ true)
-tcp_completes-once p forward flags h = once p.complete (tcp_peers p forward flags).completes p.established (peers-complete forward flags p.maker p.other h).first h
+pub tcp_completes-once : (full : Bool) (p : TcpPhase) (forward : Bool) (flags : Flags) → tcp_completes full p forward flags ≡ true
+    → (p.complete ≡ false) × ((tcp_step full p forward flags).complete ≡ true)
+tcp_completes-once full p forward flags h = once p.complete (tcp_peers full p forward flags).completes p.established (peers-complete full forward flags p.maker p.other h).first h
 
 -- what was complete is complete
 stays : (complete now : Bool) → complete ≡ true → (complete || now) ≡ true
@@ -39,8 +39,8 @@ stays true now h = refl
 stays false now h = absurd (false≢true h)
 
 -- a handshake that has completed stays so
-pub tcp_step-complete : (p : TcpPhase) (forward : Bool) (flags : Flags) → p.complete ≡ true → (tcp_step p forward flags).complete ≡ true
-tcp_step-complete p forward flags h = stays p.complete (tcp_peers p forward flags).completes h
+pub tcp_step-complete : (full : Bool) (p : TcpPhase) (forward : Bool) (flags : Flags) → p.complete ≡ true → (tcp_step full p forward flags).complete ≡ true
+tcp_step-complete full p forward flags h = stays p.complete (tcp_peers full p forward flags).completes h
 
 -- ---- the other protocols
 

@@ -41,35 +41,43 @@ IsEstablished rank = rank_number Established ≤ rank_number rank
 abbrev pub ends : TcpRank → TcpRank → Bool → Ends
 ends sender receiver completes = record { sender = sender; receiver = receiver; completes = completes }
 
--- ACK, by the first line that applies:
+-- ACK of a state that is tracked fully, by the first line that applies (certain):
+--   a receiver at SYN_SENT becomes ESTABLISHED, and if the sender is at ESTABLISHED, the handshake completes;
+--   a receiver at CLOSING becomes FIN_WAIT_2
+-- ACK of another, by the first line that applies:
 --   a receiver at SYN_SENT becomes ESTABLISHED, and if the sender is at ESTABLISHED, the handshake completes;
 --   a receiver at CLOSING becomes FIN_WAIT_2;
 --   where the sender is at SYN_SENT and the receiver below it, so that one half is seen alone, both become ESTABLISHED,
 --     and the handshake completes;
 --   where the sender is at CLOSING, the receiver at ESTABLISHED and the packet goes forward, the receiver becomes CLOSING
-abbrev pub ends_after_ack : Bool → TcpRank → TcpRank → Ends
-ends_after_ack forward s r =
+abbrev pub ends_after_ack : Bool → Bool → TcpRank → TcpRank → Ends
+ends_after_ack true forward s r =
+    if is_rank r SynSent then ends s Established (is_rank s Established)
+    else (if is_rank r Closing then ends s FinWait2 false
+    else ends s r false)
+ends_after_ack false forward s r =
     if is_rank r SynSent then ends s Established (is_rank s Established)
     else (if is_rank r Closing then ends s FinWait2 false
     else (if is_rank s SynSent && is_below r SynSent then ends Established Established true
     else (if is_rank s Closing && is_rank r Established && forward then ends s Closing false
     else ends s r false)))
 
--- what a packet makes of the ranks of its sender and its receiver (own): SYN raises the sender to SYN_SENT, then FIN raises
--- it to CLOSING; then ACK acts; RST makes both TIME_WAIT, and a handshake that the same packet's ACK completes stays complete
-abbrev pub ends_after_packet : Bool → Flags → TcpRank → TcpRank → Ends
-ends_after_packet forward flags s r =
-    let syn = if flags.syn then raised_rank s SynSent else s in
+-- what a packet makes of the ranks of its sender and its receiver, by whether its state is tracked fully: SYN, or fully any packet,
+-- raises the sender to SYN_SENT, then FIN raises it to CLOSING; then ACK acts; RST makes both TIME_WAIT, and a handshake that the
+-- same packet's ACK completes stays complete (own but for what is tracked fully)
+abbrev pub ends_after_packet : Bool → Bool → Flags → TcpRank → TcpRank → Ends
+ends_after_packet full forward flags s r =
+    let syn = if full || flags.syn then raised_rank s SynSent else s in
     let fin = if flags.fin then raised_rank syn Closing else syn in
-    let e = if flags.ack then ends_after_ack forward fin r else ends fin r false in
+    let e = if flags.ack then ends_after_ack full forward fin r else ends fin r false in
     if flags.rst then ends TimeWait TimeWait e.completes else e
 
 -- what it makes of the ranks of the maker and the other peer: the maker is the sender of a packet that goes forward
-abbrev pub peers_after : Bool → Flags → TcpRank → TcpRank → Peers
-peers_after true flags maker other =
-    let e = ends_after_packet true flags maker other in record { maker = e.sender; other = e.receiver; completes = e.completes }
-peers_after false flags maker other =
-    let e = ends_after_packet false flags other maker in record { maker = e.receiver; other = e.sender; completes = e.completes }
+abbrev pub peers_after : Bool → Bool → Flags → TcpRank → TcpRank → Peers
+peers_after full true flags maker other =
+    let e = ends_after_packet full true flags maker other in record { maker = e.sender; other = e.receiver; completes = e.completes }
+peers_after full false flags maker other =
+    let e = ends_after_packet full false flags other maker in record { maker = e.receiver; other = e.sender; completes = e.completes }
 
 -- both peers are at least at a rank, or one of them is
 abbrev pub both_reach : TcpRank → TcpRank → TcpRank → Bool

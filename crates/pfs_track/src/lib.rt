@@ -11,7 +11,7 @@ mod tcp_ranks;
 
 pub use datagrams::DatagramPhase;
 pub use lifetimes::{is_expired, lifetime};
-pub use protocols::{Other, Phases, Tcp, Udp};
+pub use protocols::{FullTcp, Other, Phases, Tcp, Udp};
 pub use scores::Score;
 pub use state_phases::StatePhase;
 pub use tcp_phases::TcpPhase;

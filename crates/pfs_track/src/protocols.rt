@@ -66,9 +66,13 @@ pub trait Phases {
     ghost stays_complete: { StaysComplete is_complete after };
 }
 
-/// TCP, whose connections begin with a handshake.
+/// TCP, whose connections begin with a handshake, by the table of sloppy states.
 #[derive(Debug, Clone, Copy, PartialEq, Eq)]
 pub struct Tcp;
+
+/// TCP by OpenBSD's table of states that are tracked fully: every packet counts as within the windows.
+#[derive(Debug, Clone, Copy, PartialEq, Eq)]
+pub struct FullTcp;
 
 /// UDP.
 #[derive(Debug, Clone, Copy, PartialEq, Eq)]
@@ -81,16 +85,16 @@ pub struct Other;
 impl Phases for Tcp {
     type Phase = TcpPhase;
 
-    ghost use Rattle.std.specs.Prelude.{refl};
+    ghost use Rattle.std.specs.Prelude.{false, refl};
     ghost use Rattle.pfs_track.specs.TcpPhases.{first_tcp, tcp_step, tcp_completes};
     ghost use Rattle.pfs_track.specs.PhaseLaws.{tcp_step-maker, tcp_step-other, tcp_completes-once, tcp_step-complete};
     ghost use Rattle.pfs_track.specs.TcpRanks.{rank_number};
 
     ghost first = { first_tcp };
 
-    ghost after = { tcp_step };
+    ghost after = { tcp_step false };
 
-    ghost completes = { tcp_completes };
+    ghost completes = { tcp_completes false };
 
     ghost timeout = { λ p. p.timeout };
 
@@ -105,22 +109,67 @@ impl Phases for Tcp {
     }
 
     fn step(phase: TcpPhase, forward: bool, flags: Flags) -> (TcpPhase, bool) {
-        phase.step(forward, flags)
+        phase.step(false, forward, flags)
     }
 
     fn slot(phase: TcpPhase) -> TimeoutName {
         phase.timeout()
     }
 
-    ghost maker_never_falls = { tcp_step-maker };
+    ghost maker_never_falls = { tcp_step-maker false };
 
-    ghost other_never_falls = { tcp_step-other };
+    ghost other_never_falls = { tcp_step-other false };
 
     ghost begins_incomplete = { refl };
 
-    ghost completes_once = { tcp_completes-once };
+    ghost completes_once = { tcp_completes-once false };
 
-    ghost stays_complete = { tcp_step-complete };
+    ghost stays_complete = { tcp_step-complete false };
+}
+
+impl Phases for FullTcp {
+    type Phase = TcpPhase;
+
+    ghost use Rattle.std.specs.Prelude.{true, refl};
+    ghost use Rattle.pfs_track.specs.TcpPhases.{first_tcp, tcp_step, tcp_completes};
+    ghost use Rattle.pfs_track.specs.PhaseLaws.{tcp_step-maker, tcp_step-other, tcp_completes-once, tcp_step-complete};
+    ghost use Rattle.pfs_track.specs.TcpRanks.{rank_number};
+
+    ghost first = { first_tcp };
+
+    ghost after = { tcp_step true };
+
+    ghost completes = { tcp_completes true };
+
+    ghost timeout = { λ p. p.timeout };
+
+    ghost maker_rank = { λ p. rank_number p.maker };
+
+    ghost other_rank = { λ p. rank_number p.other };
+
+    ghost is_complete = { λ p. p.complete };
+
+    fn first() -> TcpPhase {
+        TcpPhase::new()
+    }
+
+    fn step(phase: TcpPhase, forward: bool, flags: Flags) -> (TcpPhase, bool) {
+        phase.step(true, forward, flags)
+    }
+
+    fn slot(phase: TcpPhase) -> TimeoutName {
+        phase.timeout()
+    }
+
+    ghost maker_never_falls = { tcp_step-maker true };
+
+    ghost other_never_falls = { tcp_step-other true };
+
+    ghost begins_incomplete = { refl };
+
+    ghost completes_once = { tcp_completes-once true };
+
+    ghost stays_complete = { tcp_step-complete true };
 }
 
 /// A protocol without a handshake: its phases are those of datagrams, and its timeouts its own.

@@ -19,7 +19,7 @@ pub struct TcpPhase {
 }
 
 impl TcpPhase {
-    ghost use Rattle.pfs_track.specs.TcpPhases.{first_tcp, tcp_step, tcp_completes};
+    ghost use Rattle.pfs_track.specs.TcpPhases.{first_tcp, tcp_completes, tcp_has_closed, tcp_step};
 
     /// The phase of a new connection, whatever the flags of its packet.
     pub(crate) fn new() -> TcpPhase
@@ -33,13 +33,13 @@ impl TcpPhase {
         }
     }
 
-    /// The phase after a later packet, and whether the handshake completes at it. `forward`: the packet goes in the
-    /// direction of the one that made the state.
-    pub(crate) fn step(self, forward: bool, flags: Flags) -> (TcpPhase, bool)
-        ensures phase { result.0 ≡ tcp_step self forward flags }
-        ensures completes { result.1 ≡ tcp_completes self forward flags }
+    /// The phase after a later packet, and whether the handshake completes at it. `full`: the state is tracked fully.
+    /// `forward`: the packet goes in the direction of the one that made the state.
+    pub(crate) fn step(self, full: bool, forward: bool, flags: Flags) -> (TcpPhase, bool)
+        ensures phase { result.0 ≡ tcp_step full self forward flags }
+        ensures completes { result.1 ≡ tcp_completes full self forward flags }
     {
-        let after = meet(forward, flags, self.maker, self.other);
+        let after = meet(full, forward, flags, self.maker, self.other);
         let phase = TcpPhase {
             maker: after.maker,
             other: after.other,
@@ -54,6 +54,13 @@ impl TcpPhase {
         ensures { result ≡ self.timeout }
     {
         self.timeout
+    }
+
+    /// Whether both peers have closed the connection, or it was reset.
+    pub(crate) fn has_closed(self) -> bool
+        ensures { result ≡ tcp_has_closed self }
+    {
+        !self.maker.is_below(TcpRank::FinWait2) && !self.other.is_below(TcpRank::FinWait2)
     }
 
     /// Whether the handshake has completed.

@@ -56,20 +56,20 @@ pub(crate) struct Peers {
     pub completes: bool,
 }
 
-/// What a packet makes of the ranks of the maker and the other peer. `forward`: the packet goes in the direction of the
-/// one that made the state, so its sender is the maker.
-pub(crate) fn meet(forward: bool, flags: Flags, maker: TcpRank, other: TcpRank) -> Peers
-    ensures { result ≡ peers_after forward flags maker other }
+/// What a packet makes of the ranks of the maker and the other peer. `full`: the state is tracked fully. `forward`: the
+/// packet goes in the direction of the one that made the state, so its sender is the maker.
+pub(crate) fn meet(full: bool, forward: bool, flags: Flags, maker: TcpRank, other: TcpRank) -> Peers
+    ensures { result ≡ peers_after full forward flags maker other }
 {
     if forward {
-        let ends = act(forward, flags, maker, other);
+        let ends = act(full, forward, flags, maker, other);
         Peers {
             maker: ends.sender,
             other: ends.receiver,
             completes: ends.completes,
         }
     } else {
-        let ends = act(forward, flags, other, maker);
+        let ends = act(full, forward, flags, other, maker);
         Peers {
             maker: ends.receiver,
             other: ends.sender,
@@ -78,12 +78,12 @@ pub(crate) fn meet(forward: bool, flags: Flags, maker: TcpRank, other: TcpRank) 
     }
 }
 
-/// What a packet makes of the ranks of its sender and its receiver: SYN acts first, then FIN, ACK and RST. `forward`:
-/// the packet goes in the direction of the one that made the state. (own to this profile)
-fn act(forward: bool, flags: Flags, sender: TcpRank, receiver: TcpRank) -> Ends
-    ensures { result ≡ ends_after_packet forward flags sender receiver }
+/// What a packet makes of the ranks of its sender and its receiver: SYN, or of a state that is tracked fully any packet,
+/// acts first, then FIN, ACK and RST. `forward`: the packet goes in the direction of the one that made the state.
+fn act(full: bool, forward: bool, flags: Flags, sender: TcpRank, receiver: TcpRank) -> Ends
+    ensures { result ≡ ends_after_packet full forward flags sender receiver }
 {
-    let sender = if flags.syn {
+    let sender = if full || flags.syn {
         sender.raised(TcpRank::SynSent)
     } else {
         sender
@@ -94,7 +94,7 @@ fn act(forward: bool, flags: Flags, sender: TcpRank, receiver: TcpRank) -> Ends
         sender
     };
     let ends = if flags.ack {
-        acknowledge(forward, sender, receiver)
+        acknowledge(full, forward, sender, receiver)
     } else {
         Ends {
             sender,
@@ -114,8 +114,8 @@ fn act(forward: bool, flags: Flags, sender: TcpRank, receiver: TcpRank) -> Ends
 }
 
 /// What an ACK does: the first line that applies.
-fn acknowledge(forward: bool, sender: TcpRank, receiver: TcpRank) -> Ends
-    ensures { result ≡ ends_after_ack forward sender receiver }
+fn acknowledge(full: bool, forward: bool, sender: TcpRank, receiver: TcpRank) -> Ends
+    ensures { result ≡ ends_after_ack full forward sender receiver }
 {
     if receiver == TcpRank::SynSent {
         Ends {
@@ -127,6 +127,12 @@ fn acknowledge(forward: bool, sender: TcpRank, receiver: TcpRank) -> Ends
         Ends {
             sender,
             receiver: TcpRank::FinWait2,
+            completes: false,
+        }
+    } else if full {
+        Ends {
+            sender,
+            receiver,
             completes: false,
         }
     } else if sender == TcpRank::SynSent && receiver.is_below(TcpRank::SynSent) {
@@ -174,7 +180,7 @@ pub(crate) fn timeout_of(maker: TcpRank, other: TcpRank) -> TimeoutName
 
 impl TcpRank {
     /// Whether the rank is below another.
-    fn is_below(self, limit: TcpRank) -> bool
+    pub(crate) fn is_below(self, limit: TcpRank) -> bool
         ensures { result ≡ is_below self limit }
     {
         self < limit

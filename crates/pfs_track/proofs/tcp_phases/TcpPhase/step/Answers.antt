@@ -26,13 +26,13 @@ same_phase complete after name a b =
     let one : IsProp (IsShown complete after) = hlevel props in
     ap (λ h. phase_of complete after name h) (one a b)
 
-same_step : (p : TcpPhase) (forward : Bool) (flags : Flags) (after : Peers) (name : TimeoutName)
-    → after ≡ tcp_peers p forward flags → name ≡ tcp_timeout after.maker after.other
-    → (shown : IsShown p.complete after) → phase_of p.complete after name shown ≡ tcp_step p forward flags
-same_step p forward flags after name e n shown =
+same_step : (full : Bool) (p : TcpPhase) (forward : Bool) (flags : Flags) (after : Peers) (name : TimeoutName)
+    → after ≡ tcp_peers full p forward flags → name ≡ tcp_timeout after.maker after.other
+    → (shown : IsShown p.complete after) → phase_of p.complete after name shown ≡ tcp_step full p forward flags
+same_step full p forward flags after name e n shown =
     let P : Peers → Type 0 = λ r.
-    (h : IsShown p.complete r) → phase_of p.complete r (tcp_timeout r.maker r.other) h ≡ tcp_step p forward flags in
-    let base : P (tcp_peers p forward flags) = λ h. same_phase p.complete (tcp_peers p forward flags) _ h _ in
+    (h : IsShown p.complete r) → phase_of p.complete r (tcp_timeout r.maker r.other) h ≡ tcp_step full p forward flags in
+    let base : P (tcp_peers full p forward flags) = λ h. same_phase p.complete (tcp_peers full p forward flags) _ h _ in
     let named : phase_of p.complete after name shown ≡ phase_of p.complete after (tcp_timeout after.maker after.other) shown =
     ap (λ t. phase_of p.complete after t shown) n in
     named ∙ subst P (sym e) base shown
@@ -40,7 +40,7 @@ same_step p forward flags after name e n shown =
 pub invariant_of-phase : goal.invariant_of-phase
 invariant_of-phase c =
     let a = c.args in
-    record { established = rw c.meet-after.ensures (peers_established a.self.complete a.forward a.flags a.self.maker a.self.other a.self.established) }
+    record { established = rw c.meet-after.ensures (peers_established a.full a.self.complete a.forward a.flags a.self.maker a.self.other a.self.established) }
 
 pub returns-clause-phase : goal.returns-clause-phase
-returns-clause-phase c = same_step c.args.self c.args.forward c.args.flags c.meet-after.result c.timeout_of.result c.meet-after.ensures c.timeout_of.ensures _
+returns-clause-phase c = same_step c.args.full c.args.self c.args.forward c.args.flags c.meet-after.result c.timeout_of.result c.meet-after.ensures c.timeout_of.ensures _
