@@ -57,8 +57,10 @@ HasNode conf nodes s = ForSome (node_scope_of conf s.rule.0) (λ scope. has_node
 -- a phase is one of this protocol
 abbrev pub IsPhaseOf : Proto → StatePhase → Type 0
 IsPhaseOf proto.Tcp (phase.Tcp p) = Unit {0}
+IsPhaseOf proto.Tcp (phase.FullTcp p) = Unit {0}
 IsPhaseOf proto.Tcp _ = ⊥
 IsPhaseOf _ (phase.Tcp p) = ⊥
+IsPhaseOf _ (phase.FullTcp p) = ⊥
 IsPhaseOf _ _ = Unit {0}
 
 -- the last moment, 0 before the first event

@@ -1,24 +1,38 @@
 -- At how many records of states a store looks for a packet, where it counts looks. (own)
-use Rattle.std.specs.Prelude.{ℕ, ◌≡◌, ◌≤◌, ◌+◌, Option, Some, None}
+use Rattle.std.specs.Prelude.{ℕ, ◌≡◌, ◌≤◌, ◌+◌, ◌-◌, if◌then◌else◌, Option, Some, None}
+use Rattle.pfs_addr_values.specs.Packets.{PacketView}
 use Rattle.pfs_conf_values.specs.Configs.{Conf, options_of}
 use Rattle.pfs_conf_values.specs.declared.actions.Scope.{Scope}
+use Rattle.pfs_track.specs.StatePhases.{has_closed}
 use Rattle.pfs_store_contract.specs.Calls.{source_states}
 use Rattle.pfs_store_contract.specs.Handshakes.{flush_of}
+use Rattle.pfs_store_contract.specs.Touching.{may_reopen}
 use Rattle.pfs_store_contract.specs.Worlds.{World}
 use Rattle.pfs_store_contract.specs.declared.records.State.{State}
 use Rattle.pfs_engine_machine.specs.declared.events.Outcome.{Outcome}
 use Rattle.pfs_engine_machine.specs.declared.events.Outcome.TheVariants as outcome
 
--- the states of the source of a state
-abbrev pub states_beside : World → Option State → ℕ
-states_beside w None = 0
-states_beside w (Some s) = source_states s.source w.states
+-- the states that a flush takes for those of the source of a state
+abbrev pub states_beside : Conf → World → Option State → ℕ
+states_beside conf w None = 0
+states_beside conf w (Some s) = source_states conf.profile s.dir s.source w.states
+
+-- before it is asked of anything else: where it may begin its connection anew, one to see whether the state of its key has closed,
+-- and one more to take that out
+abbrev pub first_looks : Conf → PacketView → Option State → ℕ
+first_looks conf p None = 0
+first_looks conf p (Some s) = if may_reopen conf p then (if has_closed s.phase then 2 else 1) else 0
 
 -- a kill: one for the packet's own state, and one more to take it out; with `flush` one more at least for each state that is
 -- killed, and at most for each that the source had
 abbrev pub AreLooksOfKill : Option Scope → ℕ → ℕ → ℕ → Type 0
 AreLooksOfKill None killed of_source looks = looks ≡ 2
 AreLooksOfKill (Some flush) killed of_source looks = (1 + killed ≤ looks) × (looks ≤ 1 + of_source)
+
+-- so many first, and the others are such
+pub record AreLooksBehind (first : ℕ) (AreLooksThen : ℕ → Type 0) (looks : ℕ) : Type 0 where
+  pub first : first ≤ looks
+  pub others : AreLooksThen (looks - first)
 
 -- by what came of the packet: none where no state has its key, one for the state that has it
 abbrev pub AreLooks : Conf → ℕ → Outcome → ℕ → Type 0

@@ -4,6 +4,7 @@ use Rattle.std.specs.List.{range_with_len}
 use Rattle.pfs_addr_values.specs.Keys.{key_of}
 use Rattle.pfs_addr_values.specs.Packets.{PacketView}
 use Rattle.pfs_addr_values.specs.declared.addresses.Addr.{Addr}
+use Rattle.pfs_addr_values.specs.declared.packets.Dir.{Dir}
 use Rattle.pfs_eval.specs.Entries.{Entry}
 use Rattle.pfs_eval.specs.Matching.{matches_item}
 use Rattle.pfs_eval.specs.Tables.{added_to, config_entries, deleted_count, entered_to, entries_after, entries_entered, entries_expired, entries_without, entry_count, expired_count}
@@ -15,7 +16,8 @@ use Rattle.pfs_conf_values.specs.declared.actions.Action.TheVariants as action
 use Rattle.pfs_conf_values.specs.declared.actions.Overload.{Overload}
 use Rattle.pfs_conf_values.specs.declared.items.RuleNo.{RuleNo}
 use Rattle.pfs_conf_values.specs.declared.limits.LimitName.TheVariants as limit_name
-use Rattle.pfs_store_contract.specs.Admission.{world_after_admission, limit_met}
+use Rattle.pfs_store_contract.specs.Admission.{limit_met, world_after_admission, world_after_refusal}
+use Rattle.pfs_store_contract.specs.Calls.{world_reopened}
 use Rattle.pfs_store_contract.specs.Handshakes.{flush_of, goes_with, hits_connections, hits_rate, stays_at_kill}
 use Rattle.pfs_store_contract.specs.Leaving.{world_without}
 use Rattle.pfs_store_contract.specs.Purging.{purge}
@@ -97,13 +99,13 @@ abbrev pub tables_after_addition : Conf → List (List Entry) → Addr → ℕ �
 tables_after_addition conf tables source now None = tables
 tables_after_addition conf tables source now (Some v) = entries_after tables v.table.0 source now (added_to tables (limit_of conf limit_name.TableEntries) v.table.0 source)
 
--- the state of this number, rule and source is killed, with those that its rule flushes
-abbrev pub answer_of_kill : Conf → Held → ℕ → RuleNo → Addr → ℕ → Exceeded → Outcome × Held
-answer_of_kill conf h number rule source now limits =
+-- the state of this number, direction, rule and source is killed, with those that its rule flushes
+abbrev pub answer_of_kill : Conf → Held → ℕ → Dir → RuleNo → Addr → ℕ → Exceeded → Outcome × Held
+answer_of_kill conf h number dir rule source now limits =
     let overload = (options_of conf rule.0).overload in
     let flush = flush_of overload in (
-      outcome.Kill rule limits (addition_of conf h.tables source overload) (length (filter (goes_with flush number rule source) h.world.states)),
-      held_of (world_without conf h.world (stays_at_kill flush number rule source) now) (tables_after_addition conf h.tables source now overload),
+      outcome.Kill rule limits (addition_of conf h.tables source overload) (length (filter (goes_with conf.profile flush number dir rule source) h.world.states)),
+      held_of (world_without conf h.world (stays_at_kill conf.profile flush number dir rule source) now) (tables_after_addition conf h.tables source now overload),
     )
 
 -- the limits that it exceeds, by whether `max-src-conn` is exceeded and whether `max-src-conn-rate` is; none where neither is
@@ -113,23 +115,27 @@ exceeded_of true false = Some exceeded.Connections
 exceeded_of false true = Some exceeded.Rate
 exceeded_of false false = None
 
--- a packet of the state of this number, rule and source exceeds these limits, or none
-abbrev pub answer_of_exceeded : Conf → Held → ℕ → RuleNo → Addr → ℕ → Option Exceeded → Outcome × Held
-answer_of_exceeded conf h number rule source now (Some limits) = answer_of_kill conf h number rule source now limits
-answer_of_exceeded conf h number rule source now None = (outcome.State rule, h)
+-- a packet of the state of this number, direction, rule and source exceeds these limits, or none
+abbrev pub answer_of_exceeded : Conf → Held → ℕ → Dir → RuleNo → Addr → ℕ → Option Exceeded → Outcome × Held
+answer_of_exceeded conf h number dir rule source now (Some limits) = answer_of_kill conf h number dir rule source now limits
+answer_of_exceeded conf h number dir rule source now None = (outcome.State rule, h)
 
 -- a packet of this state completes its handshake, or not
 abbrev pub answer_of_handshake : Conf → Held → State → ℕ → Bool → Outcome × Held
 answer_of_handshake conf h s now completes =
     let limits = exceeded_of (hits_connections conf h.world s) (hits_rate conf h.world s) in
-    answer_of_exceeded conf h s.number s.rule s.source now (if completes then limits else None)
+    answer_of_exceeded conf h s.number s.dir s.rule s.source now (if completes then limits else None)
 
 -- ---- one packet
+
+-- what is held after a refusal at this limit
+abbrev pub held_refused : Conf → Held → PacketView → ℕ → ℕ → Limit → Held
+held_refused conf h p now rule l = held_of (world_after_refusal conf h.world p.source.addr rule now l) h.tables
 
 -- the state that it would make meets a limit, or none
 abbrev pub answer_of_limits : Conf → Held → PacketView → ℕ → ℕ → Option Limit → Outcome × Held
 answer_of_limits conf h p now rule None = (outcome.New (record { 0 = rule }), held_of (world_after_admission conf h.world p rule now) h.tables)
-answer_of_limits conf h p now rule (Some l) = (outcome.Drop (record { 0 = rule }) l, h)
+answer_of_limits conf h p now rule (Some l) = (outcome.Drop (record { 0 = rule }) l, held_refused conf h p now rule l)
 
 -- what the rule that decides says
 abbrev pub answer_of_action : Conf → Held → PacketView → ℕ → ℕ → Action → Outcome × Held
@@ -152,9 +158,17 @@ answer_of_state conf h p now (Some s) =
     answer_of_handshake conf (held_of (world_after_touch conf h.world s p now) h.tables) s now (completes_at p s)
 answer_of_state conf h p now None = answer_of_rule conf h p now (deciding_rule conf h p)
 
+-- what a packet meets: where it is a SYN for a connection that has closed, its state has left before
+abbrev pub held_for : Conf → Held → PacketView → ℕ → Held
+held_for conf h p now = held_of (world_reopened conf h.world p now (state_with (key_of p) h.world)) h.tables
+
+-- what a packet does to what it meets at a moment
+abbrev pub answer_of_key : Conf → Held → PacketView → ℕ → Outcome × Held
+answer_of_key conf h p now = answer_of_state conf h p now (state_with (key_of p) h.world)
+
 -- what a packet does at a moment
 abbrev pub answer_to_packet : Conf → Held → PacketView → ℕ → Outcome × Held
-answer_to_packet conf h p now = answer_of_state conf h p now (state_with (key_of p) h.world)
+answer_to_packet conf h p now = answer_of_key conf (held_for conf h p now) p now
 
 -- ---- an administrator: old entries leave a table, an entry is added, that very entry is taken out (pfctl(8), "-T")
 

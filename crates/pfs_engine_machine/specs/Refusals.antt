@@ -6,8 +6,9 @@ use Rattle.pfs_addr_values.specs.declared.protocols.Proto.{Proto}
 use Rattle.pfs_addr_values.specs.declared.protocols.Proto.TheVariants as proto
 use Rattle.pfs_conf_values.specs.Configs.{Conf, options_at, options_of}
 use Rattle.pfs_conf_values.specs.declared.items.RuleNo.{RuleNo}
+use Rattle.pfs_store_contract.specs.Admission.{leaves_node}
 use Rattle.pfs_store_contract.specs.Calls.{packet_limit}
-use Rattle.pfs_store_contract.specs.Worlds.{state_with}
+use Rattle.pfs_store_contract.specs.Worlds.{World, state_with}
 use Rattle.pfs_store_contract.specs.declared.records.Limit.{Limit}
 use Rattle.pfs_engine_machine.specs.Machine.{Held, deciding_rule}
 use Rattle.pfs_engine_machine.specs.declared.events.Outcome.{Outcome}
@@ -30,9 +31,11 @@ pub record IsDropped (conf : Conf) (h : Held) (p : PacketView) (rule : ℕ) (lim
 abbrev pub IsFreeOf : Conf → PacketView → RuleNo → Type 0
 IsFreeOf conf p rule = (is_tcp p.proto ≡ false) ⊎ ((options_of conf rule.0).overload ≡ None)
 
--- a packet of which this comes needs no memory: no state is made, and it is one of no held state, or needs none there
-abbrev pub IsFree : Conf → PacketView → Outcome → Type 0
-IsFree conf p (outcome.New rule) = ⊥
-IsFree conf p (outcome.State rule) = IsFreeOf conf p rule
-IsFree conf p (outcome.Kill rule limits overload killed) = IsFreeOf conf p rule
-IsFree conf p _ = Unit {0}
+-- a packet that meets this world, and of which this comes, needs no memory: no state is made, and no node by a refusal; and it is
+-- one of no held state, or needs none there
+abbrev pub IsFree : Conf → World → PacketView → Outcome → Type 0
+IsFree conf w p (outcome.New rule) = ⊥
+IsFree conf w p (outcome.State rule) = IsFreeOf conf p rule
+IsFree conf w p (outcome.Kill rule limits overload killed) = IsFreeOf conf p rule
+IsFree conf w p (outcome.Drop rule limit) = leaves_node conf w p.source.addr rule.0 limit ≡ false
+IsFree conf w p _ = Unit {0}

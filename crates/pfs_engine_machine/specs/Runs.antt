@@ -10,7 +10,7 @@ use Rattle.pfs_engine_machine.specs.declared.events.Event.{Event}
 use Rattle.pfs_engine_machine.specs.declared.events.Outcome.{Outcome}
 use Rattle.pfs_engine_machine.specs.declared.events.Arrival.{Arrival}
 use Rattle.pfs_engine_machine.specs.declared.events.Arrival.TheVariants as arrival
-use Rattle.pfs_engine_machine.specs.Machine.{Held, Machine, machine_at_moment, answer_to_packet, machine_after, outcomes_of}
+use Rattle.pfs_engine_machine.specs.Machine.{Held, Machine, answer_to_packet, held_for, machine_after, machine_at_moment, outcomes_of}
 use Rattle.pfs_engine_machine.specs.Refusals.{IsFree}
 
 -- ---- what may come
@@ -51,14 +51,19 @@ AreAllowed conf (e ∷ es) = MayCome conf e.what × AreAllowed conf es
 
 -- what comes at a moment needs memory: a packet that is not free of it, or an entry that is new
 abbrev pub NeedsMemory : Conf → Held → ℕ → Arrival → Type 0
-NeedsMemory conf h now (arrival.Packet p) = IsFree conf p (answer_to_packet conf h p now).0 → ⊥
+NeedsMemory conf h now (arrival.Packet p) = IsFree conf (held_for conf h p now).world p (answer_to_packet conf h p now).0 → ⊥
 NeedsMemory conf h now (arrival.Table table (command.Add e)) = entered_to h.tables (limit_of conf limit_name.TableEntries) table.0 e ≡ entered.New
 NeedsMemory conf h now _ = ⊥
 
+-- where memory is refused to what comes, nothing has changed but that a state has left which the packet does not meet
+abbrev pub held_without_memory : Conf → Held → ℕ → Arrival → Held
+held_without_memory conf h now (arrival.Packet p) = held_for conf h p now
+held_without_memory conf h now _ = h
+
 -- memory was refused in what came at this event, which needs memory there: the machine is at the event's moment
 pub record IsRefusedIn (conf : Conf) (m : Machine) (e : Event) (new : Machine) : Type 0 where
-  pub needs : NeedsMemory conf new.held e.time e.what
-  pub moment : new ≡ machine_at_moment conf m e.time
+  pub needs : NeedsMemory conf (machine_at_moment conf m e.time).held e.time e.what
+  pub moment : new ≡ (let at = machine_at_moment conf m e.time in record at { held = held_without_memory conf at.held e.time e.what })
 
 -- memory was refused for the outcome of this event, before anything changed, or in what came
 abbrev pub IsRefusedAt : Conf → Machine → Event → Machine → Type 0

@@ -26,8 +26,11 @@ abbrev pub completes_at : PacketView → State → Bool
 completes_at p s = completes s.phase (goes_forward p s) p.flags
 
 -- a SYN without ACK for a connection that has closed: of OpenBSD its state leaves, and the packet is one of no state (certain)
+abbrev pub may_reopen : Conf → PacketView → Bool
+may_reopen conf p = is_openbsd conf.profile && (p.flags.syn && not p.flags.ack)
+
 abbrev pub reopens : Conf → PacketView → State → Bool
-reopens conf p s = is_openbsd conf.profile && (p.flags.syn && not p.flags.ack) && has_closed s.phase
+reopens conf p s = may_reopen conf p && has_closed s.phase
 
 -- the state after its packet
 abbrev pub state_after_packet : PacketView → ℕ → State → State
