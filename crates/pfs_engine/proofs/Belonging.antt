@@ -5,11 +5,15 @@ use Rattle.pfs_addr_values.specs.Keys.{key_of}
 use Rattle.pfs_addr_values.specs.Packets.{PacketView}
 use Rattle.pfs_addr_values.specs.Sameness.{same_addr}
 use Rattle.pfs_addr_values.specs.declared.addresses.Addr.{Addr}
+use Rattle.pfs_addr_values.specs.declared.packets.Dir.{Dir}
+use Rattle.pfs_addr_values.specs.declared.packets.FlowKey.{FlowKey}
 use Rattle.pfs_eval.specs.Holdings.{Holdings}
 use Rattle.pfs_conf_values.specs.Configs.{Conf, options_of}
 use Rattle.pfs_conf_values.specs.declared.items.RuleNo.{RuleNo}
-use Rattle.pfs_store_contract.specs.Counts.{is_of_source}
+use Rattle.pfs_conf_values.specs.declared.profiles.Profile.{Profile}
+use Rattle.pfs_conf_values.specs.declared.profiles.Profile.TheVariants as profile
 use Rattle.pfs_store_contract.specs.Calls.{renewal_of, source_states, told_at, touch_of, world_touched, state_number, state_rule}
+use Rattle.pfs_store_contract.specs.Leaving.{end_on, is_beside}
 use Rattle.pfs_store_contract.specs.Touching.{completes_at, numbered_state_after, world_after_touch}
 use Rattle.pfs_store_contract.specs.Worlds.{World, state_with}
 use Rattle.pfs_store_contract.specs.declared.records.State.{State}
@@ -17,7 +21,7 @@ use Rattle.pfs_store_contract.specs.declared.records.StateNo.{StateNo}
 use Rattle.pfs_store_contract.specs.declared.records.Touched.{Touched}
 use Rattle.pfs_engine_machine.specs.Kept.{IsKept}
 use Rattle.pfs_engine_machine.specs.Looks.{states_beside}
-use Rattle.pfs_engine_machine.specs.Machine.{Held, answer_of_state, answer_to_packet, held_of}
+use Rattle.pfs_engine_machine.specs.Machine.{Held, answer_of_key, answer_of_state, held_of}
 use Rattle.pfs_engine_machine.specs.Refusals.{is_tcp}
 use Rattle.pfs_engine.specs.Held.{HeldView, Holds, view_of}
 use Rattle.pfs_engine.specs.Packets.{answer_of_touch}
@@ -47,20 +51,27 @@ room_after conf store_conf m p now number t rule tables kept e rule_is touch_is 
     subst (λ (r : RuleNo). HasRoomFor tables (options_of conf r.0).overload) (same_rule ∙ sym (ap (λ (x : Touched). x.rule) t_is))
     (room (proto_of_completed conf m p now s kept found completes))
 
+-- a packet does not change where a state ends, nor who made it
+renewed-beside : (profile : Profile) (dir : Dir) (source : Addr) (number : ℕ) (p : PacketView) (now : ℕ) (x : State)
+    → is_beside profile dir source (numbered_state_after number p now x) ≡ is_beside profile dir source x
+renewed-beside profile.Own dir source number p now x = ap (λ (a : Addr). same_addr a source) (renewed-same number p now x).source
+renewed-beside profile.OpenBsd74 dir source number p now x = ap (λ (k : FlowKey). same_addr (end_on dir k).addr source) (renewed-same number p now x).key
+
 -- the source of the state has as many states as before
-pub beside_after : (store_conf : Conf) (w after : World) (p : PacketView) (now : ℕ) (number : StateNo) (t : Touched)
+pub beside_after : (profile : Profile) (store_conf : Conf) (w after : World) (p : PacketView) (now : ℕ) (number : StateNo) (t : Touched)
     → option_map state_number (state_with (key_of p) w) ≡ Some number → after ≡ world_touched store_conf w p now (state_with (key_of p) w)
     → Some t ≡ option_map (renewal_of store_conf w p now) (state_with (key_of p) w)
-    → source_states t.source after.states ≡ states_beside w (state_with (key_of p) w)
-beside_after store_conf w after p now number t e is touch_is =
+    → source_states profile t.dir t.source after.states ≡ states_beside profile w (state_with (key_of p) w)
+beside_after profile store_conf w after p now number t e is touch_is =
     let (s, found, same) = found_state (state_with (key_of p) w) number e in
     let told : Some t ≡ Some (renewal_of store_conf w p now s) = touch_is ∙ ap (option_map (renewal_of store_conf w p now)) found in
     let t_is : t ≡ renewal_of store_conf w p now s = cc in
     let after_is : after ≡ world_after_touch store_conf w s p now = is ∙ ap (world_touched store_conf w p now) found in
-    ap (λ (a : Addr). source_states a after.states) (ap (λ (x : Touched). x.source) t_is)
-    ∙ (ap (λ (v : World). source_states s.source v.states) after_is
-    ∙ (count-map (is_of_source s.source) (numbered_state_after s.number p now) (λ (x : State). ap (λ (a : Addr). same_addr a s.source) (renewed-same s.number p now x).source) w.states
-    ∙ sym (ap (states_beside w) found)))
+    let at : source_states profile t.dir t.source after.states ≡ source_states profile s.dir s.source after.states =
+    ap (λ (x : Touched). source_states profile x.dir x.source after.states) t_is in
+    at ∙ (ap (λ (v : World). source_states profile s.dir s.source v.states) after_is
+    ∙ (count-map (is_beside profile s.dir s.source) (numbered_state_after s.number p now) (λ (x : State). renewed-beside profile s.dir s.source s.number p now x) w.states
+    ∙ sym (ap (states_beside profile w) found)))
 
 -- what is not told of a packet that completes no handshake, the answer does not ask
 told_where : (conf : Conf) (h : Held) (number now : ℕ) (done : Bool) (t : Touched) → t.completed ≡ done → answer_of_touch conf h number now (told_at done t) ≡ answer_of_touch conf h number now t
@@ -71,7 +82,7 @@ told_where conf h number now false t e = rw e refl
 pub told_after : (conf store_conf : Conf) (m : Held) (after : World) (p : PacketView) (now : ℕ) (number : StateNo) (t : Touched) → store_conf ≡ conf
     → option_map state_number (state_with (key_of p) m.world) ≡ Some number → after ≡ world_touched store_conf m.world p now (state_with (key_of p) m.world)
     → Some t ≡ option_map (renewal_of store_conf m.world p now) (state_with (key_of p) m.world)
-    → answer_of_touch conf (held_of after m.tables) number.0 now t ≡ answer_to_packet conf m p now
+    → answer_of_touch conf (held_of after m.tables) number.0 now t ≡ answer_of_key conf m p now
 told_after conf store_conf m after p now number t made_for e is touch_is =
     let (s, found, same) = found_state (state_with (key_of p) m.world) number e in
     let told : Some t ≡ Some (renewal_of store_conf m.world p now s) = touch_is ∙ ap (option_map (renewal_of store_conf m.world p now)) found in

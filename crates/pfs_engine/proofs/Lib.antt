@@ -2,4 +2,5 @@ mod Belonging
 mod Free
 mod Fewer
 mod Keeping
+mod Killing
 mod Watching

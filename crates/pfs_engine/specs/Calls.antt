@@ -1,16 +1,17 @@
 -- What a call of an engine keeps, counts and costs.
-use Rattle.std.specs.Prelude.{ℕ, ◌≡◌, ◌≤◌, ◌+◌, ◌*◌, Bool, true, false, List, length, Some, Result, Ok, IfOk, OnOk, OnErr}
+use Rattle.std.specs.Prelude.{ℕ, ◌≡◌, ◌≤◌, ◌+◌, ◌*◌, Bool, true, false, List, length, Some, Result, Ok, IfOk, IsOk, OnOk, OnErr}
 use Rattle.pfs_addr_values.specs.Keys.{key_of}
 use Rattle.pfs_addr_values.specs.Packets.{PacketView}
 use Rattle.pfs_conf_values.specs.Configs.{Conf, scope_of}
 use Rattle.pfs_conf_values.specs.declared.actions.Scope.TheVariants as scope
 use Rattle.pfs_conf_values.specs.declared.items.RuleNo.{RuleNo}
+use Rattle.pfs_store_contract.specs.Admission.{leaves_node}
 use Rattle.pfs_store_contract.specs.Purging.{node_share, state_share}
 use Rattle.pfs_store_contract.specs.Worlds.{World, state_with}
 use Rattle.pfs_store_contract.specs.declared.records.Limit.{Limit}
 use Rattle.pfs_engine_machine.specs.Kept.{IsWithinLimits, IsWithinShared, moment_of}
-use Rattle.pfs_engine_machine.specs.Looks.{AreLooks, states_beside}
-use Rattle.pfs_engine_machine.specs.Machine.{Held, Machine, answer_to_packet}
+use Rattle.pfs_engine_machine.specs.Looks.{AreLooks, AreLooksBehind, first_looks, states_beside}
+use Rattle.pfs_engine_machine.specs.Machine.{Held, Machine, answer_to_packet, held_for, held_refused}
 use Rattle.pfs_engine_machine.specs.Refusals.{IsDropped}
 use Rattle.pfs_engine_machine.specs.Shares.{most_nodes, most_states}
 use Rattle.pfs_engine_machine.specs.Visits.{AreVisits}
@@ -48,17 +49,29 @@ pub record CountsPacket {X E : Type 0} (answer : Result X E) (before after : ℕ
   pub ok : OnOk answer (after ≡ before + 1)
   pub err : OnErr answer (after ≡ before)
 
--- a state is refused exactly where a limit is met; then nothing has changed
+-- what a packet meets at the last moment
+abbrev pub met_held : Conf → Machine → PacketView → Held
+met_held conf m p = held_for conf m.held p (moment_of m.last)
+
+-- a machine of which this is held
+abbrev pub holding : Machine → Held → Machine
+holding m h = record m { held = h }
+
+-- a state is refused exactly where a limit is met; then nothing has changed but the node that `max` leaves under OpenBSD's profile, for
+-- which memory may be refused
 pub record IsRefusedAtLimits {E : Type 0} (conf : Conf) (p : PacketView) (answer : Result Outcome E) (before after : Machine)
     : Type 0 where
-  pub met : (rule : RuleNo) (limit : Limit) → IsDropped conf before.held p rule.0 limit → answer ≡ Ok (outcome.Drop rule limit)
+  pub met : (rule : RuleNo) (limit : Limit) → IsDropped conf (met_held conf before p) p rule.0 limit → IfOk answer (λ o. o ≡ outcome.Drop rule limit)
+  pub free : (rule : RuleNo) (limit : Limit) → IsDropped conf (met_held conf before p) p rule.0 limit
+      → leaves_node conf (met_held conf before p).world p.source.addr rule.0 limit ≡ false → IsOk answer
   pub only : (rule : RuleNo) (limit : Limit) → answer ≡ Ok (outcome.Drop rule limit)
-      → IsDropped conf before.held p rule.0 limit × (after ≡ before)
+      → IsDropped conf (met_held conf before p) p rule.0 limit
+      × (after ≡ holding before (held_refused conf (met_held conf before p) p (moment_of before.last) rule.0 limit))
 
--- what a packet makes of an engine at its last moment: what the machine makes of it, or nothing where memory was refused
+-- what a packet makes of an engine at its last moment: what the machine makes of it; where memory was refused, what it meets is held
 pub record IsAnsweredBy {E : Type 0} (answer : Result Outcome E) (p : PacketView) (before after : View) : Type 0 where
   pub ok : IfOk answer (λ o. (o, after.machine.held) ≡ answer_to_packet before.config before.machine.held p (moment_of before.machine.last))
-  pub err : OnErr answer (after.machine ≡ before.machine)
+  pub err : OnErr answer (after.machine ≡ holding before.machine (met_held before.config before.machine p))
   pub keeps : Keeps before after
   pub taken : CountsPacket answer before.taken after.taken
 
@@ -67,19 +80,23 @@ pub record IsAnsweredBy {E : Type 0} (answer : Result Outcome E) (p : PacketView
 pub record IsLimited {E : Type 0} (answer : Result Outcome E) (p : PacketView) (before after : View) : Type 0 where
   pub refused : IsRefusedAtLimits before.config p answer before.machine after.machine
   pub shared : (rule : RuleNo) → answer ≡ Ok (outcome.New rule) → scope_of before.config rule.0 ≡ Some scope.Global
-      → IsWithinShared before.config rule.0 p.source.addr before.machine.held.world after.machine.held.world
+      → IsWithinShared before.config rule.0 p.source.addr (met_held before.config before.machine p).world after.machine.held.world
 
--- the work of a packet: the items that it is compared with, and no slice; the looks, where the store counts them, by what came of
--- it, and none where memory was refused
-pub record IsWorkOfPacket {E : Type 0} (counts : Bool) (conf : Conf) (h : Held) (p : PacketView) (answer : Result Outcome E) (work : Work)
+-- the looks of a packet that finds this held and meets that, by what came of it
+abbrev pub AreLooksAt : Conf → Held → Held → PacketView → ℕ → Outcome → Type 0
+AreLooksAt conf h met p looks o =
+    AreLooksBehind (first_looks conf p (state_with (key_of p) h.world)) (AreLooks conf (states_beside conf.profile met.world (state_with (key_of p) met.world)) o) looks
+
+-- the work of a packet that finds this held and meets that: the items that it is compared with, and no slice; the looks, where the
+-- store counts them: the first ones, and behind them by what came of it, and none where memory was refused
+pub record IsWorkOfPacket {E : Type 0} (counts : Bool) (conf : Conf) (h met : Held) (p : PacketView) (answer : Result Outcome E) (work : Work)
     : Type 0 where
-  pub visits : AreVisits conf h p (state_with (key_of p) h.world) work.visits
+  pub visits : AreVisits conf met p (state_with (key_of p) met.world) work.visits
   pub slices : work.slices ≡ 0
   pub most_states : work.most_states ≡ 0
   pub most_nodes : work.most_nodes ≡ 0
-  pub looks : counts ≡ true → IfOk answer (λ o.
-      AreLooks conf (states_beside h.world (state_with (key_of p) h.world)) o work.looks)
-  pub no_looks : counts ≡ true → OnErr answer (work.looks ≡ 0)
+  pub looks : counts ≡ true → IfOk answer (AreLooksAt conf h met p work.looks)
+  pub no_looks : counts ≡ true → OnErr answer (work.looks ≡ first_looks conf p (state_with (key_of p) h.world))
   pub uncounted : counts ≡ false → work.looks ≡ 0
 
 -- the work of seconds that pass: two slices in each, with the most that one of states and one of nodes examines, within their

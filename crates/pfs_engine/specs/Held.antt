@@ -10,7 +10,7 @@ use Rattle.pfs_conf_values.specs.declared.limits.LimitName.TheVariants as limit_
 use Rattle.pfs_store_contract.specs.Calls.{state_number, state_rule}
 use Rattle.pfs_store_contract.specs.Worlds.{World, state_with}
 use Rattle.pfs_store_contract.specs.declared.records.Found.{Found}
-use Rattle.pfs_engine_machine.specs.Machine.{Held, held_of}
+use Rattle.pfs_engine_machine.specs.Machine.{Held, answer_to_packet, held_for, held_of}
 use Rattle.pfs_engine_machine.specs.declared.events.Outcome.{Outcome}
 
 -- the configuration, what is held under it, how many more entries fit into each table without memory, and the store
@@ -54,12 +54,22 @@ pub record IsDone {X : Type 0} (o : Outcome) (wanted : Outcome × Held) (before 
   pub told : (o, after.held) ≡ wanted
   pub config : after.config ≡ before.config
 
--- the same of an answer, by the outcome that it stands for; where memory was refused, nothing that is held has changed
-pub record IsAnsweredAs {A E X : Type 0} (answer : Result A E) (outcome : A → Outcome) (wanted : Outcome × Held) (before after : HeldView X) : Type 0 where
+-- the same of an answer, by the outcome that it stands for; where memory was refused, this is held
+pub record IsAnsweredOr {A E X : Type 0} (answer : Result A E) (outcome : A → Outcome) (wanted : Outcome × Held) (else_held : Held) (before after : HeldView X)
+    : Type 0 where
   pub ok : IfOk answer (λ a. (outcome a, after.held) ≡ wanted)
-  pub err : OnErr answer (after.held ≡ before.held)
+  pub err : OnErr answer (after.held ≡ else_held)
   pub config : after.config ≡ before.config
+
+-- where memory was refused, nothing that is held has changed
+abbrev pub IsAnsweredAs : {A E X : Type 0} → Result A E → (A → Outcome) → Outcome × Held → HeldView X → HeldView X → Type 0
+IsAnsweredAs answer outcome wanted before after = IsAnsweredOr answer outcome wanted before.held before after
 
 -- of an answer that is the outcome itself
 abbrev pub IsAnswered : {E X : Type 0} → Result Outcome E → Outcome × Held → HeldView X → HeldView X → Type 0
 IsAnswered answer wanted before after = IsAnsweredAs answer (λ o. o) wanted before after
+
+-- of a packet: where memory was refused, what it meets is held
+abbrev pub IsAnsweredTo : {E X : Type 0} → Result Outcome E → PacketView → ℕ → HeldView X → HeldView X → Type 0
+IsAnsweredTo answer p now before after =
+    IsAnsweredOr answer (λ o. o) (answer_to_packet before.config before.held p now) (held_for before.config before.held p now) before after

@@ -1,32 +1,39 @@
 -- What meters show of a packet, and the work of purges, while they are done. (own)
-use Rattle.std.specs.Prelude.{ℕ, ◌≡◌, Bool, true, false, List, Result, IfOk, OnErr}
+use Rattle.std.specs.Prelude.{ℕ, ◌≡◌, ◌≤◌, ◌-◌, Bool, true, false, List, Result, IfOk, OnErr}
 use Rattle.pfs_addr_values.specs.Keys.{key_of}
 use Rattle.pfs_addr_values.specs.Packets.{PacketView}
 use Rattle.pfs_conf_values.specs.Configs.{Conf}
 use Rattle.pfs_store_contract.specs.Worlds.{World, state_with}
-use Rattle.pfs_engine_machine.specs.Looks.{AreLooks, states_beside}
+use Rattle.pfs_engine_machine.specs.Looks.{AreLooks, AreLooksBehind, first_looks, states_beside}
 use Rattle.pfs_engine_machine.specs.Machine.{Held}
 use Rattle.pfs_engine_machine.specs.Shares.{most_nodes, most_states}
 use Rattle.pfs_engine_machine.specs.Visits.{AreVisits}
 use Rattle.pfs_engine_machine.specs.declared.events.Outcome.{Outcome}
 use Rattle.pfs_engine.specs.declared.works.Work.{Work}
 
--- the looks of a packet, where the store counts them, by what came of it, and none where memory was refused
-pub record AreLooksOf {E : Type 0} (counts : Bool) (conf : Conf) (w : World) (p : PacketView) (answer : Result Outcome E) (looks : ℕ)
+-- the looks of a packet behind the first ones, where the store counts them, by what came of it, and none where memory was refused
+pub record AreLooksOf {E : Type 0} (counts : Bool) (conf : Conf) (w : World) (p : PacketView) (answer : Result Outcome E) (first looks : ℕ)
     : Type 0 where
-  pub counted : counts ≡ true → IfOk answer (λ o. AreLooks conf (states_beside w (state_with (key_of p) w)) o looks)
-  pub refused : counts ≡ true → OnErr answer (looks ≡ 0)
+  pub counted : counts ≡ true → IfOk answer (λ o. AreLooksBehind first (AreLooks conf (states_beside conf.profile w (state_with (key_of p) w)) o) looks)
+  pub refused : counts ≡ true → OnErr answer (looks ≡ first)
+  pub uncounted : counts ≡ false → looks ≡ first
+
+-- the first looks of a packet, where the store counts them
+pub record AreFirstLooks (counts : Bool) (conf : Conf) (w : World) (p : PacketView) (looks : ℕ) : Type 0 where
+  pub counted : counts ≡ true → looks ≡ first_looks conf p (state_with (key_of p) w)
   pub uncounted : counts ≡ false → looks ≡ 0
 
--- what the meters of a packet show: the items that it is compared with, and the looks
-pub record AreMetersOf {E : Type 0} (counts : Bool) (conf : Conf) (h : Held) (p : PacketView) (answer : Result Outcome E) (compared looked : ℕ)
+-- what the meters show of a packet that finds this held and meets that: the items that it is compared with, and the looks
+pub record AreMetersOf {E : Type 0} (counts : Bool) (conf : Conf) (h met : Held) (p : PacketView) (answer : Result Outcome E) (compared looked : ℕ)
     : Type 0 where
-  pub visits : AreVisits conf h p (state_with (key_of p) h.world) compared
-  pub looks : AreLooksOf counts conf h.world p answer looked
+  pub visits : AreVisits conf met p (state_with (key_of p) met.world) compared
+  pub first : ℕ
+  pub first_looks : AreFirstLooks counts conf h.world p first
+  pub looks : AreLooksOf counts conf met.world p answer first looked
 
--- the looks after the one at the packet's own state, where the store counts them
+-- the looks after those up to the one at the packet's own state, where the store counts them
 pub record AreFurtherLooks (counts : Bool) (before after : ℕ) (AreLooksNow : ℕ → Type 0) : Type 0 where
-  pub counted : counts ≡ true → before ≡ 1 → AreLooksNow after
+  pub counted : counts ≡ true → 1 ≤ before → AreLooksBehind (before - 1) AreLooksNow after
   pub uncounted : counts ≡ false → after ≡ before
 
 -- the work of purges: the most that one slice of states and one of nodes examines; the looks are those of that slice of states,

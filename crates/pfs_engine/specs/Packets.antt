@@ -1,12 +1,14 @@
 -- What an engine makes of a packet, by what its store reports of it, and which packets need no memory before they are answered.
-use Rattle.std.specs.Prelude.{ℕ, if◌then◌else◌, Option, Some, None, IsSome}
+use Rattle.std.specs.Prelude.{ℕ, if◌then◌else◌, Option, Some, None}
+use Rattle.pfs_addr_values.specs.Keys.{key_of}
 use Rattle.pfs_addr_values.specs.Packets.{PacketView}
 use Rattle.pfs_conf_values.specs.Configs.{Conf, options_of, rule_of}
 use Rattle.pfs_conf_values.specs.declared.actions.Action.{Action}
 use Rattle.pfs_conf_values.specs.declared.actions.Action.TheVariants as action
-use Rattle.pfs_store_contract.specs.Calls.{packet_limit}
+use Rattle.pfs_store_contract.specs.Calls.{IsFreeRefusal, packet_limit}
 use Rattle.pfs_store_contract.specs.Counts.{exceeds_maximum}
 use Rattle.pfs_store_contract.specs.Handshakes.{over_rate}
+use Rattle.pfs_store_contract.specs.Worlds.{state_with}
 use Rattle.pfs_store_contract.specs.declared.records.State.{State}
 use Rattle.pfs_store_contract.specs.declared.records.Touched.{Touched}
 use Rattle.pfs_engine_machine.specs.Machine.{Held, answer_of_exceeded, deciding_rule, exceeded_of}
@@ -18,13 +20,13 @@ abbrev pub answer_of_touch : Conf → Held → ℕ → ℕ → Touched → Outco
 answer_of_touch conf h number now t =
     let o = options_of conf t.rule.0 in
     let limits = exceeded_of (exceeds_maximum o.max_src_conn t.connections) (over_rate o.max_src_conn_rate t.score.value) in
-    answer_of_exceeded conf h number t.rule t.source now (if t.completed then limits else None)
+    answer_of_exceeded conf h number t.dir t.rule t.source now (if t.completed then limits else None)
 
--- a rule makes no state, or the state is refused
+-- a rule makes no state, or the state is refused, and no node is left
 abbrev pub NeedsNoneAt : Conf → Held → PacketView → ℕ → Action → Type 0
 NeedsNoneAt conf h p rule action.Block = Unit {0}
 NeedsNoneAt conf h p rule action.Pass = Unit {0}
-NeedsNoneAt conf h p rule (action.Keep o) = IsSome (packet_limit conf h.world p rule)
+NeedsNoneAt conf h p rule (action.Keep o) = IsFreeRefusal conf h.world p rule (packet_limit conf h.world p rule)
 
 abbrev pub NeedsNoneBy : Conf → Held → PacketView → Option ℕ → Type 0
 NeedsNoneBy conf h p None = Unit {0}
@@ -34,3 +36,7 @@ NeedsNoneBy conf h p (Some rule) = NeedsNoneAt conf h p rule (rule_of conf rule)
 abbrev pub NeedsNone : Conf → Held → PacketView → Option State → Type 0
 NeedsNone conf h p None = NeedsNoneBy conf h p (deciding_rule conf h p)
 NeedsNone conf h p (Some s) = IsFreeOf conf p s.rule
+
+-- a packet that meets this needs none
+abbrev pub NeedsNoneOf : Conf → Held → PacketView → Type 0
+NeedsNoneOf conf h p = NeedsNone conf h p (state_with (key_of p) h.world)

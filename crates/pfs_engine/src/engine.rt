@@ -10,7 +10,7 @@ ghost use Rattle.pfs_engine_machine.specs.Kept.{IsWithinLimits, moment_of};
 ghost use Rattle.pfs_engine_machine.specs.Refusals.{IsFree};
 ghost use Rattle.pfs_engine_machine.specs.Machine.{machine_at_moment, amounts_of, answer_to_command, answer_to_packet, due, entries_held, nodes_held, start, states_held, step, machine_after, outcomes_of};
 ghost use Rattle.pfs_engine_machine.specs.Runs.{MayChange, MayCome, AreAllowed, IsInOrder, IsRefusedIn, IsStopped, NeedsMemory, packets_in, packets_of};
-ghost use Rattle.pfs_engine.specs.Calls.{CountsEvent, CountsPacket, IsAnsweredBy, IsAt, IsLimited, IsWorkOfPacket, IsWorkOfSeconds, Keeps, StaysWithin};
+ghost use Rattle.pfs_engine.specs.Calls.{CountsEvent, CountsPacket, IsAnsweredBy, IsAt, IsLimited, IsWorkOfPacket, IsWorkOfSeconds, Keeps, StaysWithin, met_held};
 
 use crate::held::Held;
 use crate::packets::{Meters, answer};
@@ -150,18 +150,23 @@ impl<S: Store> Engine<S> {
     }
 
     /// Takes a packet at the last moment, whatever its protocol: it is one of a held state, or the rules decide on it. Fewer
-    /// than 1,000,000,000 packets were taken before. `NoMemory` where memory was refused for a new state, or for the entry of
-    /// an overload table; then nothing that is held has changed. (pf.conf(5), STATEFUL FILTERING and STATEFUL TRACKING OPTIONS)
+    /// than 1,000,000,000 packets were taken before. Under the profile of OpenBSD 7.4 a SYN without ACK for a state of TCP that both
+    /// peers have closed, or that was reset, takes that state out, and is one of no held state.
+    ///
+    /// `NoMemory` where memory was refused for a new state, for the node that a refusal leaves under that profile, or for the entry
+    /// of an overload table; then nothing that is held has changed, but that such a state has left.
+    /// (pf.conf(5), STATEFUL FILTERING and STATEFUL TRACKING OPTIONS)
     pub fn packet(&mut self, packet: &Packet) -> Result<Outcome, NoMemory>
         requires started { IsSome self.old.machine.last }
         requires room { self.old.taken < run_limit }
         ensures answered { IsAnsweredBy result packet.now self.old self.new }
         ensures limited { IsLimited result packet.now self.old self.new }
 
-        // Memory is asked for only where a state is made, or a TCP packet is one of a rule with `overload`.
-        ensures free { IsFree self.old.config packet.now
+        // Memory is asked for only where a state is made, where a refusal leaves a node, or a TCP packet is one of a rule with `overload`.
+        ensures free { IsFree self.old.config (met_held self.old.config self.old.machine packet.now).world packet.now
             (answer_to_packet self.old.config self.old.machine.held packet.now (moment_of self.old.machine.last)).0 → IsOk result }
-        ensures work { IsWorkOfPacket S.counts self.old.config self.old.machine.held packet.now result self.new.work }
+        ensures work { IsWorkOfPacket S.counts self.old.config self.old.machine.held (met_held self.old.config self.old.machine packet.now)
+            packet.now result self.new.work }
     {
         let mut meters = Meters::new();
         let now = self.last.unwrap_or(0);
@@ -258,9 +263,9 @@ impl<S: Store> Engine<S> {
     /// Fewer than 1,000,000,000 packets were taken before, and a command is about a table of the configuration's that is
     /// not `const`. The outcome is what `packet` or `command` answers, `Skip`, or `Held` with what `amounts` answers.
     ///
-    /// `NoMemory` where memory was refused to what needs it: a packet that makes a new state or an entry of an overload
-    /// table, or an entry that is added and new. Then the purges due are done, the engine is at the event's moment, and
-    /// nothing else has changed. All else takes no memory. (pf.conf(5), STATEFUL FILTERING and STATEFUL TRACKING OPTIONS;
+    /// `NoMemory` where memory was refused to what needs it: a packet that makes a new state, a source node or an entry of an
+    /// overload table, or an entry that is added and new. Then the purges due are done, the engine is at the event's moment, and
+    /// nothing else has changed, but that a state has left which the packet does not meet. All else takes no memory. (pf.conf(5), STATEFUL FILTERING and STATEFUL TRACKING OPTIONS;
     /// pfctl(8), "-T" and "-si")
     #[tactic(auto, unfolding(pfs_engine_machine::specs::Machine::step))]
     pub fn step(&mut self, event: &Event) -> Result<Outcome, NoMemory>

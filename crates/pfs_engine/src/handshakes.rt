@@ -15,7 +15,7 @@ ghost use Rattle.pfs_store_contract.specs.Worlds.{state_with};
 ghost use Rattle.pfs_store_contract.specs.declared.records.State.{State};
 ghost use Rattle.pfs_engine_machine.specs.Kept.{IsKept};
 ghost use Rattle.pfs_engine_machine.specs.Looks.{AreLooks, AreLooksOfKill};
-ghost use Rattle.pfs_engine_machine.specs.Machine.{addition_of, answer_to_packet, exceeded_of, tables_after_addition};
+ghost use Rattle.pfs_engine_machine.specs.Machine.{addition_of, answer_of_key, exceeded_of, tables_after_addition};
 ghost use Rattle.pfs_engine_machine.specs.Refusals.{IsFreeOf, is_tcp};
 ghost use Rattle.pfs_engine.specs.Held.{Holds, IsAnswered, IsDone, IsReachedBy, tables_held};
 ghost use Rattle.pfs_engine.specs.Meters.{AreFurtherLooks, AreLooksOf};
@@ -23,7 +23,7 @@ ghost use Rattle.pfs_engine.specs.Packets.{answer_of_touch};
 ghost use Rattle.pfs_engine.specs.Rooms.{HasRoomFor};
 
 use crate::held::Held;
-use pfs_addr_values::{Addr, Meter, NoMemory, Packet, Proto};
+use pfs_addr_values::{Addr, Dir, Meter, NoMemory, Packet, Proto};
 use pfs_conf_values::{Config, LimitName, Overload, Rate, RuleNo, Scope, StateOptions};
 use pfs_engine_machine::{Exceeded, Outcome};
 use pfs_eval::{Added, Tables};
@@ -46,11 +46,12 @@ pub(crate) fn take_packet_of_state<S: Store>(
 ) -> Result<Outcome, NoMemory>
     requires kept { IsKept held.old.config held.old.held now }
     requires found { IsReachedBy S.reaches held.old packet.now found }
-    requires looks { looks.old ≡ 0 }
-    ensures answered { IsAnswered result (answer_to_packet held.old.config held.old.held packet.now now) held.old held.new }
+    requires moment { now ≤ 2 ^ 63 }
+    requires looks { looks.old ≤ 2 }
+    ensures answered { IsAnswered result (answer_of_key held.old.config held.old.held packet.now now) held.old held.new }
     ensures free { (s : State) → state_with (key_of packet.now) held.old.held.world ≡ Some s →
         IsFreeOf held.old.config packet.now s.rule → IsOk result }
-    ensures looks { AreLooksOf S.counts held.old.config held.old.held.world packet.now result looks.new }
+    ensures looks { AreLooksOf S.counts held.old.config held.old.held.world packet.now result looks.old looks.new }
 {
     make_room(held, found.rule, packet)?;
     let touched = held.store.renew(found, packet, now, looks);
@@ -101,10 +102,11 @@ fn complete_handshake<S: Store>(
 ) -> Outcome
     requires reached { S.reaches held.old.store found ≡ true }
     requires looks { looks.old ≤ run_limit }
+    requires moment { now ≤ 2 ^ 63 }
     requires room { touched.now.completed ≡ true → HasRoomFor (tables_held held.old) (options_of held.old.config touched.now.rule.0).overload }
     ensures told { IsDone result (answer_of_touch held.old.config held.old.held found.number.0 now touched.now) held.old held.new }
     ensures looks { AreFurtherLooks S.counts looks.old looks.new
-        (AreLooks held.old.config (source_states touched.now.source held.old.held.world.states) result) }
+        (AreLooks held.old.config (source_states held.old.config.profile touched.now.dir touched.now.source held.old.held.world.states) result) }
 {
     if !touched.completed {
         return Outcome::State(touched.rule);
@@ -118,6 +120,7 @@ fn complete_handshake<S: Store>(
     let added = add_source(&mut held.tables, options.overload, touched.source, now);
     let which = Killing {
         found,
+        dir: touched.dir,
         rule: touched.rule,
         source: touched.source,
         flush: flush_of(options.overload),
@@ -192,10 +195,12 @@ fn add_source(
     }
 }
 
-/// Which states are killed: the one that was found, of this rule and source, and those of its source that are flushed with it.
+/// Which states are killed: the one that was found, of this direction, rule and source, and those of its source that are flushed
+/// with it.
 #[derive(Clone, Copy)]
 struct Killing {
     found: Found,
+    dir: Dir,
     rule: RuleNo,
     source: Addr,
     flush: Option<Scope>,
@@ -204,13 +209,15 @@ struct Killing {
 /// Kills states. It returns how many they are.
 fn kill<S: Store>(store: &mut S, which: Killing, now: u64, looks: &mut Meter) -> u64
     requires reached { S.reaches store.old which.found ≡ true }
+    requires moment { now ≤ 2 ^ 63 }
     requires looks { looks.old ≤ 2 ^ 63 }
-    ensures answer { result ≡ length (filter (goes_with which.flush which.found.number.0 which.rule which.source) (S.world store.old).states) }
-    ensures world { S.world store.new
-        ≡ world_without (S.config store.old) (S.world store.old) (stays_at_kill which.flush which.found.number.0 which.rule which.source) now }
+    ensures answer { (conf : Conf) → S.config store.old ≡ conf → result
+        ≡ length (filter (goes_with conf.profile which.flush which.found.number.0 which.dir which.rule which.source) (S.world store.old).states) }
+    ensures world { (conf : Conf) → S.config store.old ≡ conf → S.world store.new
+        ≡ world_without conf (S.world store.old) (stays_at_kill conf.profile which.flush which.found.number.0 which.dir which.rule which.source) now }
     ensures config { S.config store.new ≡ S.config store.old }
     ensures looks { AreFurtherLooks S.counts looks.old looks.new
-        (AreLooksOfKill which.flush result (source_states which.source (S.world store.old).states)) }
+        (AreLooksOfKill which.flush result (source_states (S.config store.old).profile which.dir which.source (S.world store.old).states)) }
 {
     match which.flush {
         None => {
@@ -218,7 +225,7 @@ fn kill<S: Store>(store: &mut S, which: Killing, now: u64, looks: &mut Meter) ->
             store.kill(which.found, now, looks);
             before - store.state_count()
         }
-        Some(Scope::Rule) => store.flush(which.source, Some(which.rule), now, looks),
-        Some(Scope::Global) => store.flush(which.source, None, now, looks),
+        Some(Scope::Rule) => store.flush(which.dir, which.source, Some(which.rule), now, looks),
+        Some(Scope::Global) => store.flush(which.dir, which.source, None, now, looks),
     }
 }

@@ -1,24 +1,26 @@
 //! What one packet does.
 
-ghost use Rattle.std.specs.Prelude.{◌≡◌, ◌<◌, None, Some, IfOk, IsOk};
+ghost use Rattle.std.specs.Prelude.{◌≡◌, ◌<◌, ◌≤◌, ◌^◌, None, Some, true, false, if◌then◌else◌, IfOk, IfSome, IsOk, option_map};
 ghost use Rattle.pfs_addr_values.specs.Keys.{key_of};
 ghost use Rattle.pfs_addr_values.specs.Packets.{run_limit};
 ghost use Rattle.pfs_eval.specs.Verdict.{IsRuleAt};
+ghost use Rattle.pfs_store_contract.specs.Calls.{state_number, state_rule};
+ghost use Rattle.pfs_store_contract.specs.Touching.{may_reopen, reopens};
 ghost use Rattle.pfs_store_contract.specs.Worlds.{state_with};
 ghost use Rattle.pfs_engine_machine.specs.Kept.{IsKept};
 ghost use Rattle.pfs_engine_machine.specs.Looks.{AreLooks};
-ghost use Rattle.pfs_engine_machine.specs.Machine.{answer_to_packet, answer_of_rule, deciding_rule};
+ghost use Rattle.pfs_engine_machine.specs.Machine.{answer_of_rule, deciding_rule, held_for};
 ghost use Rattle.pfs_engine_machine.specs.Visits.{AreVisits};
-ghost use Rattle.pfs_engine.specs.Held.{IsAnswered};
-ghost use Rattle.pfs_engine.specs.Meters.{AreMetersOf};
-ghost use Rattle.pfs_engine.specs.Packets.{NeedsNone, NeedsNoneBy};
+ghost use Rattle.pfs_engine.specs.Held.{Holds, IsAnswered, IsAnsweredTo, IsReachedBy};
+ghost use Rattle.pfs_engine.specs.Meters.{AreFirstLooks, AreMetersOf};
+ghost use Rattle.pfs_engine.specs.Packets.{NeedsNone, NeedsNoneBy, NeedsNoneOf};
 
 use crate::handshakes::take_packet_of_state;
 use crate::held::Held;
-use pfs_addr_values::{Meter, NoMemory, Packet};
-use pfs_conf_values::{Action, RuleNo};
+use pfs_addr_values::{FlowKey, Meter, NoMemory, Packet};
+use pfs_conf_values::{Action, Config, RuleNo};
 use pfs_engine_machine::Outcome;
-use pfs_store_contract::Store;
+use pfs_store_contract::{Found, Store};
 
 /// The meters of one packet.
 #[derive(Drop)]
@@ -41,8 +43,8 @@ impl Meters {
     }
 }
 
-/// What a packet does: it is one of a held state, or the rules decide on it. On an error nothing that is
-/// held has changed. (pf.conf(5), STATEFUL FILTERING)
+/// What a packet does: it is one of a held state, or the rules decide on it. On an error what it meets is held.
+/// (pf.conf(5), STATEFUL FILTERING)
 pub(crate) fn answer<S: Store>(
     held: &mut Held<S>,
     packet: &Packet,
@@ -51,15 +53,60 @@ pub(crate) fn answer<S: Store>(
 ) -> Result<Outcome, NoMemory>
     requires kept { IsKept held.old.config held.old.held now }
     requires room { held.old.held.world.made < run_limit }
+    requires moment { now ≤ 2 ^ 63 }
     requires meters { meters.old ≡ record { visits = 0; looks = 0 } }
-    ensures answered { IsAnswered result (answer_to_packet held.old.config held.old.held packet.now now) held.old held.new }
-    ensures free { NeedsNone held.old.config held.old.held packet.now (state_with (key_of packet.now) held.old.held.world) → IsOk result }
-    ensures meters { AreMetersOf S.counts held.old.config held.old.held packet.now result meters.new.visits meters.new.looks }
+    ensures answered { IsAnsweredTo result packet.now now held.old held.new }
+    ensures free { NeedsNoneOf held.old.config (held_for held.old.config held.old.held packet.now now) packet.now → IsOk result }
+    ensures meters { AreMetersOf S.counts held.old.config held.old.held (held_for held.old.config held.old.held packet.now now)
+        packet.now result meters.new.visits meters.new.looks }
 {
-    match held.find(packet) {
+    match meet(held, packet, now, &mut meters.looks) {
         Some(found) => take_packet_of_state(held, found, packet, now, &mut meters.looks),
         None => by_rules(held, packet, now, &mut meters.visits),
     }
+}
+
+/// What has the key of a packet, once a state has left that the packet does not meet: one that has closed, of a SYN, under the
+/// profile of OpenBSD 7.4. It takes no memory. (pf of OpenBSD 7.4, as it is remembered)
+fn meet<S: Store>(
+    held: &mut Held<S>,
+    packet: &Packet,
+    now: u64,
+    looks: &mut Meter,
+) -> Option<Found>
+    requires moment { now ≤ 2 ^ 63 }
+    requires looks { looks.old ≡ 0 }
+    ensures held { Holds held.old held.new (held_for held.old.config held.old.held packet.now now) }
+    ensures number { option_map (λ f. f.number) result ≡ option_map state_number (state_with (key_of packet.now) held.new.held.world) }
+    ensures rule { option_map (λ f. f.rule) result ≡ option_map state_rule (state_with (key_of packet.now) held.new.held.world) }
+    ensures reached { IfSome result (λ f. S.reaches held.new.store f ≡ true) }
+    ensures looks { AreFirstLooks S.counts held.old.config held.old.held.world packet.now looks.new }
+{
+    let found = held.find(packet)?;
+    if !reopens(held, found, packet, looks) {
+        return Some(found);
+    }
+    held.store.kill(found, now, looks);
+    held.find(packet)
+}
+
+/// Whether a packet begins the connection of the state that was found anew, since that has closed.
+fn reopens<S: Store>(held: &Held<S>, found: Found, packet: &Packet, looks: &mut Meter) -> bool
+    requires found { IsReachedBy S.reaches held.now packet.now found }
+    requires looks { looks.old ≡ 0 }
+    ensures answer { Some result ≡ option_map (reopens held.now.config packet.now) (state_with (key_of packet.now) held.now.held.world) }
+    ensures looks { S.counts ≡ true → looks.new ≡ (if may_reopen held.now.config packet.now then 1 else 0) }
+    ensures uncounted { S.counts ≡ false → looks.new ≡ 0 }
+{
+    may_reopen(&held.config, packet) && held.store.has_closed(found, &FlowKey::of(packet), looks)
+}
+
+/// Whether a packet may begin a connection anew: a SYN without ACK, under the profile of OpenBSD 7.4.
+fn may_reopen(config: &Config, packet: &Packet) -> bool
+    ensures { result ≡ may_reopen config.now packet.now }
+{
+    let flags = packet.flags();
+    config.profile().is_openbsd() && flags.syn && !flags.ack
 }
 
 /// What the rules make of a packet that no held state has.

@@ -16,4 +16,4 @@ returns-in-None-clause-answer g c =
     let w = g.S.Store.world c.args.store.now in
     let after = ap (λ (v : World). length v.states) c.kill.ensures.world in
     let all = count-rest (λ s. s.number == c.args.which.found.number.0) w.states in
-    rw c.in-None.is (omega (arith, c.state_count-before.ensures, c.state_count.ensures, after, all))
+    λ conf same. rw c.in-None.is (omega (arith, c.state_count-before.ensures, c.state_count.ensures, after, all))

@@ -1,12 +1,12 @@
 -- Answers of take_packet_of_state: the store reaches what was found after room was made; what is told, and its looks (`looks`).
-use Rattle.std.proofs.Common.{◌≡◌, ◌∙◌, ℕ, Some, ap, arith, subst, sym}
+use Rattle.std.proofs.Common.{◌≡◌, ◌≤◌, ◌-◌, ◌∙◌, ℕ, Some, ap, arith, subst, sym}
 use Rattle.std.specs.Prelude.{option_map}
 use Rattle.pfs_addr_values.specs.Keys.{key_of}
 use Rattle.pfs_conf_values.specs.Configs.{Conf, options_of}
 use Rattle.pfs_store_contract.specs.Worlds.{state_with}
-use Rattle.pfs_store_contract.specs.Calls.{state_number, renewal_of, world_touched}
-use Rattle.pfs_engine_machine.specs.Looks.{AreLooks, states_beside}
-use Rattle.pfs_engine_machine.specs.Machine.{Held, answer_to_packet, held_of}
+use Rattle.pfs_store_contract.specs.Calls.{renewal_of, source_states, state_number, world_touched}
+use Rattle.pfs_engine_machine.specs.Looks.{AreLooks, AreLooksBehind, states_beside}
+use Rattle.pfs_engine_machine.specs.Machine.{Held, answer_of_key, held_of}
 use Rattle.pfs_engine.specs.Held.{HeldView, tables_held, view_of}
 use Rattle.pfs_engine.specs.Rooms.{HasRoomFor}
 use Rattle.pfs_engine.proofs.Belonging.{beside_after, opened, room_after, told_after}
@@ -52,7 +52,7 @@ returns-clause-answered g c =
     let found = subst (λ (h : Held). option_map state_number (state_with (key_of p) h.world) ≡ Some c.args.found.number) (sym same.1) c.requires.found.number in
     let told = told_after inside.config store_conf m (g.S.Store.world t.new.self) p c.args.now c.args.found.number t.result c.held.invariant.store found t.ensures.world t.ensures.answer in
     record {
-      ok = c.complete_handshake.ensures.told.told ∙ (told ∙ (λ i. answer_to_packet (same.0 i) (same.1 i) p c.args.now));
+      ok = c.complete_handshake.ensures.told.told ∙ (told ∙ (λ i. answer_of_key (same.0 i) (same.1 i) p c.args.now));
       err = tt;
       config = c.complete_handshake.ensures.told.config ∙ same.0;
     }
@@ -68,13 +68,18 @@ returns-clause-looks g c =
     let same = opened was c.make_room.new.held inside.config inside.store w inside.tables c.held.view_is c.in_ok-make_room.ensures.same in
     let is = subst (λ (h : Held). g.S.Store.world t.new.self ≡ world_touched store_conf h.world p c.args.now (state_with (key_of p) h.world)) same.1 t.ensures.world in
     let answer = subst (λ (h : Held). Some t.result ≡ option_map (renewal_of store_conf h.world p c.args.now) (state_with (key_of p) h.world)) same.1 t.ensures.answer in
-    let beside = beside_after store_conf was.held.world (g.S.Store.world t.new.self) p c.args.now c.args.found.number t.result c.requires.found.number is answer in
+    let beside = beside_after inside.config.profile store_conf was.held.world (g.S.Store.world t.new.self) p c.args.now c.args.found.number t.result c.requires.found.number is answer in
     let further = c.complete_handshake.ensures.looks in
     record {
       counted = λ on.
-          let one : t.new.meter ≡ 1 = omega (arith, t.ensures.looks on, c.requires.looks) in
-          subst (λ (k : Conf). AreLooks k (states_beside was.held.world (state_with (key_of p) was.held.world)) c.complete_handshake.result c.complete_handshake.new.looks) same.0
-          (subst (λ (n : ℕ). AreLooks inside.config n c.complete_handshake.result c.complete_handshake.new.looks) beside (further.counted on one));
+          let one : 1 ≤ t.new.meter = omega (arith, t.ensures.looks on) in
+          let first : t.new.meter - 1 ≡ c.args.looks.now = omega (arith, t.ensures.looks on) in
+          let o = c.complete_handshake.result in
+          let looks = c.complete_handshake.new.looks in
+          let beside_touched = source_states inside.config.profile t.result.dir t.result.source (g.S.Store.world t.new.self).states in
+          subst (λ (k : Conf). AreLooksBehind c.args.looks.now (AreLooks k (states_beside k.profile was.held.world (state_with (key_of p) was.held.world)) o) looks) same.0
+          (subst (λ (n : ℕ). AreLooksBehind c.args.looks.now (AreLooks inside.config n o) looks) beside
+          (subst (λ (n : ℕ). AreLooksBehind n (AreLooks inside.config beside_touched o) looks) first (further.counted on one)));
       refused = λ on. tt;
-      uncounted = λ off. omega (arith, further.uncounted off, t.ensures.uncounted off, c.requires.looks);
+      uncounted = λ off. omega (arith, further.uncounted off, t.ensures.uncounted off);
     }
