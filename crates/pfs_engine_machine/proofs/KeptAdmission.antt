@@ -234,7 +234,7 @@ kept_admitted conf m p rule now sound met k =
     }
 
 -- numbers that were made by then were made later
-rise_more : (low high : ℕ) (states : List State) → Rise low states high → Rise low states (high + 1)
+pub rise_more : (low high : ℕ) (states : List State) → Rise low states high → Rise low states (high + 1)
 rise_more low high [] h = omega (arith, h)
 rise_more low high (t ∷ states) h = (h.0, rise_more t.number high states h.1)
 
