@@ -1,5 +1,5 @@
--- Lists of source nodes that differ in scores and idle moments alone.
-use Rattle.std.proofs.Common.{◌≡◌, ◌&&◌, ◌==◌, ℕ, Bool, true, false, if◌then◌else◌, Option, None, Some, List, length, map, nat_lt, refl, ap, ◌∙◌}
+-- Lists of source nodes that differ in scores and expiries alone.
+use Rattle.std.proofs.Common.{◌≡◌, ◌&&◌, ◌+◌, ◌==◌, ℕ, Bool, true, false, if◌then◌else◌, Option, None, Some, List, length, map, nat_lt, refl, ap, ◌∙◌}
 use Rattle.std.proofs.lemmas.List.{length-map}
 use Rattle.pfs_addr_values.specs.Sameness.{same_addr}
 use Rattle.pfs_addr_values.specs.declared.addresses.Addr.{Addr}
@@ -7,7 +7,7 @@ use Rattle.pfs_conf_values.specs.Configs.{Conf, options_of}
 use Rattle.pfs_conf_values.specs.declared.actions.Rate.{Rate}
 use Rattle.pfs_track.specs.Scores.{score_after}
 use Rattle.pfs_store_contract.specs.Counts.{has_node, is_node, node_scope_of, node_states, same_scope, scope_nodes}
-use Rattle.pfs_store_contract.specs.Leaving.{node_after_leaving}
+use Rattle.pfs_store_contract.specs.Leaving.{node_after_leaving, node_retention}
 use Rattle.pfs_store_contract.specs.Touching.{nodes_scored, nodes_touched, node_after_handshake}
 use Rattle.pfs_store_contract.specs.declared.records.Node.{Node}
 use Rattle.pfs_store_contract.specs.declared.records.NodeScope.{NodeScope}
@@ -63,7 +63,7 @@ idled-alike : (conf : Conf) (before after : List State) (now : ℕ) (n : Node) �
 idled-alike conf before after now n =
     go (nat_lt 0 (node_states conf n.scope n.source before) && (node_states conf n.scope n.source after == 0))
   where
-    go : (b : Bool) → IsAlike n (if b then record n { idle = now } else n)
+    go : (b : Bool) → IsAlike n (if b then record n { expires = now + node_retention conf n.scope } else n)
     go true = (refl, refl)
     go false = (refl, refl)
 

@@ -9,14 +9,18 @@ use Rattle.pfs_addr_values.specs.Packets.{PacketView}
 use Rattle.pfs_addr_values.specs.Sameness.{same_addr, same_key}
 use Rattle.pfs_addr_values.specs.declared.addresses.Addr.{Addr}
 use Rattle.pfs_conf_values.proofs.RuleLaws.{rated-scope}
-use Rattle.pfs_conf_values.specs.Configs.{Conf, options_of, rate_seconds, scope_of}
+use Rattle.pfs_conf_values.specs.Configs.{Conf, options_of, rate_seconds, rule_retention, scope_of, timeout_of}
 use Rattle.pfs_conf_values.specs.Invariants.{IsConfig}
 use Rattle.pfs_conf_values.specs.declared.actions.Rate.{Rate}
 use Rattle.pfs_conf_values.specs.declared.actions.Scope.{Scope}
 use Rattle.pfs_conf_values.specs.declared.actions.Scope.TheVariants as scope
+use Rattle.pfs_conf_values.specs.declared.actions.StateOptions.{StateOptions}
 use Rattle.pfs_conf_values.specs.declared.items.RuleNo.{RuleNo}
+use Rattle.pfs_conf_values.specs.declared.profiles.Profile.{Profile}
+use Rattle.pfs_conf_values.specs.declared.profiles.Profile.TheVariants as profile
+use Rattle.pfs_conf_values.specs.declared.timeouts.TimeoutName.TheVariants as timeout
 use Rattle.pfs_store_contract.specs.Counts.{has_node, is_node, is_of_node, node_scope_under, node_scope_of, node_states, same_scope}
-use Rattle.pfs_store_contract.specs.Purging.{node_retention}
+use Rattle.pfs_store_contract.specs.Leaving.{node_retention}
 use Rattle.pfs_store_contract.specs.Touching.{node_score, nodes_scored, numbered_state_after, node_after_handshake, state_after_packet}
 use Rattle.pfs_store_contract.specs.Worlds.{World, state_with}
 use Rattle.pfs_store_contract.specs.declared.records.Node.{Node}
@@ -42,7 +46,11 @@ rated conf sound rule rate is = record { is = is; alone = rated-scope conf sound
 
 -- a node is retained no shorter than the seconds of the rate
 pub long : (conf : Conf) (rule : ℕ) (rate : Rate) → IsRated conf rule rate → rate.seconds ≤ node_retention conf (own_scope rule)
-long conf rule rate i = let e = ap rate_seconds i.is in omega (arith, e)
+long conf rule rate i = let e = ap rate_seconds i.is in omega (arith, by conf.profile (timeout_of conf timeout.SrcTrack) (options_of conf rule), e)
+  where
+    by : (p : Profile) (global : ℕ) (o : StateOptions) → rate_seconds o.max_src_conn_rate ≤ rule_retention p global o
+    by profile.Own global o = omega arith
+    by profile.OpenBsd74 global o = grind (arith, nat_tests)
 
 pub scope-rated : (conf : Conf) (rule : ℕ) (rate : Rate) → IsRated conf rule rate → node_scope_of conf rule ≡ Some (own_scope rule)
 scope-rated conf rule rate i = ap (node_scope_under rule) i.alone
@@ -124,7 +132,7 @@ remembers-this rule source seconds now history count nodes some r =
     one n k true e = record {
       agrees = λ t later. ap (λ (x : Score). score_after seconds x t) (k.agrees now (omega arith));
       last = omega arith;
-      idle = λ z. absurd (omega (arith, z, some));
+      over = λ z. absurd (omega (arith, z, some));
     }
 
 -- the score that is then compared

@@ -8,7 +8,7 @@ use Rattle.pfs_addr_values.specs.declared.addresses.Addr.{Addr}
 use Rattle.pfs_conf_values.specs.Configs.{Conf, options_of}
 use Rattle.pfs_conf_values.specs.declared.actions.Rate.{Rate}
 use Rattle.pfs_store_contract.specs.Counts.{is_node, node_scope_of, node_states}
-use Rattle.pfs_store_contract.specs.Leaving.{node_after_leaving}
+use Rattle.pfs_store_contract.specs.Leaving.{node_after_leaving, node_retention}
 use Rattle.pfs_store_contract.specs.Purging.{is_among, node_numbers, state_numbers}
 use Rattle.pfs_store_contract.specs.Touching.{nodes_scored, nodes_touched, numbered_state_after, node_after_handshake, state_after_packet}
 use Rattle.pfs_store_contract.specs.declared.records.Node.{Node}
@@ -130,6 +130,6 @@ numbers-idled conf before after now ns =
     same-map (λ (n : Node). n.number) (node_after_leaving conf before after now)
     (λ n. one n (nat_lt 0 (node_states conf n.scope n.source before) && (node_states conf n.scope n.source after == 0))) ns
   where
-    one : (n : Node) (b : Bool) → (cond b (record n { idle = now }) n).number ≡ n.number
+    one : (n : Node) (b : Bool) → (cond b (record n { expires = now + node_retention conf n.scope }) n).number ≡ n.number
     one n true = refl
     one n false = refl

@@ -1,5 +1,5 @@
 -- Every act of a run leaves the score of a source's node with the future of its history's: so the two laws of rates hold.
-use Rattle.std.proofs.Common.{◌≡◌, ℕ, suc, zero, ◌+◌, ◌-◌, ◌*◌, ◌<◌, ◌≤◌, Bool, true, false, nat_lt, ◌&&◌, ◌||◌, cond, ◌==◌, List, [], ◌∷◌, ◌++◌, filter, map, take, Option, Some, None, refl, ap, ◌∙◌, sym, subst, arith}
+use Rattle.std.proofs.Common.{◌≡◌, ℕ, suc, zero, ◌+◌, ◌-◌, ◌*◌, ◌<◌, ◌≤◌, Bool, true, false, nat_lt, ◌&&◌, ◌||◌, cond, ◌==◌, List, [], ◌∷◌, ◌++◌, filter, map, take, Option, Some, None, inl, refl, ap, ◌∙◌, sym, subst, arith}
 use Rattle.std.specs.Option.{ForSome}
 use Rattle.std.specs.List.{range_with_len}
 use Rattle.std.specs.Prelude.{length, option_map, slice_get}
@@ -13,13 +13,14 @@ use Rattle.pfs_addr_values.specs.declared.addresses.Addr.{Addr}
 use Rattle.pfs_conf_values.specs.Configs.{Conf, options_of, rate_seconds}
 use Rattle.pfs_conf_values.specs.Invariants.{IsConfig}
 use Rattle.pfs_conf_values.specs.declared.actions.Rate.{Rate}
-use Rattle.pfs_store_contract.specs.Admission.{world_after_admission, new_node, new_state, nodes_with}
+use Rattle.pfs_store_contract.specs.Admission.{leaves_node, world_after_admission, world_after_refusal, new_node, new_state, nodes_with}
 use Rattle.pfs_store_contract.specs.Counts.{has_node, is_node, is_of_node, node_scope_of, node_states, same_scope}
 use Rattle.pfs_store_contract.specs.Handshakes.{hits_connections, hits_rate, over_rate}
 use Rattle.pfs_store_contract.specs.Leaving.{world_without}
 use Rattle.pfs_store_contract.specs.Purging.{node_round, node_share, purge, state_round, state_share, state_slice, stays}
-use Rattle.pfs_store_contract.specs.Touching.{completes_at, node_score, nodes_scored, nodes_touched, score_in, world_after_touch}
+use Rattle.pfs_store_contract.specs.Touching.{completes_at, may_reopen, node_score, nodes_scored, nodes_touched, score_in, world_after_touch}
 use Rattle.pfs_store_contract.specs.Worlds.{World, state_with}
+use Rattle.pfs_store_contract.specs.declared.records.Limit.{Limit}
 use Rattle.pfs_store_contract.specs.declared.records.Node.{Node}
 use Rattle.pfs_store_contract.specs.declared.records.NodeScope.{NodeScope}
 use Rattle.pfs_store_contract.specs.declared.records.State.{State}
@@ -27,13 +28,15 @@ use Rattle.pfs_track.specs.Scores.{score_after, zero_score}
 use Rattle.pfs_track.specs.declared.scores.Score.{Score}
 use Rattle.pfs_engine_machine.proofs.Counts.{any-push, count-filter_le, count-push}
 use Rattle.pfs_engine_machine.specs.Kept.{moment_of, own_scope}
-use Rattle.pfs_engine_machine.specs.Machine.{Held, Machine, answer_to_arrival, machine_at_moment, answer_to_packet, answer_of_exceeded, answer_of_state, answer_of_handshake, due, exceeded_of, first_moment, held_of, world_after_purges, start, step, machine_after, outcomes_of}
+use Rattle.pfs_engine_machine.specs.Machine.{Held, Machine, answer_to_arrival, machine_at_moment, answer_to_packet, answer_of_exceeded, answer_of_key, answer_of_state, answer_of_handshake, due, exceeded_of, first_moment, held_for, held_of, world_after_purges, start, step, machine_after, outcomes_of}
 use Rattle.pfs_engine_machine.specs.Rates.{Handshake, completed_state, score_through, handshake_at, handshaking_state, handshakes, history_score, is_from, moments_of, with_handshake}
 use Rattle.pfs_engine_machine.specs.Runs.{IsInOrder}
 use Rattle.pfs_engine_machine.specs.declared.events.Event.{Event}
 use Rattle.pfs_engine_machine.specs.declared.events.Arrival.{Arrival}
 use Rattle.pfs_engine_machine.specs.declared.events.Arrival.TheVariants as arrival
-use Rattle.pfs_engine_machine.proofs.PacketChanges.{Changes, answered_has}
+use Rattle.pfs_engine_machine.proofs.PacketChanges.{Changes, key_has}
+use Rattle.pfs_engine_machine.proofs.Reopening.{anew-completes, completing_meets, met_has, met_same}
+use Rattle.pfs_engine_machine.proofs.Limits.{world_with_stray}
 use Rattle.pfs_engine_machine.proofs.Hearing.{IsRated, RemembersIn, found-count, heard, is_of, long, rated, scope-rated, score-this, scored-in, states-touched}
 use Rattle.pfs_engine_machine.proofs.Lists.{both, each-of, each-push}
 use Rattle.pfs_engine_machine.proofs.Remembering.{IsKnown, Knows, Remembers, remembers-later, remembers-left, remembers-purged}
@@ -43,15 +46,15 @@ use Rattle.pfs_engine_machine.specs.RateMemory.{IsHandshake, RateIsRemembered, S
 -- ---- a new state
 
 -- a node is made where a source has none
-remembers-new : (rule : ℕ) (source : Addr) (seconds now : ℕ) (history : Score) (count : ℕ) (nodes : List Node) (number : ℕ) (scope : NodeScope) (from : Addr)
+remembers-new : (rule : ℕ) (source : Addr) (seconds now : ℕ) (history : Score) (count : ℕ) (nodes : List Node) (number : ℕ) (scope : NodeScope) (from : Addr) (at : ℕ)
     → has_node scope from nodes ≡ false → Remembers rule source seconds now history count nodes
-    → Remembers rule source seconds now history count (nodes ++ new_node number scope from ∷ [])
-remembers-new rule source seconds now history count nodes number scope from lack r =
-    let x : Node = new_node number scope from in
+    → Remembers rule source seconds now history count (nodes ++ new_node number scope from at ∷ [])
+remembers-new rule source seconds now history count nodes number scope from at lack r =
+    let x : Node = new_node number scope from at in
     let pushed = any-push (is_node (own_scope rule) source) nodes x in
     record {
       nodes = each-push (IsKnown rule source seconds now history count) nodes x r.nodes
-          (λ e. record { agrees = r.absent (absent_is e); last = omega arith; idle = λ z. omega arith });
+          (λ e. record { agrees = r.absent (absent_is e); last = omega arith; over = λ z. inl refl });
       absent = λ e. r.absent (left_false (has_node (own_scope rule) source nodes) (is_node (own_scope rule) source x) (sym pushed ∙ e));
       noded = λ some. pushed ∙ left_true (has_node (own_scope rule) source nodes) (is_node (own_scope rule) source x) (r.noded some);
     }
@@ -71,29 +74,29 @@ remembers-new rule source seconds now history count nodes number scope from lack
         ∙ ap (λ (a : Addr). has_node scope a nodes) (sym (same_addr_true from source p.1)) ∙ lack
 
 -- which nodes there are beside a new state
-nodes-in : (rule : ℕ) (source : Addr) (seconds now : ℕ) (history : Score) (count : ℕ) (nodes : List Node) (number : ℕ) (from : Addr) (o : Option NodeScope)
-    → Remembers rule source seconds now history count nodes → Remembers rule source seconds now history count (nodes_with nodes number from o)
-nodes-in rule source seconds now history count nodes number from None r = r
-nodes-in rule source seconds now history count nodes number from (Some scope) r = go (has_node scope from nodes) refl
+nodes-in : (rule : ℕ) (source : Addr) (seconds now : ℕ) (history : Score) (count : ℕ) (nodes : List Node) (number : ℕ) (from : Addr) (at : ℕ) (o : Option NodeScope)
+    → Remembers rule source seconds now history count nodes → Remembers rule source seconds now history count (nodes_with nodes number from at o)
+nodes-in rule source seconds now history count nodes number from at None r = r
+nodes-in rule source seconds now history count nodes number from at (Some scope) r = go (has_node scope from nodes) refl
   where
-    go : (b : Bool) → has_node scope from nodes ≡ b → Remembers rule source seconds now history count (cond b nodes (nodes ++ new_node number scope from ∷ []))
+    go : (b : Bool) → has_node scope from nodes ≡ b → Remembers rule source seconds now history count (cond b nodes (nodes ++ new_node number scope from at ∷ []))
     go true e = r
-    go false e = remembers-new rule source seconds now history count nodes number scope from e r
+    go false e = remembers-new rule source seconds now history count nodes number scope from at e r
 
 -- the source of a new state has a node
-noded-with : (nodes : List Node) (number : ℕ) (scope : NodeScope) (from : Addr) → has_node scope from (nodes_with nodes number from (Some scope)) ≡ true
-noded-with nodes number scope from = go (has_node scope from nodes) refl
+noded-with : (nodes : List Node) (number : ℕ) (scope : NodeScope) (from : Addr) (at : ℕ) → has_node scope from (nodes_with nodes number from at (Some scope)) ≡ true
+noded-with nodes number scope from at = go (has_node scope from nodes) refl
   where
     or_true : (a b : Bool) → b ≡ true → (a || b) ≡ true
     or_true true b e = refl
     or_true false b e = e
 
-    own : is_node scope from (new_node number scope from) ≡ true
+    own : is_node scope from (new_node number scope from at) ≡ true
     own = rw (same_scope_self scope, same_addr_self from) refl
 
-    go : (b : Bool) → has_node scope from nodes ≡ b → has_node scope from (cond b nodes (nodes ++ new_node number scope from ∷ [])) ≡ true
+    go : (b : Bool) → has_node scope from nodes ≡ b → has_node scope from (cond b nodes (nodes ++ new_node number scope from at ∷ [])) ≡ true
     go true e = e
-    go false e = any-push (is_node scope from) nodes (new_node number scope from) ∙ or_true (has_node scope from nodes) (is_node scope from (new_node number scope from)) own
+    go false e = any-push (is_node scope from) nodes (new_node number scope from at) ∙ or_true (has_node scope from nodes) (is_node scope from (new_node number scope from at)) own
 
 -- one state more of a source that has a node
 more-count : (rule : ℕ) (source : Addr) (seconds now : ℕ) (history : Score) (count count' : ℕ) (nodes : List Node) → count ≤ count'
@@ -101,7 +104,7 @@ more-count : (rule : ℕ) (source : Addr) (seconds now : ℕ) (history : Score) 
     → Remembers rule source seconds now history count' nodes
 more-count rule source seconds now history count count' nodes h noded r = record {
   nodes = each-of (IsKnown rule source seconds now history count) (IsKnown rule source seconds now history count')
-      (λ n f e. let k : Knows seconds now history count n = f e in record { agrees = k.agrees; last = k.last; idle = λ z. k.idle (omega (arith, z, h)) }) nodes r.nodes;
+      (λ n f e. let k : Knows seconds now history count n = f e in record { agrees = k.agrees; last = k.last; over = λ z. k.over (omega (arith, z, h)) }) nodes r.nodes;
   absent = r.absent;
   noded = noded;
 }
@@ -109,33 +112,42 @@ more-count rule source seconds now history count count' nodes h noded r = record
 admitted-in : (conf : Conf) (rule : ℕ) (source : Addr) (x : Rate) (now : ℕ) (history : Score) (w : World) (p : PacketView) (other at : ℕ) → IsRated conf rule x
     → RemembersIn conf rule source x.seconds now history w → RemembersIn conf rule source x.seconds now history (world_after_admission conf w p other at)
 admitted-in conf rule source x now history w p other at i r =
-    let new : State = new_state (w.made + 1) p other at in
+    let new : State = new_state conf (w.made + 1) p other at in
     let before : ℕ = node_states conf (own_scope rule) source w.states in
     let grown = count-push (is_of_node conf (own_scope rule) source) w.states new in
-    let nodes : List Node = nodes_with w.nodes (w.made + 1) p.source.addr (node_scope_of conf other) in
-    let held = nodes-in rule source x.seconds now history before w.nodes (w.made + 1) p.source.addr (node_scope_of conf other) r in
+    let nodes : List Node = nodes_with w.nodes (w.made + 1) p.source.addr at (node_scope_of conf other) in
+    let held = nodes-in rule source x.seconds now history before w.nodes (w.made + 1) p.source.addr at (node_scope_of conf other) r in
     more-count rule source x.seconds now history before (node_states conf (own_scope rule) source (w.states ++ new ∷ [])) nodes (omega (arith, grown))
     (λ some. go ((other == rule) && same_addr p.source.addr source) refl grown some held.noded) held
   where
     go : (b : Bool) → ((other == rule) && same_addr p.source.addr source) ≡ b
-        → node_states conf (own_scope rule) source (w.states ++ new_state (w.made + 1) p other at ∷ []) ≡ node_states conf (own_scope rule) source w.states + cond b 1 0
-        → 0 < node_states conf (own_scope rule) source (w.states ++ new_state (w.made + 1) p other at ∷ [])
-        → (0 < node_states conf (own_scope rule) source w.states → has_node (own_scope rule) source (nodes_with w.nodes (w.made + 1) p.source.addr (node_scope_of conf other)) ≡ true)
-        → has_node (own_scope rule) source (nodes_with w.nodes (w.made + 1) p.source.addr (node_scope_of conf other)) ≡ true
+        → node_states conf (own_scope rule) source (w.states ++ new_state conf (w.made + 1) p other at ∷ []) ≡ node_states conf (own_scope rule) source w.states + cond b 1 0
+        → 0 < node_states conf (own_scope rule) source (w.states ++ new_state conf (w.made + 1) p other at ∷ [])
+        → (0 < node_states conf (own_scope rule) source w.states → has_node (own_scope rule) source (nodes_with w.nodes (w.made + 1) p.source.addr at (node_scope_of conf other)) ≡ true)
+        → has_node (own_scope rule) source (nodes_with w.nodes (w.made + 1) p.source.addr at (node_scope_of conf other)) ≡ true
     go true e g some h =
         let q = both (other == rule) (same_addr p.source.addr source) e in
         let rules : other ≡ rule = let f = q.0 in grind (arith, nat_tests) in
         let sources : p.source.addr ≡ source = same_addr_true p.source.addr source q.1 in
         let scope_is : node_scope_of conf other ≡ Some (own_scope rule) = ap (node_scope_of conf) rules ∙ scope-rated conf rule x i in
-        rw (scope_is, sources) (noded-with w.nodes (w.made + 1) (own_scope rule) source)
+        rw (scope_is, sources) (noded-with w.nodes (w.made + 1) (own_scope rule) source at)
     go false e g some h = h (omega (arith, g, some))
+
+-- a refusal may leave a node
+refused-in : (conf : Conf) (rule : ℕ) (source : Addr) (seconds now : ℕ) (history : Score) (w : World) (p : PacketView) (other at : ℕ) (l : Limit)
+    → RemembersIn conf rule source seconds now history w → RemembersIn conf rule source seconds now history (world_after_refusal conf w p.source.addr other at l)
+refused-in conf rule source seconds now history w p other at l r = by (leaves_node conf w p.source.addr other l)
+  where
+    by : (b : Bool) → RemembersIn conf rule source seconds now history (cond b (world_with_stray conf w p.source.addr other at) w)
+    by true = nodes-in rule source seconds now history (node_states conf (own_scope rule) source w.states) w.nodes (w.made + 1) p.source.addr at (node_scope_of conf other) r
+    by false = r
 
 -- ---- what comes of a packet
 
-without-in : (conf : Conf) (rule : ℕ) (source : Addr) (seconds now : ℕ) (history : Score) (w : World) (stay : State → Bool)
-    → RemembersIn conf rule source seconds now history w → RemembersIn conf rule source seconds now history (world_without conf w stay now)
-without-in conf rule source seconds now history w stay r =
-    remembers-left conf w.states (filter stay w.states) rule source seconds now history w.nodes (count-filter_le (is_of_node conf (own_scope rule) source) stay w.states) r
+without-in : (conf : Conf) (rule : ℕ) (source : Addr) (x : Rate) (now : ℕ) (history : Score) (w : World) (stay : State → Bool) → IsRated conf rule x
+    → RemembersIn conf rule source x.seconds now history w → RemembersIn conf rule source x.seconds now history (world_without conf w stay now)
+without-in conf rule source x now history w stay i r =
+    remembers-left conf w.states (filter stay w.states) rule source x.seconds now history w.nodes (long conf rule x i) (count-filter_le (is_of_node conf (own_scope rule) source) stay w.states) r
 
 with-count : (rule : ℕ) (source : Addr) (seconds now : ℕ) (history : Score) (count count' : ℕ) (nodes : List Node) → count' ≡ count
     → Remembers rule source seconds now history count nodes → Remembers rule source seconds now history count' nodes
@@ -161,7 +173,9 @@ packet-in conf rule source x now history w p i r = record {
   passes = λ fresh. given (state_with (key_of p) w) None w fresh r;
   admits = λ other fresh none. given (state_with (key_of p) w) None (world_after_admission conf w p other now) fresh (admitted-in conf rule source x now history w p other now i r);
   touches = λ s found. given (state_with (key_of p) w) (Some s) (world_after_touch conf w s p now) found (touched-in conf rule source x now history w p s i found r);
-  kills = λ v stay k. without-in conf rule source x.seconds now (heard rule source x.seconds history now (completed_state p (state_with (key_of p) w))) v stay k;
+  refuses = λ other limit fresh met. given (state_with (key_of p) w) None (world_after_refusal conf w p.source.addr other now limit) fresh
+      (refused-in conf rule source x.seconds now history w p other now limit r);
+  kills = λ v stay k. without-in conf rule source x now (heard rule source x.seconds history now (completed_state p (state_with (key_of p) w))) v stay i k;
 }
   where
     given : (o o' : Option State) (v : World) → o ≡ o' → RemembersIn conf rule source x.seconds now (heard rule source x.seconds history now (completed_state p o')) v
@@ -176,8 +190,8 @@ purge-in conf rule source x now history w i r =
     let v : World = state_slice conf w now in
     let stay = stays conf w.states now (take (state_share conf) (state_round w)) in
     let s : RemembersIn conf rule source x.seconds now history v =
-    remembers-left conf w.states v.states rule source x.seconds now history w.nodes (count-filter_le (is_of_node conf (own_scope rule) source) stay w.states) r in
-    remembers-purged conf rule source x.seconds now history v.states (take (node_share conf) (node_round v)) v.nodes (long conf rule x i) s
+    remembers-left conf w.states v.states rule source x.seconds now history w.nodes (long conf rule x i) (count-filter_le (is_of_node conf (own_scope rule) source) stay w.states) r in
+    remembers-purged conf rule source x.seconds now history v.states (take (node_share conf) (node_round v)) v.nodes s
 
 later-in : (conf : Conf) (rule : ℕ) (source : Addr) (seconds now later : ℕ) (history : Score) (w : World) → now ≤ later
     → RemembersIn conf rule source seconds now history w → RemembersIn conf rule source seconds later history w
@@ -203,6 +217,19 @@ due-in conf rule source x history i w (Some last) now h r =
 
 -- ---- an event
 
+-- a packet that may begin a connection anew completes no handshake, whichever state it meets
+completed_when_met : (conf : Conf) (h : Held) (p : PacketView) (now : ℕ)
+    → completed_state p (state_with (key_of p) (held_for conf h p now).world) ≡ completed_state p (state_with (key_of p) h.world)
+completed_when_met conf h p now = by (may_reopen conf p) refl
+  where
+    none : may_reopen conf p ≡ true → (found : Option State) → completed_state p found ≡ None
+    none anew None = refl
+    none anew (Some s) = ap (λ (b : Bool). cond b (Some s) None) (anew-completes conf p s anew)
+
+    by : (b : Bool) → may_reopen conf p ≡ b → completed_state p (state_with (key_of p) (held_for conf h p now).world) ≡ completed_state p (state_with (key_of p) h.world)
+    by true e = none e (state_with (key_of p) (held_for conf h p now).world) ∙ sym (none e (state_with (key_of p) h.world))
+    by false e = ap (λ (m : Held). completed_state p (state_with (key_of p) m.world)) (met_same conf h p now e)
+
 acted-in : (conf : Conf) (rule : ℕ) (source : Addr) (x : Rate) (first now : ℕ) (history : Score) (h : Held) → IsRated conf rule x → (what : Arrival)
     → RemembersIn conf rule source x.seconds now history h.world
     → RemembersIn conf rule source x.seconds now (heard rule source x.seconds history now (handshaking_state h.world what)) (answer_to_arrival conf h first now what).1.world
@@ -210,8 +237,12 @@ acted-in conf rule source x first now history h i arrival.Skip r = r
 acted-in conf rule source x first now history h i (arrival.Table table done) r = r
 acted-in conf rule source x first now history h i arrival.Held r = r
 acted-in conf rule source x first now history h i (arrival.Packet p) r =
-    answered_has conf h p now (RemembersIn conf rule source x.seconds now (heard rule source x.seconds history now (completed_state p (state_with (key_of p) h.world))))
-    (packet-in conf rule source x now history h.world p i r)
+    let met : Held = held_for conf h p now in
+    let same : completed_state p (state_with (key_of p) met.world) ≡ completed_state p (state_with (key_of p) h.world) = completed_when_met conf h p now in
+    subst (λ (o : Option State). RemembersIn conf rule source x.seconds now (heard rule source x.seconds history now o) (answer_of_key conf met p now).1.world) same
+    (key_has conf met p now (RemembersIn conf rule source x.seconds now (heard rule source x.seconds history now (completed_state p (state_with (key_of p) met.world))))
+    (packet-in conf rule source x now history met.world p i
+    (met_has conf h p now (RemembersIn conf rule source x.seconds now history) r (λ stay. without-in conf rule source x now history h.world stay i r))))
 
 abbrev RemembersAt : Conf → ℕ → Addr → ℕ → Score → Machine → Type 0
 RemembersAt conf rule source seconds history m = RemembersIn conf rule source seconds (moment_of m.last) history m.held.world
@@ -301,7 +332,7 @@ score-in conf x now history w p s i found act_done r =
 
 -- the outcome says whether the score is over the limit
 rate-hit : (conf : Conf) (h : Held) (s : State) (now : ℕ) (conn rate : Bool)
-    → rate_hit (answer_of_exceeded conf h s.number s.rule s.source now (exceeded_of conn rate)).0 ≡ rate
+    → rate_hit (answer_of_exceeded conf h s.number s.dir s.rule s.source now (exceeded_of conn rate)).0 ≡ rate
 rate-hit conf h s now true true = refl
 rate-hit conf h s now true false = refl
 rate-hit conf h s now false true = refl
@@ -313,7 +344,8 @@ hit-in conf x now h p s i e =
     let q = completed-is p (state_with (key_of p) h.world) s e in
     let v : Held = held_of (world_after_touch conf h.world s p now) h.tables in
     let score : Score = score_in s.source v.world.nodes (node_scope_of conf s.rule.0) in
-    ap (λ (found : Option State). rate_hit (answer_of_state conf h p now found).0) q.0
+    ap (λ (m : Held). rate_hit (answer_of_key conf m p now).0) (completing_meets conf h p now s q.1)
+    ∙ ap (λ (found : Option State). rate_hit (answer_of_state conf h p now found).0) q.0
     ∙ ap (λ (b : Bool). rate_hit (answer_of_handshake conf v s now b).0) q.1
     ∙ rate-hit conf v s now (hits_connections conf v.world s) (hits_rate conf v.world s)
     ∙ ap (λ (r : Option Rate). over_rate r score.value) i.is

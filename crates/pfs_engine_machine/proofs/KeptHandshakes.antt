@@ -24,7 +24,7 @@ use Rattle.pfs_store_contract.specs.Worlds.{IsUpToNow, World, state_with}
 use Rattle.pfs_store_contract.specs.declared.records.Node.{Node}
 use Rattle.pfs_store_contract.specs.declared.records.NodeScope.{NodeScope}
 use Rattle.pfs_store_contract.specs.declared.records.State.{State}
-use Rattle.pfs_engine_machine.specs.Kept.{HasNode, IsKept, IsPhaseOf, IsWithin, Rise, TracksAlone, own_scope}
+use Rattle.pfs_engine_machine.specs.Kept.{HasNode, HasSource, IsKept, IsPhaseOf, IsWithin, Rise, TracksAlone, own_scope}
 use Rattle.pfs_engine_machine.specs.Machine.{Held, answer_of_exceeded, answer_of_state, exceeded_of, held_of, answer_of_kill, tables_after_addition}
 use Rattle.pfs_engine_machine.specs.Refusals.{is_tcp}
 use Rattle.pfs_engine_machine.specs.declared.events.Exceeded.{Exceeded}
@@ -49,6 +49,7 @@ record IsKeptBut (conf : Conf) (m : Held) (now : ℕ) : Type 0 where
   numbers : Rise 0 m.world.states m.world.made
   noded : All (HasNode conf m.world.nodes) m.world.states
   phases : All (λ (s : State). IsPhaseOf s.key.proto s.phase) m.world.states
+  sources : All HasSource m.world.states
   tables : length m.tables ≡ length conf.tables
   moments : IsUpToNow now m.world
 
@@ -71,6 +72,7 @@ kept_whole conf m now k few = record {
   numbers = k.numbers;
   noded = k.noded;
   phases = k.phases;
+  sources = k.sources;
   tables = k.tables;
   moments = k.moments;
 }
@@ -90,6 +92,9 @@ renewed-noded conf nodes number p now s h = λ scope is.
 renewed-of_node : (conf : Conf) (scope : NodeScope) (source : Addr) (number : ℕ) (p : PacketView) (now : ℕ) (s : State)
     → is_of_node conf scope source (numbered_state_after number p now s) ≡ is_of_node conf scope source s
 renewed-of_node conf scope source number p now s = let same = renewed-same number p now s in rw (same.rule, same.source)
+
+renewed-source : (number : ℕ) (p : PacketView) (now : ℕ) (s : State) → HasSource s → HasSource (numbered_state_after number p now s)
+renewed-source number p now s h = let same = renewed-same number p now s in rw (same.dir, same.key, same.source) h
 
 kept_but_touched : (conf : Conf) (m : Held) (p : PacketView) (now : ℕ) (s : State) → IsKept conf m now
     → IsKeptBut conf (held_of (world_after_touch conf m.world s p now) m.tables) now
@@ -111,6 +116,8 @@ kept_but_touched conf m p now s k =
       noded = All-map (HasNode conf nodes) f w.states
           (All-weaker (HasNode conf w.nodes) (λ (t : State). HasNode conf nodes (f t))
           (λ t h. renewed-noded conf nodes s.number p now t (HasNode-alike conf w.nodes nodes alike t h)) w.states k.noded);
+      sources = All-map HasSource f w.states
+          (All-weaker HasSource (λ (t : State). HasSource (f t)) (λ t h. renewed-source s.number p now t h) w.states k.sources);
       phases = All-map (λ (t : State). IsPhaseOf t.key.proto t.phase) f w.states
           (All-weaker (λ (t : State). IsPhaseOf t.key.proto t.phase) (λ (t : State). IsPhaseOf (f t).key.proto (f t).phase) (renewed-phase s.number p now) w.states k.phases);
       tables = k.tables;
@@ -120,6 +127,9 @@ kept_but_touched conf m p now s k =
 -- the state alone has its number
 alone_of : (conf : Conf) (m : Held) (p : PacketView) (now : ℕ) (s : State) → state_with (key_of p) m.world ≡ Some s → IsKept conf m now → IsAlone s m.world.states
 alone_of conf m p now s found k = Rise-alone (λ (t : State). same_key t.key (key_of p)) s 0 m.world.made m.world.states k.numbers found
+
+source_of : (conf : Conf) (m : Held) (p : PacketView) (now : ℕ) (s : State) → state_with (key_of p) m.world ≡ Some s → IsKept conf m now → HasSource s
+source_of conf m p now s found k = find-all HasSource (λ (t : State). same_key t.key (key_of p)) m.world.states s k.sources found
 
 -- where the handshake does not complete, or hits no `max-src-conn`, no source has too many connections
 few_touched : (conf : Conf) (m : Held) (p : PacketView) (now : ℕ) (s : State) → state_with (key_of p) m.world ≡ Some s
@@ -166,6 +176,7 @@ kept_but_without conf m stays at now k =
           within_less (options_of conf rule).max_src_states _ _ (count-filter_le (is_of_node conf (own_scope rule) source) stays w.states) (k.source_states rule source tracks);
       numbers = Rise-filter stays 0 w.made w.states k.numbers;
       noded = All-filter stays (HasNode conf nodes) w.states (All-weaker (HasNode conf w.nodes) (HasNode conf nodes) (HasNode-alike conf w.nodes nodes alike) w.states k.noded);
+      sources = All-filter stays HasSource w.states k.sources;
       phases = All-filter stays (λ (t : State). IsPhaseOf t.key.proto t.phase) w.states k.phases;
       tables = k.tables;
       moments = left-up_to_now conf w (filter stays w.states) (world_without conf w stays at).pending_states at now k.moments;
@@ -195,21 +206,22 @@ kept_but_added conf m source overload now k = record {
   numbers = k.numbers;
   noded = k.noded;
   phases = k.phases;
+  sources = k.sources;
   tables = tables_by-size conf m.tables source now overload ∙ k.tables;
   moments = k.moments;
 }
 
 few_killed : (conf : Conf) (m : Held) (p : PacketView) (now : ℕ) (s : State) (flush : Option Scope) → state_with (key_of p) m.world ≡ Some s
     → IsKept conf m now
-    → AreFew conf (filter (stays_at_kill flush s.number s.rule s.source) (world_after_touch conf m.world s p now).states)
+    → AreFew conf (filter (stays_at_kill conf.profile flush s.number s.dir s.rule s.source) (world_after_touch conf m.world s p now).states)
 few_killed conf m p now s flush found k rule source tracks =
-    within_less (options_of conf rule).max_src_conn _ _ (connections-killed conf m.world p now s flush (own_scope rule) source (alone_of conf m p now s found k)) (k.limits.source_connections rule source tracks)
+    within_less (options_of conf rule).max_src_conn _ _ (connections-killed conf m.world p now s flush (own_scope rule) source (alone_of conf m p now s found k) (source_of conf m p now s found k)) (k.limits.source_connections rule source tracks)
 
 pub kept_killed : (conf : Conf) (m : Held) (p : PacketView) (now : ℕ) (s : State) (limits : Exceeded) → state_with (key_of p) m.world ≡ Some s
-    → IsKept conf m now → IsKept conf (answer_of_kill conf (held_of (world_after_touch conf m.world s p now) m.tables) s.number s.rule s.source now limits).1 now
+    → IsKept conf m now → IsKept conf (answer_of_kill conf (held_of (world_after_touch conf m.world s p now) m.tables) s.number s.dir s.rule s.source now limits).1 now
 kept_killed conf m p now s limits found k =
     let overload = (options_of conf s.rule.0).overload in
-    let stays = stays_at_kill (flush_of overload) s.number s.rule s.source in
+    let stays = stays_at_kill conf.profile (flush_of overload) s.number s.dir s.rule s.source in
     let first = held_of (world_after_touch conf m.world s p now) m.tables in
     let second = held_of (world_without conf first.world stays now) first.tables in
     kept_whole conf (held_of second.world (tables_after_addition conf second.tables s.source now overload)) now
@@ -221,7 +233,7 @@ kept_killed conf m p now s limits found k =
 kept_by_handshake : (conf : Conf) (m : Held) (p : PacketView) (now : ℕ) (s : State) (conn rate : Bool) → state_with (key_of p) m.world ≡ Some s
     → IsKept conf m now → conn ≡ hits_connections conf (world_after_touch conf m.world s p now) s
     → (completes : Bool) → completes_at p s ≡ completes
-    → IsKept conf (answer_of_exceeded conf (held_of (world_after_touch conf m.world s p now) m.tables) s.number s.rule s.source now (if completes then exceeded_of conn rate else None)).1 now
+    → IsKept conf (answer_of_exceeded conf (held_of (world_after_touch conf m.world s p now) m.tables) s.number s.dir s.rule s.source now (if completes then exceeded_of conn rate else None)).1 now
 kept_by_handshake conf m p now s conn rate found k is false done = kept_touched conf m p now s found (inl done) k
 kept_by_handshake conf m p now s true true found k is true done = kept_killed conf m p now s exceeded.Both found k
 kept_by_handshake conf m p now s true false found k is true done = kept_killed conf m p now s exceeded.Connections found k
@@ -241,7 +253,7 @@ made_held conf m p now s = by (if completes_at p s then exceeded_of (hits_connec
     after : World
     after = world_after_touch conf m.world s p now
 
-    by : (limits : Option Exceeded) → (answer_of_exceeded conf (held_of after m.tables) s.number s.rule s.source now limits).1.world.made ≡ m.world.made
+    by : (limits : Option Exceeded) → (answer_of_exceeded conf (held_of after m.tables) s.number s.dir s.rule s.source now limits).1.world.made ≡ m.world.made
     by (Some e) = refl
     by None = refl
 

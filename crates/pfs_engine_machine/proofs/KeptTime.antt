@@ -18,7 +18,7 @@ use Rattle.pfs_conf_values.specs.declared.tables.TableDef.{TableDef}
 use Rattle.pfs_store_contract.proofs.MomentLaws.{empty_world-up_to_now, later-up_to_now, left-up_to_now, node_slice-up_to_now}
 use Rattle.pfs_store_contract.specs.Counts.{is_connection, is_node, is_of_node, is_of_rule, node_states, same_scope}
 use Rattle.pfs_store_contract.specs.Leaving.{node_after_leaving, world_with_stay}
-use Rattle.pfs_store_contract.specs.Purging.{is_among, node_retention, node_round, node_share, node_slice, node_stays, purge, state_round, state_share, state_slice, stays}
+use Rattle.pfs_store_contract.specs.Purging.{is_among, node_round, node_share, node_slice, node_stays, purge, state_round, state_share, state_slice, stays}
 use Rattle.pfs_store_contract.specs.Worlds.{World}
 use Rattle.pfs_store_contract.specs.declared.records.Node.{Node}
 use Rattle.pfs_store_contract.specs.declared.records.NodeScope.{NodeScope}
@@ -27,7 +27,7 @@ use Rattle.pfs_engine_machine.proofs.Additions.{entries_entered-size, entries_en
 use Rattle.pfs_engine_machine.proofs.Numbers.{Rise-filter}
 use Rattle.pfs_engine_machine.proofs.Counts.{any-filter, any-map, count-at, count-filter_le, count-map, count_le}
 use Rattle.pfs_engine_machine.proofs.Scopes.{is_of_node-own}
-use Rattle.pfs_engine_machine.specs.Kept.{HasNode, IsKept, IsPhaseOf, IsWithin, moment_of, own_scope}
+use Rattle.pfs_engine_machine.specs.Kept.{HasNode, HasSource, IsKept, IsPhaseOf, IsWithin, moment_of, own_scope}
 use Rattle.std.proofs.lemmas.Bool.{and_parts}
 use Rattle.pfs_store_contract.proofs.ScopeLaws.{same_scope_true}
 use Rattle.pfs_engine_machine.specs.declared.events.Command.{Command}
@@ -50,6 +50,7 @@ kept_start conf sound = record {
   numbers = omega arith;
   noded = All-nil (HasNode conf []);
   phases = All-nil (λ (s : State). IsPhaseOf s.key.proto s.phase);
+  sources = All-nil HasSource;
   tables = length-map conf.tables (λ (t : TableDef). map entry_of_text t.entries);
   moments = empty_world-up_to_now 0;
 }
@@ -60,7 +61,7 @@ kept_start conf sound = record {
 pub within_less : (most : Option ℕ) (a b : ℕ) → a ≤ b → IsWithin most b → IsWithin most a
 within_less most a b le h n is = omega (arith, le, h n is)
 
--- an idle moment changes neither the scope nor the source of a node
+-- an expiry changes neither the scope nor the source of a node
 idled-is_node : (conf : Conf) (before after : List State) (now : ℕ) (scope : NodeScope) (source : Addr) (n : Node)
     → is_node scope source (node_after_leaving conf before after now n) ≡ is_node scope source n
 idled-is_node conf before after now scope source n = grind arith
@@ -93,6 +94,7 @@ kept_left conf m p pending at now k =
           (λ s h scope is. any-map (is_node scope s.source) change (idled-is_node conf w.states (filter p w.states) at scope s.source) w.nodes ∙ h scope is)
           (filter p w.states) (All-filter p (HasNode conf w.nodes) w.states k.noded);
       phases = All-filter p (λ (s : State). IsPhaseOf s.key.proto s.phase) w.states k.phases;
+      sources = All-filter p HasSource w.states k.sources;
       tables = k.tables;
       moments = left-up_to_now conf w (filter p w.states) pending at now k.moments;
     }
@@ -109,7 +111,7 @@ node_stays-held conf states at examined scope source some n is =
     let same = same_scope_true n.scope scope (and_parts (same_scope n.scope scope) (same_addr n.source source) is).0 in
     let from = same_addr_true n.source source (and_parts (same_scope n.scope scope) (same_addr n.source source) is).1 in
     let count : node_states conf n.scope n.source states ≡ node_states conf scope source states = rw (same, from) refl in
-    by (is_among examined n.number) (nat_le (n.idle + node_retention conf n.scope) at) (node_states conf n.scope n.source states) (omega (arith, count, some))
+    by (is_among examined n.number) (nat_le n.expires at) (node_states conf n.scope n.source states) (omega (arith, count, some))
   where
     by : (a b : Bool) (c : ℕ) → 0 < c → not (a && ((c == 0) && b)) ≡ true
     by a b c h = grind (arith, nat_tests)
@@ -141,6 +143,7 @@ kept_node_slice conf m at now k =
       numbers = k.numbers;
       noded = noded_slice conf w.nodes w.states at examined k.noded;
       phases = k.phases;
+      sources = k.sources;
       tables = k.tables;
       moments = node_slice-up_to_now conf w at now k.moments;
     }
@@ -164,6 +167,7 @@ kept_later conf h last now later k = record {
   numbers = k.numbers;
   noded = k.noded;
   phases = k.phases;
+  sources = k.sources;
   tables = k.tables;
   moments = later-up_to_now last now h.world later k.moments;
 }
@@ -194,6 +198,7 @@ kept_tables conf h tables now within size k = record {
   numbers = k.numbers;
   noded = k.noded;
   phases = k.phases;
+  sources = k.sources;
   tables = size ∙ k.tables;
   moments = k.moments;
 }

@@ -11,6 +11,7 @@ mod KeptAdmission
 pub mod KeptHandshakes
 pub mod KeptPackets
 pub mod KeptTime
+mod Limits
 mod Lists
 pub mod Numbers
 pub mod OptionLaws
@@ -19,6 +20,7 @@ pub mod Purging
 pub mod Quiet
 mod Remembering
 pub mod Renewals
+pub mod Reopening
 mod Rounds
 mod RunActs
 pub mod Running

@@ -4,8 +4,8 @@ use Rattle.std.specs.List.{AllByRecursion}
 use Rattle.std.proofs.lemmas.Bool.Decides.{nat_tests}
 use Rattle.pfs_conf_values.specs.Configs.{Conf}
 use Rattle.pfs_store_contract.specs.Counts.{node_states}
-use Rattle.pfs_store_contract.specs.Leaving.{node_after_leaving}
-use Rattle.pfs_store_contract.specs.Purging.{has_expired, is_among, is_over, node_numbers, node_retention, node_round, node_share, node_slice, node_stays, purge, round, state_numbers, state_round, state_share, state_slice, stays}
+use Rattle.pfs_store_contract.specs.Leaving.{node_after_leaving, node_retention}
+use Rattle.pfs_store_contract.specs.Purging.{has_expired, is_among, is_over, node_numbers, node_round, node_share, node_slice, node_stays, purge, round, state_numbers, state_round, state_share, state_slice, stays}
 use Rattle.pfs_store_contract.specs.Calls.{node_slice_of, state_slice_of}
 use Rattle.pfs_store_contract.specs.Quiet.{NodeStays, StateStays, world_after_quiet}
 use Rattle.pfs_store_contract.specs.Worlds.{World, lists}
@@ -26,7 +26,7 @@ not-both a = grind (arith, nat_tests)
 idled-same : (conf : Conf) (states : List State) (now : ℕ) (ns : List Node) → map (node_after_leaving conf states states now) ns ≡ ns
 idled-same conf states now [] = refl
 idled-same conf states now (n ∷ ns) =
-    (λ i. ap (λ (b : Bool). if b then record n { idle = now } else n) (not-both (node_states conf n.scope n.source states)) i ∷ idled-same conf states now ns i)
+    (λ i. ap (λ (b : Bool). if b then record n { expires = now + node_retention conf n.scope } else n) (not-both (node_states conf n.scope n.source states)) i ∷ idled-same conf states now ns i)
 
 -- ---- a second in which nothing leaves
 
@@ -92,11 +92,11 @@ nodes-stay conf held until s examined (n ∷ ns) l (h, hs) =
   where
     kept : (b : Bool) → (node_states conf n.scope n.source held == 0) ≡ b → node_stays conf held s examined n ≡ true
     kept true e =
-        let fresh : nat_le (n.idle + node_retention conf n.scope) s ≡ false = not-yet until _ s (h (none-of _ e)) l in
+        let fresh : nat_le n.expires s ≡ false = not-yet until _ s (h (none-of _ e)) l in
         let held_on : is_over conf held s n ≡ false = (λ i. e i && fresh i) in
         ap (λ b. not (is_among examined n.number && b)) held_on ∙ either-stays (is_among examined n.number)
     kept false e =
-        let held_on : is_over conf held s n ≡ false = ap (λ b. b && nat_le (n.idle + node_retention conf n.scope) s) e in
+        let held_on : is_over conf held s n ≡ false = ap (λ b. b && nat_le n.expires s) e in
         ap (λ b. not (is_among examined n.number && b)) held_on ∙ either-stays (is_among examined n.number)
 
 pub second-quiet : (conf : Conf) (w : World) (until s : ℕ) → IsQuietUntil conf w until → s < until → purge conf w s ≡ world_after_quiet conf 1 w

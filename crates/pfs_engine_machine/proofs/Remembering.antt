@@ -1,5 +1,5 @@
 -- The score of a source's node and that of the source's history have the same future, whichever states and nodes leave.
-use Rattle.std.proofs.Common.{◌≡◌, ℕ, ◌+◌, ◌-◌, ◌*◌, ◌/◌, ◌<◌, ◌≤◌, Bool, true, false, nat_le, nat_lt, ◌&&◌, ◌||◌, not, cond, ◌==◌, min, List, [], ◌∷◌, filter, map, refl, ap, ◌∙◌, sym, arith}
+use Rattle.std.proofs.Common.{◌≡◌, ℕ, ◌+◌, ◌-◌, ◌*◌, ◌/◌, ◌<◌, ◌≤◌, Bool, true, false, nat_le, nat_lt, ◌&&◌, ◌||◌, not, cond, ◌==◌, ◌⊎◌, inl, inr, min, List, [], ◌∷◌, filter, map, refl, ap, ◌∙◌, sym, arith}
 use Rattle.std.specs.List.{AllByRecursion}
 use Rattle.std.proofs.lemmas.Bool.{false≢true}
 use Rattle.std.proofs.lemmas.Bool.Decides.{nat_tests}
@@ -10,8 +10,8 @@ use Rattle.pfs_conf_values.specs.Configs.{Conf}
 use Rattle.pfs_engine_machine.proofs.Counts.{any-map}
 use Rattle.pfs_engine_machine.specs.Kept.{own_scope}
 use Rattle.pfs_store_contract.specs.Counts.{has_node, is_node, node_states, same_scope}
-use Rattle.pfs_store_contract.specs.Leaving.{node_after_leaving}
-use Rattle.pfs_store_contract.specs.Purging.{is_among, is_over, node_retention, node_stays}
+use Rattle.pfs_store_contract.specs.Leaving.{node_after_leaving, node_retention}
+use Rattle.pfs_store_contract.specs.Purging.{is_among, is_over, node_stays}
 use Rattle.pfs_store_contract.specs.declared.records.Node.{Node}
 use Rattle.pfs_store_contract.specs.declared.records.NodeScope.{NodeScope}
 use Rattle.pfs_store_contract.specs.declared.records.State.{State}
@@ -52,7 +52,7 @@ over-agrees seconds now x h t later =
 pub record Knows (seconds now : ℕ) (history : Score) (count : ℕ) (n : Node) : Type 0 where
   pub agrees : Agrees seconds now n.score history
   pub last : n.score.last ≤ now
-  pub idle : count ≡ 0 → n.score.last ≤ n.idle
+  pub over : count ≡ 0 → (n.score ≡ zero_score) ⊎ (n.score.last + seconds ≤ n.expires)
 
 -- a node of this rule and source is one of which that is known
 abbrev pub IsKnown : ℕ → Addr → ℕ → ℕ → Score → ℕ → Node → Type 0
@@ -68,7 +68,7 @@ knows-later : (seconds now later : ℕ) (history : Score) (count : ℕ) (n : Nod
 knows-later seconds now later history count n h k = record {
   agrees = λ t g. k.agrees t (omega (arith, h, g));
   last = omega (arith, h, k.last);
-  idle = k.idle;
+  over = k.over;
 }
 
 pub remembers-later : (rule : ℕ) (source : Addr) (seconds now later : ℕ) (history : Score) (count : ℕ) (nodes : List Node) → now ≤ later
@@ -98,41 +98,43 @@ node-idled : (conf : Conf) (before after : List State) (now : ℕ) (scope : Node
 node-idled conf before after now scope source n =
     go (nat_lt 0 (node_states conf n.scope n.source before) && (node_states conf n.scope n.source after == 0))
   where
-    go : (b : Bool) → is_node scope source (cond b (record n { idle = now }) n) ≡ is_node scope source n
+    go : (b : Bool) → is_node scope source (cond b (record n { expires = now + node_retention conf n.scope }) n) ≡ is_node scope source n
     go true = refl
     go false = refl
 
 knows-idled : (conf : Conf) (before after : List State) (rule : ℕ) (source : Addr) (seconds now : ℕ) (history : Score) (n : Node)
-    → is_node (own_scope rule) source n ≡ true → Knows seconds now history (node_states conf (own_scope rule) source before) n
+    → seconds ≤ node_retention conf (own_scope rule) → is_node (own_scope rule) source n ≡ true → Knows seconds now history (node_states conf (own_scope rule) source before) n
     → Knows seconds now history (node_states conf (own_scope rule) source after) (node_after_leaving conf before after now n)
-knows-idled conf before after rule source seconds now history n e k =
+knows-idled conf before after rule source seconds now history n long e k =
     go (nat_lt 0 (node_states conf n.scope n.source before) && (node_states conf n.scope n.source after == 0)) refl
   where
     none : (x y : ℕ) → (nat_lt 0 x && (y == 0)) ≡ false → y ≡ 0 → x ≡ 0
     none x y f g = grind (arith, nat_tests)
 
     go : (b : Bool) → (nat_lt 0 (node_states conf n.scope n.source before) && (node_states conf n.scope n.source after == 0)) ≡ b
-        → Knows seconds now history (node_states conf (own_scope rule) source after) (cond b (record n { idle = now }) n)
-    go true f = record { agrees = k.agrees; last = k.last; idle = λ z. k.last }
+        → Knows seconds now history (node_states conf (own_scope rule) source after) (cond b (record n { expires = now + node_retention conf n.scope }) n)
+    go true f =
+        let kept = ap (node_retention conf) (scope-of-node (own_scope rule) source n e) in
+        record { agrees = k.agrees; last = k.last; over = λ z. inr (omega (arith, k.last, kept, long)) }
     go false f = record {
       agrees = k.agrees;
       last = k.last;
-      idle = λ z. k.idle (sym (count-of-node conf (own_scope rule) source n before e)
+      over = λ z. k.over (sym (count-of-node conf (own_scope rule) source n before e)
           ∙ none (node_states conf n.scope n.source before) (node_states conf n.scope n.source after) f (count-of-node conf (own_scope rule) source n after e ∙ z));
     }
 
 -- only fewer states are of a node
 pub remembers-left : (conf : Conf) (before after : List State) (rule : ℕ) (source : Addr) (seconds now : ℕ) (history : Score) (nodes : List Node)
-    → node_states conf (own_scope rule) source after ≤ node_states conf (own_scope rule) source before
+    → seconds ≤ node_retention conf (own_scope rule) → node_states conf (own_scope rule) source after ≤ node_states conf (own_scope rule) source before
     → Remembers rule source seconds now history (node_states conf (own_scope rule) source before) nodes
     → Remembers rule source seconds now history (node_states conf (own_scope rule) source after) (map (node_after_leaving conf before after now) nodes)
-remembers-left conf before after rule source seconds now history nodes fewer r =
+remembers-left conf before after rule source seconds now history nodes long fewer r =
     let same = any-map (is_node (own_scope rule) source) (node_after_leaving conf before after now) (node-idled conf before after now (own_scope rule) source) nodes in
     record {
       nodes = each-map (IsKnown rule source seconds now history (node_states conf (own_scope rule) source before))
           (IsKnown rule source seconds now history (node_states conf (own_scope rule) source after)) (node_after_leaving conf before after now)
           (λ n f e. let g : is_node (own_scope rule) source n ≡ true = sym (node-idled conf before after now (own_scope rule) source n) ∙ e in
-          knows-idled conf before after rule source seconds now history n g (f g)) nodes r.nodes;
+          knows-idled conf before after rule source seconds now history n long g (f g)) nodes r.nodes;
       absent = λ e. r.absent (sym same ∙ e);
       noded = λ some. same ∙ r.noded (omega (arith, some, fewer));
     }
@@ -145,18 +147,19 @@ IsLost conf rule source seconds now history states =
     (node_states conf (own_scope rule) source states ≡ 0) × Agrees seconds now zero_score history
 
 over-at : (conf : Conf) (rule : ℕ) (source : Addr) (seconds now : ℕ) (history : Score) (states : List State) (n : Node)
-    → seconds ≤ node_retention conf (own_scope rule) → is_node (own_scope rule) source n ≡ true
+    → is_node (own_scope rule) source n ≡ true
     → Knows seconds now history (node_states conf (own_scope rule) source states) n → is_over conf states now n ≡ true
     → IsLost conf rule source seconds now history states
-over-at conf rule source seconds now history states n long e k over =
-    let parts = both (node_states conf n.scope n.source states == 0) (nat_le (n.idle + node_retention conf n.scope) now) over in
-    let none : node_states conf n.scope n.source states ≡ 0 = zero_is (node_states conf n.scope n.source states) parts.0 in
-    let count : node_states conf (own_scope rule) source states ≡ 0 = sym (count-of-node conf (own_scope rule) source n states e) ∙ none in
-    let idle : n.idle + node_retention conf n.scope ≤ now = within (n.idle + node_retention conf n.scope) now parts.1 in
-    let kept = ap (node_retention conf) (scope-of-node (own_scope rule) source n e) in
-    let last = k.idle count in
-    (count, λ t later. sym (over-agrees seconds now n.score (omega (arith, idle, kept, last, long)) t later) ∙ k.agrees t later)
+over-at conf rule source seconds now history states n e k over =
+    let parts = both (node_states conf n.scope n.source states == 0) (nat_le n.expires now) over in
+    let count : node_states conf (own_scope rule) source states ≡ 0 =
+    sym (count-of-node conf (own_scope rule) source n states e) ∙ zero_is (node_states conf n.scope n.source states) parts.0 in
+    (count, λ t later. sym (none (within n.expires now parts.1) (k.over count) t later) ∙ k.agrees t later)
   where
+    none : n.expires ≤ now → (n.score ≡ zero_score) ⊎ (n.score.last + seconds ≤ n.expires) → Agrees seconds now n.score zero_score
+    none late (inl zero) t later = ap (λ (x : Score). score_after seconds x t) zero
+    none late (inr over) t later = over-agrees seconds now n.score (omega (arith, late, over)) t later
+
     zero_is : (x : ℕ) → (x == 0) ≡ true → x ≡ 0
     zero_is x f = grind (arith, nat_tests)
 
@@ -164,14 +167,13 @@ over-at conf rule source seconds now history states n long e k over =
     within x y f = grind (arith, nat_tests)
 
 -- where the last of the nodes leaves
-lost : (conf : Conf) (rule : ℕ) (source : Addr) (seconds now : ℕ) (history : Score) (states : List State) (examined : List ℕ)
-    → seconds ≤ node_retention conf (own_scope rule) → (ns : List Node)
+lost : (conf : Conf) (rule : ℕ) (source : Addr) (seconds now : ℕ) (history : Score) (states : List State) (examined : List ℕ) (ns : List Node)
     → AllByRecursion (IsKnown rule source seconds now history (node_states conf (own_scope rule) source states)) ns
     → has_node (own_scope rule) source ns ≡ true → has_node (own_scope rule) source (filter (node_stays conf states now examined) ns) ≡ false
     → IsLost conf rule source seconds now history states
-lost conf rule source seconds now history states examined long [] all has gone = absurd (false≢true has)
-lost conf rule source seconds now history states examined long (n ∷ ns) all has gone =
-    go (is_node (own_scope rule) source n) refl (node_stays conf states now examined n) refl has gone (lost conf rule source seconds now history states examined long ns all.1)
+lost conf rule source seconds now history states examined [] all has gone = absurd (false≢true has)
+lost conf rule source seconds now history states examined (n ∷ ns) all has gone =
+    go (is_node (own_scope rule) source n) refl (node_stays conf states now examined n) refl has gone (lost conf rule source seconds now history states examined ns all.1)
   where
     leaves : (a b : Bool) → not (a && b) ≡ false → b ≡ true
     leaves true true f = refl
@@ -187,14 +189,14 @@ lost conf rule source seconds now history states examined long (n ∷ ns) all ha
         → IsLost conf rule source seconds now history states
     go true e true f h g i = absurd (false≢true (sym g ∙ rw e refl))
     go true e false f h g i =
-        over-at conf rule source seconds now history states n long e (all.0 e) (leaves (is_among examined n.number) (is_over conf states now n) f)
+        over-at conf rule source seconds now history states n e (all.0 e) (leaves (is_among examined n.number) (is_over conf states now n) f)
     go false e true f h g i = i h (rw e at g)
     go false e false f h g i = i h g
 
 pub remembers-purged : (conf : Conf) (rule : ℕ) (source : Addr) (seconds now : ℕ) (history : Score) (states : List State) (examined : List ℕ) (nodes : List Node)
-    → seconds ≤ node_retention conf (own_scope rule) → Remembers rule source seconds now history (node_states conf (own_scope rule) source states) nodes
+    → Remembers rule source seconds now history (node_states conf (own_scope rule) source states) nodes
     → Remembers rule source seconds now history (node_states conf (own_scope rule) source states) (filter (node_stays conf states now examined) nodes)
-remembers-purged conf rule source seconds now history states examined nodes long r = record {
+remembers-purged conf rule source seconds now history states examined nodes r = record {
   nodes = each-filter (IsKnown rule source seconds now history (node_states conf (own_scope rule) source states)) (node_stays conf states now examined) nodes r.nodes;
   absent = λ e. without (has_node (own_scope rule) source nodes) refl e;
   noded = λ some. with (has_node (own_scope rule) source (filter (node_stays conf states now examined) nodes)) refl some;
@@ -203,9 +205,9 @@ remembers-purged conf rule source seconds now history states examined nodes long
     without : (b : Bool) → has_node (own_scope rule) source nodes ≡ b → has_node (own_scope rule) source (filter (node_stays conf states now examined) nodes) ≡ false
         → Agrees seconds now zero_score history
     without false h e = r.absent h
-    without true h e = (lost conf rule source seconds now history states examined long nodes r.nodes h e).1
+    without true h e = (lost conf rule source seconds now history states examined nodes r.nodes h e).1
 
     with : (b : Bool) → has_node (own_scope rule) source (filter (node_stays conf states now examined) nodes) ≡ b
         → 0 < node_states conf (own_scope rule) source states → b ≡ true
     with true e some = refl
-    with false e some = absurd (omega (arith, some, (lost conf rule source seconds now history states examined long nodes r.nodes (r.noded some) e).0))
+    with false e some = absurd (omega (arith, some, (lost conf rule source seconds now history states examined nodes r.nodes (r.noded some) e).0))

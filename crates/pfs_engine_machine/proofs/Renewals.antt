@@ -19,18 +19,22 @@ use Rattle.pfs_engine_machine.specs.Refusals.{is_tcp}
 pub is_done-same : (ph : StatePhase) (forward : Bool) (flags : Flags) → completes ph forward flags ≡ false
     → is_done (phase_after ph forward flags) ≡ is_done ph
 is_done-same (phase.Tcp p) forward flags e = ap (λ b. p.complete || b) e ∙ or-false p.complete
+is_done-same (phase.FullTcp p) forward flags e = ap (λ b. p.complete || b) e ∙ or-false p.complete
 is_done-same (phase.Udp p) forward flags e = refl
 is_done-same (phase.Other p) forward flags e = refl
 
 pub IsPhaseOf-after : (protocol : Proto) (ph : StatePhase) (forward : Bool) (flags : Flags) → IsPhaseOf protocol ph
     → IsPhaseOf protocol (phase_after ph forward flags)
 IsPhaseOf-after proto.Tcp (phase.Tcp p) forward flags h = tt
+IsPhaseOf-after proto.Tcp (phase.FullTcp p) forward flags h = tt
 IsPhaseOf-after proto.Tcp (phase.Udp p) forward flags h = h
 IsPhaseOf-after proto.Tcp (phase.Other p) forward flags h = h
 IsPhaseOf-after proto.Udp (phase.Tcp p) forward flags h = h
+IsPhaseOf-after proto.Udp (phase.FullTcp p) forward flags h = h
 IsPhaseOf-after proto.Udp (phase.Udp p) forward flags h = tt
 IsPhaseOf-after proto.Udp (phase.Other p) forward flags h = tt
 IsPhaseOf-after (proto.Other n) (phase.Tcp p) forward flags h = h
+IsPhaseOf-after (proto.Other n) (phase.FullTcp p) forward flags h = h
 IsPhaseOf-after (proto.Other n) (phase.Udp p) forward flags h = tt
 IsPhaseOf-after (proto.Other n) (phase.Other p) forward flags h = tt
 
@@ -39,9 +43,11 @@ pub is_tcp-completes : (protocol : Proto) (ph : StatePhase) (forward : Bool) (fl
     → completes ph forward flags ≡ true → is_tcp protocol ≡ true
 is_tcp-completes proto.Tcp ph forward flags h e = refl
 is_tcp-completes proto.Udp (phase.Tcp p) forward flags h e = absurd h
+is_tcp-completes proto.Udp (phase.FullTcp p) forward flags h e = absurd h
 is_tcp-completes proto.Udp (phase.Udp p) forward flags h e = cc
 is_tcp-completes proto.Udp (phase.Other p) forward flags h e = cc
 is_tcp-completes (proto.Other n) (phase.Tcp p) forward flags h e = absurd h
+is_tcp-completes (proto.Other n) (phase.FullTcp p) forward flags h e = absurd h
 is_tcp-completes (proto.Other n) (phase.Udp p) forward flags h e = cc
 is_tcp-completes (proto.Other n) (phase.Other p) forward flags h e = cc
 
@@ -51,6 +57,7 @@ is_tcp-completes (proto.Other n) (phase.Other p) forward flags h e = cc
 pub record IsSameState (before after : State) : Type 0 where
   pub number : after.number ≡ before.number
   pub key : after.key ≡ before.key
+  pub dir : after.dir ≡ before.dir
   pub source : after.source ≡ before.source
   pub rule : after.rule ≡ before.rule
 
@@ -58,8 +65,8 @@ pub renewed-same : (number : ℕ) (p : PacketView) (now : ℕ) (s : State) → I
 renewed-same number p now s = go (s.number == number)
   where
     go : (b : Bool) → IsSameState s (if b then state_after_packet p now s else s)
-    go true = record { number = refl; key = refl; source = refl; rule = refl }
-    go false = record { number = refl; key = refl; source = refl; rule = refl }
+    go true = record { number = refl; key = refl; dir = refl; source = refl; rule = refl }
+    go false = record { number = refl; key = refl; dir = refl; source = refl; rule = refl }
 
 pub renewed-phase : (number : ℕ) (p : PacketView) (now : ℕ) (s : State) → IsPhaseOf s.key.proto s.phase
     → IsPhaseOf (numbered_state_after number p now s).key.proto (numbered_state_after number p now s).phase

@@ -8,23 +8,21 @@ use Rattle.pfs_addr_values.specs.declared.addresses.Addr.{Addr}
 use Rattle.pfs_conf_values.specs.Configs.{Conf, limit_of, options_of}
 use Rattle.pfs_conf_values.specs.declared.actions.Rate.{Rate}
 use Rattle.pfs_conf_values.specs.declared.limits.LimitName.TheVariants as limit_name
-use Rattle.pfs_store_contract.proofs.LimitLaws.{met_in_turn}
-use Rattle.pfs_store_contract.specs.Admission.{world_after_admission, new_node, new_state, nodes_with}
+use Rattle.pfs_store_contract.specs.Admission.{world_after_admission, world_after_refusal, new_node, new_state, nodes_with}
 use Rattle.pfs_store_contract.specs.Calls.{packet_limit}
-use Rattle.pfs_store_contract.specs.SourceLimits.{first_of, held_node_limit, new_node_limit, source_limit}
-use Rattle.pfs_store_contract.specs.Counts.{has_node, node_scope_of, reaches_maximum, rule_states, scope_nodes}
+use Rattle.pfs_store_contract.specs.Counts.{has_node, node_scope_of}
 use Rattle.pfs_store_contract.specs.Leaving.{node_after_leaving, world_with_stay, world_without}
 use Rattle.pfs_store_contract.specs.Purging.{is_among, node_numbers, node_round, node_share, node_slice, node_stays, round, state_numbers, state_round, state_share, state_slice, stays}
 use Rattle.pfs_store_contract.specs.Touching.{completes_at, nodes_scored, nodes_touched, numbered_state_after, node_after_handshake, world_after_touch}
 use Rattle.pfs_store_contract.specs.Worlds.{World, empty_world, holds_number}
 use Rattle.pfs_store_contract.specs.declared.records.Limit.{Limit}
-use Rattle.pfs_store_contract.specs.declared.records.Limit.TheVariants as limit
 use Rattle.pfs_store_contract.specs.declared.records.Node.{Node}
 use Rattle.pfs_store_contract.specs.declared.records.NodeScope.{NodeScope}
 use Rattle.pfs_store_contract.specs.declared.records.State.{State}
 use Rattle.pfs_engine_machine.specs.Machine.{Held}
 use Rattle.pfs_engine_machine.proofs.PacketChanges.{answered_keeps}
 use Rattle.pfs_engine_machine.proofs.HeldNumbers.{among-same, made-more, numbers-idled, numbers-renewed, numbers-touched, was}
+use Rattle.pfs_engine_machine.proofs.Limits.{meets_none, nodes_room, refused_has}
 use Rattle.pfs_engine_machine.proofs.Rounds.{length-filter-le}
 use Rattle.pfs_engine_machine.specs.Acts.{RunAct, Arrive, Change, Purge, act_done, acts_done}
 
@@ -44,42 +42,13 @@ pub record IsSmall (conf : Conf) (w : World) : Type 0 where
 
 -- ---- one more
 
-none_of : (a b : Option Limit) → first_of a b ≡ None → (a ≡ None) × (b ≡ None)
-none_of None b e = (refl, e)
-none_of (Some l) b e = cc
-
-room : (most count : ℕ) (l : Limit) → cond (nat_le most count) (Some l) None ≡ None → count + 1 ≤ most
-room most count l e = go (nat_le most count) refl e
-  where
-    go : (b : Bool) → nat_le most count ≡ b → cond b (Some l) None ≡ None → count + 1 ≤ most
-    go true f k = cc
-    go false f k = grind (arith, nat_tests)
-
-later_room : (first : Bool) (most count : ℕ) (k l : Limit) → cond first (Some k) (cond (nat_le most count) (Some l) None) ≡ None → count + 1 ≤ most
-later_room true most count k l e = cc
-later_room false most count k l e = room most count l e
-
-nodes-admitted : (conf : Conf) (w : World) (rule : ℕ) (source : Addr) (o : Option NodeScope) → source_limit conf w (options_of conf rule) source o ≡ None
-    → length w.nodes ≤ node_limit conf → length (nodes_with w.nodes (w.made + 1) source o) ≤ node_limit conf
-nodes-admitted conf w rule source None e h = h
-nodes-admitted conf w rule source (Some scope) e h = go (has_node scope source w.nodes) e
+made-admitted : (nodes : List Node) (made now : ℕ) (source : Addr) (o : Option NodeScope) → ((n : ℕ) → is_among (node_numbers nodes) n ≡ true → n ≤ made)
+    → (n : ℕ) → is_among (node_numbers (nodes_with nodes (made + 1) source now o)) n ≡ true → n ≤ made + 1
+made-admitted nodes made now source None h n k = omega (arith, h n k)
+made-admitted nodes made now source (Some scope) h n k = go (has_node scope source nodes) k
   where
     new : Node
-    new = new_node (w.made + 1) scope source
-
-    go : (b : Bool) → cond b (held_node_limit conf w (options_of conf rule) scope source) (new_node_limit conf w (options_of conf rule) scope) ≡ None
-        → length (cond b w.nodes (w.nodes ++ new ∷ [])) ≤ node_limit conf
-    go true k = h
-    go false k =
-        omega (arith, length-append w.nodes (new ∷ []), later_room (reaches_maximum (options_of conf rule).max_src_nodes (scope_nodes scope w.nodes)) (node_limit conf) (length w.nodes) limit.MaxSrcNodes limit.SrcNodes k)
-
-made-admitted : (nodes : List Node) (made : ℕ) (source : Addr) (o : Option NodeScope) → ((n : ℕ) → is_among (node_numbers nodes) n ≡ true → n ≤ made)
-    → (n : ℕ) → is_among (node_numbers (nodes_with nodes (made + 1) source o)) n ≡ true → n ≤ made + 1
-made-admitted nodes made source None h n k = omega (arith, h n k)
-made-admitted nodes made source (Some scope) h n k = go (has_node scope source nodes) k
-  where
-    new : Node
-    new = new_node (made + 1) scope source
+    new = new_node (made + 1) scope source now
 
     go : (b : Bool) → is_among (node_numbers (cond b nodes (nodes ++ new ∷ []))) n ≡ true → n ≤ made + 1
     go true e = omega (arith, h n e)
@@ -87,17 +56,27 @@ made-admitted nodes made source (Some scope) h n k = go (has_node scope source n
 
 small-admitted : (conf : Conf) (w : World) (p : PacketView) (rule now : ℕ) → packet_limit conf w p rule ≡ None → IsSmall conf w → IsSmall conf (world_after_admission conf w p rule now)
 small-admitted conf w p rule now e k =
-    let new : State = new_state (w.made + 1) p rule now in
-    let a = none_of (cond (reaches_maximum (options_of conf rule).max (rule_states rule w.states)) (Some limit.Max) None) _ (sym (met_in_turn conf w rule p.source.addr) ∙ e) in
-    let b = none_of (source_limit conf w (options_of conf rule) p.source.addr (node_scope_of conf rule)) (cond (nat_le (state_limit conf) (length w.states)) (Some limit.States) None) a.1 in
+    let new : State = new_state conf (w.made + 1) p rule now in
+    let free = meets_none conf w rule p.source.addr e in
     record {
-      states = omega (arith, length-append w.states (new ∷ []), room (state_limit conf) (length w.states) limit.States b.1);
-      nodes = nodes-admitted conf w rule p.source.addr (node_scope_of conf rule) b.0 k.nodes;
+      states = omega (arith, length-append w.states (new ∷ []), free.room);
+      nodes = nodes_room conf w (options_of conf rule) p.source.addr (w.made + 1) now (node_scope_of conf rule) free.sources k.nodes;
       pending_states = k.pending_states;
       pending_nodes = k.pending_nodes;
       state_made = made-more (λ (s : State). s.number) w.made w.states new refl k.state_made;
-      node_made = made-admitted w.nodes w.made p.source.addr (node_scope_of conf rule) k.node_made;
+      node_made = made-admitted w.nodes w.made now p.source.addr (node_scope_of conf rule) k.node_made;
     }
+
+small-refused : (conf : Conf) (w : World) (p : PacketView) (rule now : ℕ) (l : Limit) → packet_limit conf w p rule ≡ Some l → IsSmall conf w
+    → IsSmall conf (world_after_refusal conf w p.source.addr rule now l)
+small-refused conf w p rule now l e k = refused_has conf w rule p.source.addr now l (IsSmall conf) e k (λ free. record {
+  states = k.states;
+  nodes = nodes_room conf w (options_of conf rule) p.source.addr (w.made + 1) now (node_scope_of conf rule) free k.nodes;
+  pending_states = k.pending_states;
+  pending_nodes = k.pending_nodes;
+  state_made = λ n h. omega (arith, k.state_made n h);
+  node_made = made-admitted w.nodes w.made now p.source.addr (node_scope_of conf rule) k.node_made;
+})
 
 -- ---- as many
 
@@ -164,7 +143,7 @@ small-nodes conf w s k =
 pub small-done : (conf : Conf) (m : Held) (a : RunAct) → IsSmall conf m.world → IsSmall conf (act_done conf m a).world
 small-done conf m (Purge s) k = small-nodes conf (state_slice conf m.world s) s (small-states conf m.world s k)
 small-done conf m (Arrive now p) k =
-    answered_keeps conf (IsSmall conf) (record { touches = small-touched conf; kills = small-without conf; admits = small-admitted conf }) m p now k
+    answered_keeps conf (IsSmall conf) (record { touches = small-touched conf; kills = small-without conf; admits = small-admitted conf; refuses = small-refused conf }) m p now k
 small-done conf m (Change first now table done) k = k
 
 pub small-done_all : (conf : Conf) (m : Held) (acts : List RunAct) → IsSmall conf m.world → IsSmall conf (acts_done conf m acts).world

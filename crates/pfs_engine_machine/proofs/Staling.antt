@@ -20,6 +20,7 @@ use Rattle.pfs_store_contract.specs.declared.records.State.{State}
 use Rattle.pfs_engine_machine.specs.Machine.{Held, start}
 use Rattle.pfs_engine_machine.specs.declared.events.Event.{Event}
 use Rattle.pfs_engine_machine.proofs.PacketChanges.{IsKeptByPackets, answered_keeps}
+use Rattle.pfs_engine_machine.proofs.Limits.{refused_has}
 use Rattle.pfs_engine_machine.proofs.Lists.{each-of}
 use Rattle.pfs_engine_machine.proofs.HeldNumbers.{any-number, gone, numbers-idled, numbers-renewed, numbers-touched, old, still_gone}
 use Rattle.pfs_engine_machine.proofs.Rounds.{IsDue, due-end, due-filter, due-slice, due-start, share-enough}
@@ -99,8 +100,10 @@ state-packets conf k n = record {
   kills = λ w stays now h. record { made = h.made; fate = fate-kill (state_share conf) (interval_of conf) k n stays w.states w.pending_states h.fate };
   admits = λ w p rule now none h. record {
     made = omega (arith, h.made);
-    fate = fate-push (λ (s : State). s.number) (state_share conf) (interval_of conf) k n w.states (new_state (w.made + 1) p rule now) w.pending_states (omega (arith, h.made)) h.fate;
+    fate = fate-push (λ (s : State). s.number) (state_share conf) (interval_of conf) k n w.states (new_state conf (w.made + 1) p rule now) w.pending_states (omega (arith, h.made)) h.fate;
   };
+  refuses = λ w p rule now l met h.
+      refused_has conf w rule p.source.addr now l (StateAwaits conf k n) met h (λ free. record { made = omega (arith, h.made); fate = h.fate });
 }
 
 state-purged : (conf : Conf) (k n : ℕ) (w : World) (s : ℕ) → 1 ≤ interval_of conf → IsSmall conf w
@@ -166,15 +169,15 @@ node-left conf k n w states pending now h = record {
   fate = fate-same (node_share conf) (interval_of conf) k n _ _ w.pending_nodes (numbers-idled conf w.states states now w.nodes) h.fate;
 }
 
-node-admitted : (conf : Conf) (k n made : ℕ) (nodes : List Node) (pending : List ℕ) (source : Addr) (o : Option NodeScope) → n ≤ made
+node-admitted : (conf : Conf) (k n made now : ℕ) (nodes : List Node) (pending : List ℕ) (source : Addr) (o : Option NodeScope) → n ≤ made
     → Fate (node_share conf) (interval_of conf) k n (node_numbers nodes) pending
-    → Fate (node_share conf) (interval_of conf) k n (node_numbers (nodes_with nodes (made + 1) source o)) pending
-node-admitted conf k n made nodes pending source None le h = h
-node-admitted conf k n made nodes pending source (Some scope) le h = go (has_node scope source nodes)
+    → Fate (node_share conf) (interval_of conf) k n (node_numbers (nodes_with nodes (made + 1) source now o)) pending
+node-admitted conf k n made now nodes pending source None le h = h
+node-admitted conf k n made now nodes pending source (Some scope) le h = go (has_node scope source nodes)
   where
-    go : (b : Bool) → Fate (node_share conf) (interval_of conf) k n (node_numbers (cond b nodes (nodes ++ new_node (made + 1) scope source ∷ []))) pending
+    go : (b : Bool) → Fate (node_share conf) (interval_of conf) k n (node_numbers (cond b nodes (nodes ++ new_node (made + 1) scope source now ∷ []))) pending
     go true = h
-    go false = fate-push (λ (d : Node). d.number) (node_share conf) (interval_of conf) k n nodes (new_node (made + 1) scope source) pending (omega (arith, le)) h
+    go false = fate-push (λ (d : Node). d.number) (node_share conf) (interval_of conf) k n nodes (new_node (made + 1) scope source now) pending (omega (arith, le)) h
 
 node-packets : (conf : Conf) (k n : ℕ) → IsKeptByPackets conf (NodeAwaits conf k n)
 node-packets conf k n = record {
@@ -185,8 +188,12 @@ node-packets conf k n = record {
   kills = λ w stays now h. node-left conf k n w (filter stays w.states) (filter (holds_number (filter stays w.states)) w.pending_states) now h;
   admits = λ w p rule now none h. record {
     made = omega (arith, h.made);
-    fate = node-admitted conf k n w.made w.nodes w.pending_nodes p.source.addr (node_scope_of conf rule) h.made h.fate;
+    fate = node-admitted conf k n w.made now w.nodes w.pending_nodes p.source.addr (node_scope_of conf rule) h.made h.fate;
   };
+  refuses = λ w p rule now l met h. refused_has conf w rule p.source.addr now l (NodeAwaits conf k n) met h (λ free. record {
+    made = omega (arith, h.made);
+    fate = node-admitted conf k n w.made now w.nodes w.pending_nodes p.source.addr (node_scope_of conf rule) h.made h.fate;
+  });
 }
 
 node-purged : (conf : Conf) (k n : ℕ) (w : World) (s : ℕ) → 1 ≤ interval_of conf → IsSmall conf (state_slice conf w s) → IsOver conf n w s

@@ -10,6 +10,7 @@ use Rattle.pfs_addr_values.specs.Sameness.{same_key}
 use Rattle.pfs_conf_values.specs.Configs.{Conf}
 use Rattle.pfs_conf_values.specs.Invariants.{IsConfig}
 use Rattle.pfs_store_contract.specs.Admission.{new_state}
+use Rattle.pfs_store_contract.specs.Leaving.{world_without}
 use Rattle.pfs_store_contract.specs.Purging.{has_expired, is_among, state_numbers, state_round, state_share, stays}
 use Rattle.pfs_store_contract.specs.Touching.{numbered_state_after, state_after_packet, world_after_touch}
 use Rattle.pfs_store_contract.specs.Worlds.{World, holds_number, state_with}
@@ -17,9 +18,12 @@ use Rattle.pfs_store_contract.specs.declared.records.State.{State}
 use Rattle.pfs_engine_machine.proofs.Numbers.{Rise-filter, Rise-map}
 use Rattle.pfs_engine_machine.proofs.Renewals.{renewed-same}
 use Rattle.pfs_engine_machine.specs.Kept.{Rise}
-use Rattle.pfs_engine_machine.specs.Machine.{Held, start}
+use Rattle.pfs_engine_machine.specs.Machine.{Held, held_for, start}
 use Rattle.pfs_engine_machine.specs.declared.events.Event.{Event}
-use Rattle.pfs_engine_machine.proofs.PacketChanges.{Changes, IsKeptByPackets, answered_has, answered_keeps}
+use Rattle.pfs_engine_machine.proofs.PacketChanges.{Changes, IsKeptByPackets, answered_keeps, key_has}
+use Rattle.pfs_engine_machine.proofs.KeptAdmission.{rise_more}
+use Rattle.pfs_engine_machine.proofs.Limits.{refused_has}
+use Rattle.pfs_engine_machine.proofs.Reopening.{met_has}
 use Rattle.pfs_engine_machine.proofs.Lists.{each-filter, each-map, each-of, each-push, found}
 use Rattle.pfs_engine_machine.proofs.HeldNumbers.{any-number}
 use Rattle.pfs_engine_machine.proofs.RunActs.{done_all-append}
@@ -41,7 +45,8 @@ numbered-packets : (conf : Conf) → IsKeptByPackets conf AreNumbered
 numbered-packets conf = record {
   touches = λ w s p now h. record { rise = Rise-map (numbered_state_after s.number p now) (λ t. (renewed-same s.number p now t).number) 0 w.made w.states h.rise };
   kills = λ w stay now h. record { rise = Rise-filter stay 0 w.made w.states h.rise };
-  admits = λ w p rule now none h. record { rise = Rise-push 0 w.made w.states (new_state (w.made + 1) p rule now) refl h.rise };
+  admits = λ w p rule now none h. record { rise = Rise-push 0 w.made w.states (new_state conf (w.made + 1) p rule now) refl h.rise };
+  refuses = λ w p rule now l met h. refused_has conf w rule p.source.addr now l AreNumbered met h (λ free. record { rise = rise_more 0 w.made w.states h.rise });
 }
 
 numbered-all : (conf : Conf) (m : Held) (acts : List RunAct) → AreNumbered m.world → AreNumbered (acts_done conf m acts).world
@@ -107,15 +112,19 @@ another s w p apart h x e n =
     let f = found (λ (t : State). t.number ≡ s.number → t ≡ s) (λ (t : State). same_key t.key (key_of p)) x w.states h.same e in
     false≢true (sym apart ∙ ap (λ (t : State). same_key t.key (key_of p)) (sym (f.1 n)) ∙ f.0)
 
+before-left : (conf : Conf) (s : State) (w : World) (stay : State → Bool) (now : ℕ) → IsAsBefore s w → IsAsBefore s (world_without conf w stay now)
+before-left conf s w stay now h = record { made = h.made; same = each-filter (λ (t : State). t.number ≡ s.number → t ≡ s) stay w.states h.same }
+
 before-packet : (conf : Conf) (s : State) (w : World) (p : PacketView) (now : ℕ) → same_key s.key (key_of p) ≡ false → IsAsBefore s w → Changes conf w p now (IsAsBefore s)
 before-packet conf s w p now apart h = record {
   passes = λ fresh. h;
   admits = λ rule fresh none. record {
     made = omega (arith, h.made);
-    same = each-push (λ (t : State). t.number ≡ s.number → t ≡ s) w.states (new_state (w.made + 1) p rule now) h.same (λ n. absurd (omega (arith, n, h.made)));
+    same = each-push (λ (t : State). t.number ≡ s.number → t ≡ s) w.states (new_state conf (w.made + 1) p rule now) h.same (λ n. absurd (omega (arith, n, h.made)));
   };
+  refuses = λ rule l fresh met. refused_has conf w rule p.source.addr now l (IsAsBefore s) met h (λ free. record { made = omega (arith, h.made); same = h.same });
   touches = λ x e. before-touched conf s w x p now (another s w p apart h x e) h;
-  kills = λ v stay k. record { made = k.made; same = each-filter (λ (t : State). t.number ≡ s.number → t ≡ s) stay v.states k.same };
+  kills = λ v stay k. before-left conf s v stay now k;
 }
 
 before-done : (conf : Conf) (s : State) (m : Held) (a : RunAct) → brings s.key a ≡ false → IsAsBefore s m.world → IsAsBefore s (act_done conf m a).world
@@ -123,7 +132,9 @@ before-done conf s m (Purge now) apart h = record {
   made = h.made;
   same = each-filter (λ (t : State). t.number ≡ s.number → t ≡ s) (stays conf m.world.states now (take (state_share conf) (state_round m.world))) m.world.states h.same;
 }
-before-done conf s m (Arrive now p) apart h = answered_has conf m p now (IsAsBefore s) (before-packet conf s m.world p now apart h)
+before-done conf s m (Arrive now p) apart h =
+    let met = met_has conf m p now (IsAsBefore s) h (λ stay. before-left conf s m.world stay now h) in
+    key_has conf (held_for conf m p now) p now (IsAsBefore s) (before-packet conf s (held_for conf m p now).world p now apart met)
 before-done conf s m (Change first now table done) apart h = h
 
 before-all : (conf : Conf) (s : State) (m : Held) (acts rest : List RunAct) → AllByRecursion (λ (a : RunAct). brings s.key a ≡ false) (acts ++ rest) → IsAsBefore s m.world

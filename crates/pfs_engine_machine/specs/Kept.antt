@@ -9,7 +9,8 @@ use Rattle.pfs_eval.specs.Tables.{entry_count}
 use Rattle.pfs_conf_values.specs.Configs.{Conf, limit_of, options_of, scope_of}
 use Rattle.pfs_conf_values.specs.declared.actions.Scope.TheVariants as scope
 use Rattle.pfs_conf_values.specs.declared.limits.LimitName.TheVariants as limit_name
-use Rattle.pfs_store_contract.specs.Counts.{has_node, has_node, node_connections, node_scope_of, node_states, rule_states, scope_nodes}
+use Rattle.pfs_store_contract.specs.Counts.{has_node, node_connections, node_scope_of, node_states, rule_states, scope_nodes}
+use Rattle.pfs_store_contract.specs.Leaving.{end_on}
 use Rattle.pfs_store_contract.specs.Worlds.{IsUpToNow, World}
 use Rattle.pfs_store_contract.specs.declared.records.Node.{Node}
 use Rattle.pfs_store_contract.specs.declared.records.NodeScope.{NodeScope}
@@ -63,17 +64,22 @@ IsPhaseOf _ (phase.Tcp p) = ⊥
 IsPhaseOf _ (phase.FullTcp p) = ⊥
 IsPhaseOf _ _ = Unit {0}
 
+-- the source of a state is the end of its key on the side from which packets of its direction come
+abbrev pub HasSource : State → Type 0
+HasSource s = (end_on s.dir s.key).addr ≡ s.source
+
 -- the last moment, 0 before the first event
 abbrev pub moment_of : Option ℕ → ℕ
 moment_of last = unwrap_or last 0
 
--- the limits; numbers that rise; a node for each state of a rule that tracks sources; phases of the state's protocol; the tables
--- of the text; no handshake counted after this moment
+-- the limits; numbers that rise; a node for each state of a rule that tracks sources; phases of the state's protocol;
+-- the source in the key; the tables of the text; no handshake counted after this moment
 pub record IsKept (conf : Conf) (h : Held) (now : ℕ) : Type 0 where
   pub limits : IsWithinLimits conf h
   pub numbers : Rise 0 h.world.states h.world.made
   pub noded : All (HasNode conf h.world.nodes) h.world.states
   pub phases : All (λ (s : State). IsPhaseOf s.key.proto s.phase) h.world.states
+  pub sources : All HasSource h.world.states
   pub tables : length h.tables ≡ length conf.tables
   pub moments : IsUpToNow now h.world
 

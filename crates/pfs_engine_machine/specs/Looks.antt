@@ -30,9 +30,9 @@ AreLooksOfKill None killed of_source looks = looks ≡ 2
 AreLooksOfKill (Some flush) killed of_source looks = (1 + killed ≤ looks) × (looks ≤ 1 + of_source)
 
 -- so many first, and the others are such
-pub record AreLooksBehind (first : ℕ) (AreLooksThen : ℕ → Type 0) (looks : ℕ) : Type 0 where
-  pub first : first ≤ looks
-  pub others : AreLooksThen (looks - first)
+pub record AreLooksBehind (least : ℕ) (AreLooksThen : ℕ → Type 0) (looks : ℕ) : Type 0 where
+  pub first : least ≤ looks
+  pub others : AreLooksThen (looks - least)
 
 -- by what came of the packet: none where no state has its key, one for the state that has it
 abbrev pub AreLooks : Conf → ℕ → Outcome → ℕ → Type 0
