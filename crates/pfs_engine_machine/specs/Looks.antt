@@ -3,6 +3,7 @@ use Rattle.std.specs.Prelude.{ℕ, ◌≡◌, ◌≤◌, ◌+◌, ◌-◌, if◌
 use Rattle.pfs_addr_values.specs.Packets.{PacketView}
 use Rattle.pfs_conf_values.specs.Configs.{Conf, options_of}
 use Rattle.pfs_conf_values.specs.declared.actions.Scope.{Scope}
+use Rattle.pfs_conf_values.specs.declared.profiles.Profile.{Profile}
 use Rattle.pfs_track.specs.StatePhases.{has_closed}
 use Rattle.pfs_store_contract.specs.Calls.{source_states}
 use Rattle.pfs_store_contract.specs.Handshakes.{flush_of}
@@ -13,9 +14,9 @@ use Rattle.pfs_engine_machine.specs.declared.events.Outcome.{Outcome}
 use Rattle.pfs_engine_machine.specs.declared.events.Outcome.TheVariants as outcome
 
 -- the states that a flush takes for those of the source of a state
-abbrev pub states_beside : Conf → World → Option State → ℕ
-states_beside conf w None = 0
-states_beside conf w (Some s) = source_states conf.profile s.dir s.source w.states
+abbrev pub states_beside : Profile → World → Option State → ℕ
+states_beside profile w None = 0
+states_beside profile w (Some s) = source_states profile s.dir s.source w.states
 
 -- before it is asked of anything else: where it may begin its connection anew, one to see whether the state of its key has closed,
 -- and one more to take that out
