@@ -3,4 +3,5 @@ mod Free
 mod Fewer
 mod Keeping
 mod Killing
+mod Metering
 mod Watching

@@ -1,5 +1,5 @@
 -- What an engine is to its callers, and what it keeps.
-use Rattle.std.specs.Prelude.{ℕ, ◌≤◌, Option}
+use Rattle.std.specs.Prelude.{ℕ, ◌≤◌, ◌<◌, ◌^◌, Option}
 use Rattle.pfs_addr_values.specs.Packets.{run_limit}
 use Rattle.pfs_conf_values.specs.Configs.{Conf}
 use Rattle.pfs_conf_values.specs.Invariants.{IsConfig}
@@ -18,10 +18,11 @@ pub record View : Type 0 where
   pub taken : ℕ
   pub work : Work
 
--- the configuration keeps the load rules, and the machine what it is to keep
+-- the configuration keeps the load rules, and the machine what it is to keep; moments are those of a trace
 pub record IsWhole (conf : Conf) (machine : Machine) (taken : ℕ) : Type 0 where
   pub kept : IsKept conf machine.held (moment_of machine.last)
   pub made : machine.held.world.made ≤ taken
   pub few : taken ≤ run_limit
   pub moments : moment_of machine.first ≤ moment_of machine.last
+  pub early : moment_of machine.last < 2 ^ 32
   pub config : IsConfig conf

@@ -10,10 +10,10 @@ invariant_of-self g c =
     let inside = c.self.inside in
     let later : ForSome inside.last (λ m. m ≤ c.args.now) = λ m e. c.requires.order m (sym (ap (λ (v : View). v.machine.last) c.self.view_is) ∙ e) in
     subst (λ (n : ℕ). IsWhole c.purge_due-self-inside.new.self.config (machine_at c.purge_due-self-inside.new.self.held (Some n) (Some c.args.now)) inside.taken) (sym c.unwrap_or.ensures)
-    (whole_advanced inside.held c.purge_due-self-inside.new.self inside.first inside.last inside.taken c.args.now later c.self.invariant c.purge_due-self-inside.ensures.held)
+    (whole_advanced inside.held c.purge_due-self-inside.new.self inside.first inside.last inside.taken c.args.now later c.requires.moment c.self.invariant c.purge_due-self-inside.ensures.held)
 
 pub returns-clause-limits : goal.returns-clause-limits
 returns-clause-limits g c =
     let inside = c.self.inside in
     let later : ForSome inside.last (λ m. m ≤ c.args.now) = λ m e. c.requires.order m (sym (ap (λ (v : View). v.machine.last) c.self.view_is) ∙ e) in
-    (whole_advanced inside.held c.purge_due-self-inside.new.self inside.first inside.last inside.taken c.args.now later c.self.invariant c.purge_due-self-inside.ensures.held).kept.limits
+    (whole_advanced inside.held c.purge_due-self-inside.new.self inside.first inside.last inside.taken c.args.now later c.requires.moment c.self.invariant c.purge_due-self-inside.ensures.held).kept.limits

@@ -1,7 +1,9 @@
 -- Answers of Engine::packet: what an engine keeps, and its clauses `answered`, `limited` and `free`.
-use Rattle.std.proofs.Common.{◌<◌, ap, arith, sym}
+use Rattle.std.proofs.Common.{◌<◌, ℕ, ap, arith, subst, sym}
 use Rattle.pfs_addr_values.specs.Packets.{run_limit}
 use Rattle.pfs_engine_machine.specs.Kept.{moment_of}
+use Rattle.pfs_engine_machine.specs.Machine.{held_for}
+use Rattle.pfs_engine.specs.Packets.{NeedsNoneOf}
 use Rattle.pfs_engine.specs.Views.{View}
 use Rattle.pfs_engine.proofs.Free.{needs_none}
 use Rattle.pfs_engine.proofs.Keeping.{answered_by, limited, whole_packet}
@@ -27,11 +29,16 @@ returns-clause-limited g c =
     let inside = c.self.inside in
     limited inside.held c.answer-outcome.new.held c.args.self.now inside.first inside.last inside.taken _ c.unwrap_or-now.result inside.work _ c.args.packet.now c.answer-outcome.result c.self.view_is c.unwrap_or-now.ensures c.self.invariant c.answer-outcome.ensures.answered c.answer-outcome.ensures.free
 
+pub answer-outcome-requires-clause-moment : goal.answer-outcome-requires-clause-moment
+answer-outcome-requires-clause-moment g c = omega (arith, c.unwrap_or-now.ensures, c.self.invariant.early)
+
 pub returns-clause-free : goal.returns-clause-free
 returns-clause-free g c =
     let inside = c.self.inside in
+    let p = c.args.packet.now in
     let same_held = ap (λ (v : View). v.machine.held) c.self.view_is in
     let same_config = ap (λ (v : View). v.config) c.self.view_is in
     let same_last = ap (λ (v : View). v.machine.last) c.self.view_is in
     rw (sym same_config, sym same_held, sym same_last) (λ free.
-    c.answer-outcome.ensures.free (needs_none inside.held.config inside.held.held c.args.packet.now (moment_of inside.last) free))
+    c.answer-outcome.ensures.free (subst (λ (n : ℕ). NeedsNoneOf inside.held.config (held_for inside.held.config inside.held.held p n) p) (sym c.unwrap_or-now.ensures)
+    (needs_none inside.held.config (held_for inside.held.config inside.held.held p (moment_of inside.last)) p (moment_of inside.last) free)))

@@ -1,12 +1,14 @@
 -- Answers of Engine::step: memory is refused only where the packet needs it, and never at a skip (`err`).
-use Rattle.std.proofs.Common.{IsOk, OnErr, subst}
+use Rattle.std.proofs.Common.{◌≡◌, IfOk, IsOk, OnErr, subst}
 use Rattle.pfs_conf_values.specs.Configs.{Conf}
 use Rattle.pfs_engine_machine.specs.Kept.{moment_of}
 use Rattle.pfs_engine_machine.specs.Machine.{answer_to_packet}
 use Rattle.pfs_engine_machine.specs.Refusals.{IsFree}
 use Rattle.pfs_engine_machine.specs.Runs.{NeedsMemory}
 use Rattle.pfs_engine_machine.specs.declared.events.Arrival.TheVariants as arrival
+use Rattle.pfs_engine.specs.Calls.{holding, met_held}
 use Rattle.pfs_engine.proofs.Free.{refused_at, refused_in}
+use Rattle.pfs_engine.proofs.Keeping.{stepped}
 use Rattle.pfs_engine.proofs.engine.Engine.step.Goals as goal
 
 pub returns-in-Packet-clause-err : goal.returns-in-Packet-clause-err
@@ -14,15 +16,25 @@ returns-in-Packet-clause-err g c =
     let p = c.in-Packet.packet in
     let at = c.advance.new.self.machine in
     let a = c.packet.ensures in
-    refused_in c.args.self.now.config c.args.self.now.machine at c.packet.new.self.machine c.args.event.now p c.packet.result c.in-Packet.is c.advance.ensures.machine a.answered.err
-    (subst (λ (k : Conf). IsFree k p (answer_to_packet k at.held p (moment_of at.last)).0 → IsOk c.packet.result) c.advance.ensures.config a.free)
+    refused_in c.args.self.now.config c.args.self.now.machine at c.packet.new.self.machine c.args.event.now p c.packet.result c.in-Packet.is c.advance.ensures.machine
+    (subst (λ (k : Conf). OnErr c.packet.result (c.packet.new.self.machine ≡ holding at (met_held k at p))) c.advance.ensures.config a.answered.err)
+    (subst (λ (k : Conf). IsFree k (met_held k at p).world p (answer_to_packet k at.held p (moment_of at.last)).0 → IsOk c.packet.result) c.advance.ensures.config a.free)
+
+pub returns-in-Packet-clause-ok : goal.returns-in-Packet-clause-ok
+returns-in-Packet-clause-ok g c =
+    let p = c.in-Packet.packet in
+    let at = c.advance.new.self.machine in
+    let a = c.packet.ensures.answered in
+    stepped c.args.self.now.config c.args.self.now.machine at c.packet.new.self.machine c.args.event.now p c.packet.result c.in-Packet.is c.advance.ensures.machine
+    a.keeps.first a.keeps.last
+    (subst (λ (k : Conf). IfOk c.packet.result (λ o. (o, c.packet.new.self.machine.held) ≡ answer_to_packet k at.held p (moment_of at.last))) c.advance.ensures.config a.ok)
 
 pub returns-in-Table-clause-err : goal.returns-in-Table-clause-err
 returns-in-Table-clause-err g c =
     let w = arrival.Table c.in-Table.table c.in-Table.command in
     let at = c.advance.new.self.machine in
     let a = c.command.ensures in
-    refused_at c.args.self.now.config c.args.self.now.machine at c.command.new.self.machine c.args.event.now w c.command.result c.in-Table.is c.advance.ensures.machine a.err
+    refused_at c.args.self.now.config c.args.self.now.machine at c.command.new.self.machine c.args.event.now c.in-Table.table c.in-Table.command c.command.result c.in-Table.is c.advance.ensures.machine a.err
     (subst (λ (k : Conf). OnErr c.command.result (NeedsMemory k at.held (moment_of at.last) w)) c.advance.ensures.config a.needed)
 
 pub returns-in-Skip-clause-err : goal.returns-in-Skip-clause-err

@@ -1,0 +1,34 @@
+-- Answers of answer: what it meets is kept (`kept`); and what the meters show where the rules decide (`meters`).
+use Rattle.std.proofs.Common.{◌≡◌, ◌∙◌, None, IfOk, ap, subst, sym}
+use Rattle.std.specs.Prelude.{option_map}
+use Rattle.pfs_addr_values.specs.Keys.{key_of}
+use Rattle.pfs_conf_values.specs.Configs.{Conf}
+use Rattle.pfs_store_contract.specs.Calls.{state_number}
+use Rattle.pfs_store_contract.specs.Worlds.{state_with}
+use Rattle.pfs_engine_machine.specs.Kept.{IsKept}
+use Rattle.pfs_engine_machine.specs.Looks.{AreLooks}
+use Rattle.pfs_engine_machine.specs.Machine.{Held, held_for}
+use Rattle.pfs_engine_machine.specs.Visits.{AreVisits}
+use Rattle.pfs_engine_machine.proofs.Reopening.{kept_met}
+use Rattle.pfs_engine.proofs.Metering.{meters_by_rules, none_found}
+use Rattle.pfs_engine.proofs.packets.answer.Goals as goal
+
+pub take_packet_of_state-requires-clause-kept : goal.take_packet_of_state-requires-clause-kept
+take_packet_of_state-requires-clause-kept g c =
+    let was = c.args.held.now in
+    let same = c.meet.ensures.held in
+    subst (λ (k : Conf). IsKept k c.meet.new.held.held c.args.now) (sym same.config)
+    (subst (λ (h : Held). IsKept was.config h c.args.now) (sym same.held) (kept_met was.config was.held c.args.packet.now c.args.now c.requires.kept))
+
+pub returns-in-None-clause-meters : goal.returns-in-None-clause-meters
+returns-in-None-clause-meters g c =
+    let was = c.args.held.now in
+    let p = c.args.packet.now in
+    let found = held_for was.config was.held p c.args.now in
+    let same = c.meet.ensures.held in
+    let none = none_found (state_with (key_of p) c.meet.new.held.held.world) (sym c.meet.ensures.number ∙ ap (option_map _) c.in-None.is) in
+    let none_met = subst (λ (h : Held). state_with (key_of p) h.world ≡ None) same.held none in
+    let visits = subst (λ (h : Held). AreVisits was.config h p None c.by_rules.new.visits) same.held
+    (subst (λ (k : Conf). AreVisits k c.meet.new.held.held p None c.by_rules.new.visits) same.config c.by_rules.ensures.visits) in
+    let no_looks = subst (λ (k : Conf). IfOk c.by_rules.result (λ o. AreLooks k 0 o 0)) same.config c.by_rules.ensures.no_looks in
+    meters_by_rules g.S.Store.counts was.config was.held found p c.by_rules.result c.meet.new.looks c.by_rules.new.visits none_met visits c.meet.ensures.looks no_looks
