@@ -1,5 +1,5 @@
 -- A state that meets no limit keeps what every machine keeps, and so does a refusal.
-use Rattle.std.proofs.Common.{◌≡◌, ◌∙◌, ◌+◌, ◌<◌, ◌≤◌, ◌==◌, ◌&&◌, nat_le, ℕ, Bool, true, false, Option, Some, None, IfSome, List, [], ◌∷◌, ◌++◌, All, length, length-append, if◌then◌else◌, refl, ap, sym, subst, arith}
+use Rattle.std.proofs.Common.{◌≡◌, ◌∙◌, ◌+◌, ◌<◌, ◌≤◌, ◌==◌, ◌&&◌, ℕ, Bool, true, false, Option, Some, None, IfSome, List, [], ◌∷◌, ◌++◌, All, length-append, if◌then◌else◌, refl, ap, sym, subst, arith}
 use Rattle.std.proofs.lemmas.Bool.Decides.{nat_tests}
 use Rattle.std.proofs.lemmas.List.Elements.{All-push, All-weaker}
 use Rattle.pfs_addr_values.proofs.SameLaws.{same_addr_self, same_addr_true}
@@ -22,7 +22,7 @@ use Rattle.pfs_store_contract.specs.Admission.{world_after_admission, new_node, 
 use Rattle.pfs_store_contract.specs.Calls.{packet_limit}
 use Rattle.pfs_store_contract.specs.Leaving.{end_on}
 use Rattle.pfs_store_contract.specs.SourceLimits.{source_limit}
-use Rattle.pfs_store_contract.specs.Counts.{has_node, is_connection, is_node, is_of_node, is_of_rule, node_connections, node_scope_under, node_scope_of, node_states, reaches_maximum, rule_states, same_scope, scope_nodes}
+use Rattle.pfs_store_contract.specs.Counts.{has_node, is_connection, is_node, is_of_node, is_of_rule, node_connections, node_scope_under, node_scope_of, node_states, rule_states, same_scope, scope_nodes}
 use Rattle.pfs_store_contract.specs.Worlds.{World}
 use Rattle.pfs_store_contract.specs.declared.records.Limit.{Limit}
 use Rattle.pfs_store_contract.specs.declared.records.Node.{Node}

@@ -1,5 +1,5 @@
 -- The empty machine keeps what every machine keeps, and so does time that passes.
-use Rattle.std.proofs.Common.{◌≡◌, ◌∙◌, ◌<◌, ◌≤◌, ◌==◌, ◌&&◌, not, nat_le, ◌+◌, ℕ, Bool, true, Option, Some, None, List, [], ◌∷◌, All, filter, length, map, set, take, refl, arith}
+use Rattle.std.proofs.Common.{◌≡◌, ◌∙◌, ◌<◌, ◌≤◌, ◌==◌, ◌&&◌, not, nat_le, ℕ, Bool, true, Option, Some, None, List, [], ◌∷◌, All, filter, length, map, set, take, refl, arith}
 use Rattle.std.specs.Option.{ForSome}
 use Rattle.std.specs.Prelude.{slice_index_or}
 use Rattle.std.proofs.lemmas.Bool.Decides.{nat_tests}

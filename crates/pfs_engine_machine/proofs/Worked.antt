@@ -26,6 +26,7 @@ use Rattle.pfs_conf_values.specs.declared.filters.Host.TheVariants as host
 use Rattle.pfs_conf_values.specs.declared.items.Item.{Item}
 use Rattle.pfs_conf_values.specs.declared.items.RuleNo.{RuleNo}
 use Rattle.pfs_conf_values.specs.declared.items.ItemKind.TheVariants as item
+use Rattle.pfs_conf_values.specs.declared.profiles.Profile.TheVariants as profile
 use Rattle.pfs_conf_values.specs.declared.tables.TableDef.{TableDef}
 use Rattle.pfs_store_contract.specs.declared.records.Limit.{Limit}
 use Rattle.pfs_store_contract.specs.declared.records.Limit.TheVariants as limit
@@ -53,11 +54,16 @@ usual = record { closed = 90; first = 120; udp = 60; track = 0; interval = 10 }
 
 abbrev conf : ℕ → ℕ → Times → List TableDef → List Item → Conf
 conf states nodes t tables items = record {
+  profile = profile.Own;
   limits = record { states = states; src_nodes = nodes; tables = 1000; table_entries = 200000 };
   timeouts = t.first ∷ 30 ∷ 86400 ∷ 900 ∷ 45 ∷ t.closed ∷ t.udp ∷ 30 ∷ 60 ∷ 60 ∷ 30 ∷ 60 ∷ t.track ∷ t.interval ∷ 0 ∷ 0 ∷ [];
   tables = tables;
   items = items;
 }
+
+-- the same under the profile of OpenBSD 7.4
+abbrev of_openbsd : Conf → Conf
+of_openbsd c = record c { profile = profile.OpenBsd74 }
 
 abbrev rule : Bool → Filter → Action → Item
 rule quick filter does = record { depth = 0; what = item.Rule (record { quick = quick; filter = filter; action = does }) }
@@ -395,3 +401,86 @@ held_after_purges : run_of (conf 100 100 (record usual { udp = 2; interval = 1 }
     ≡ (made 0 ∷ amounts 1 0 0 ∷ amounts 0 0 0 ∷ [], (0, 0, 0))
 unfolding outcomes_of machine_after step verdict matches_item table_answer
 held_after_purges = refl
+
+-- ---- under OpenBSD's profile the node that `max` leaves is held until a slice of the nodes examines it
+
+abbrev one_state : Option ℕ → Conf
+one_state most_nodes =
+    conf 100 100 (record usual { track = 100 }) []
+    (rule false (of_proto Udp) (action.Keep (record no_options { scope = Some scope.Rule; max = Some 1; max_src_nodes = most_nodes })) ∷ [])
+
+abbrev two_sources : List Event
+two_sources = udp 0 1 1 ∷ udp 0 2 1 ∷ ask 0 ∷ ask 1 ∷ []
+
+node_left_by_max : run_of (of_openbsd (one_state None)) two_sources
+    ≡ (made 0 ∷ dropped 0 limit.Max ∷ amounts 1 2 0 ∷ amounts 1 1 0 ∷ [], (1, 1, 0))
+unfolding outcomes_of machine_after step verdict matches_item table_answer
+node_left_by_max = refl
+
+no_node_left : run_of (one_state None) two_sources ≡ (made 0 ∷ dropped 0 limit.Max ∷ amounts 1 1 0 ∷ amounts 1 1 0 ∷ [], (1, 1, 0))
+unfolding outcomes_of machine_after step verdict matches_item table_answer
+no_node_left = refl
+
+-- unless a state is made for it before
+abbrev shared_nodes : Conf
+shared_nodes =
+    conf 100 100 usual []
+    (rule false (of_proto Udp) (action.Keep (record no_options { scope = Some scope.Global; max = Some 1 }))
+    ∷ rule false (of_proto Tcp) (action.Keep (record no_options { scope = Some scope.Global }))
+    ∷ [])
+
+left_node_taken : run_of (of_openbsd shared_nodes) (udp 0 1 1 ∷ udp 0 2 1 ∷ syn 0 2 1 ∷ ask 1 ∷ [])
+    ≡ (made 0 ∷ dropped 0 limit.Max ∷ made 1 ∷ amounts 2 2 0 ∷ [], (2, 2, 0))
+unfolding outcomes_of machine_after step verdict matches_item table_answer
+left_node_taken = refl
+
+-- and `max` is asked behind the maximum of nodes
+max_asked_last : run_of (of_openbsd (one_state (Some 1))) (udp 0 1 1 ∷ udp 0 2 1 ∷ udp 0 1 2 ∷ [])
+    ≡ (made 0 ∷ dropped 0 limit.MaxSrcNodes ∷ dropped 0 limit.Max ∷ [], (1, 1, 0))
+unfolding outcomes_of machine_after step verdict matches_item table_answer
+max_asked_last = refl
+
+max_asked_first : run_of (one_state (Some 1)) (udp 0 1 1 ∷ udp 0 2 1 ∷ udp 0 1 2 ∷ [])
+    ≡ (made 0 ∷ dropped 0 limit.Max ∷ dropped 0 limit.Max ∷ [], (1, 1, 0))
+unfolding outcomes_of machine_after step verdict matches_item table_answer
+max_asked_first = refl
+
+-- ---- there a SYN of the ports of a connection that was reset begins another, which the rate counts too
+
+abbrev reset_and_again : List Event
+reset_and_again = handshake 0 1 1 ++ (reset 0 1 1 ∷ handshake 0 1 1)
+
+begun_again : run_of (of_openbsd (rated 1 4)) reset_and_again ≡ (before_again ++ outcome.Kill (number 0) exceeded.Rate None 1 ∷ [], (0, 1, 0))
+unfolding outcomes_of machine_after step verdict matches_item table_answer
+begun_again = refl
+
+not_begun_again : run_of (rated 1 4) reset_and_again
+    ≡ (made 0 ∷ of_state 0 ∷ of_state 0 ∷ of_state 0 ∷ of_state 0 ∷ of_state 0 ∷ of_state 0 ∷ [], (1, 1, 0))
+unfolding outcomes_of machine_after step verdict matches_item table_answer
+not_begun_again = refl
+
+-- ---- there a flush takes the states to the source too, whose keys have it at the end from which its packet came
+
+abbrev both_ways : Conf
+both_ways =
+    conf 100 100 usual (record { name = 98 ∷ []; is_const = false; entries = [] } ∷ [])
+    (rule false (record any_packet { proto = Some Udp }) (action.Keep no_options)
+    ∷ rule false (of_proto Tcp)
+    (action.Keep (record no_options { scope = Some scope.Rule; max_src_conn = Some 1; overload = Some (record { table = record { 0 = 0 }; flush = Some scope.Global }) }))
+    ∷ [])
+
+abbrev to_and_from : List Event
+to_and_from =
+    udp 0 1 1 ∷ comes 0 (record (from_server 1 2 (flagged false false false)) { proto = Udp }) ∷ handshake 0 1 1 ++ handshake 0 1 2
+
+abbrev flushed_global : ℕ → List Outcome
+flushed_global killed =
+    made 0 ∷ made 0 ∷ made 1 ∷ of_state 1 ∷ of_state 1 ∷ made 1 ∷ of_state 1 ∷ outcome.Kill (number 1) exceeded.Connections (Some added.New) killed ∷ []
+
+flushed_by_side : run_of (of_openbsd both_ways) to_and_from ≡ (flushed_global 4, (0, 1, 1))
+unfolding outcomes_of machine_after step verdict matches_item table_answer covers cleared_addr
+flushed_by_side = refl
+
+flushed_of_source : run_of both_ways to_and_from ≡ (flushed_global 3, (1, 1, 1))
+unfolding outcomes_of machine_after step verdict matches_item table_answer covers cleared_addr
+flushed_of_source = refl
