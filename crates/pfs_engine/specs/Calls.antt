@@ -11,10 +11,13 @@ use Rattle.pfs_store_contract.specs.Worlds.{World, state_with}
 use Rattle.pfs_store_contract.specs.declared.records.Limit.{Limit}
 use Rattle.pfs_engine_machine.specs.Kept.{IsWithinLimits, IsWithinShared, moment_of}
 use Rattle.pfs_engine_machine.specs.Looks.{AreLooks, AreLooksBehind, first_looks, states_beside}
-use Rattle.pfs_engine_machine.specs.Machine.{Held, Machine, answer_to_packet, held_for, held_refused}
+use Rattle.pfs_engine_machine.specs.Machine.{Held, Machine, answer_to_packet, due, held_for, held_refused, machine_at_moment}
 use Rattle.pfs_engine_machine.specs.Refusals.{IsDropped}
 use Rattle.pfs_engine_machine.specs.Shares.{most_nodes, most_states}
 use Rattle.pfs_engine_machine.specs.Visits.{AreVisits}
+use Rattle.pfs_engine_machine.specs.declared.events.Arrival.{Arrival}
+use Rattle.pfs_engine_machine.specs.declared.events.Arrival.TheVariants as arrival
+use Rattle.pfs_engine_machine.specs.declared.events.Event.{Event}
 use Rattle.pfs_engine_machine.specs.declared.events.Outcome.{Outcome}
 use Rattle.pfs_engine_machine.specs.declared.events.Outcome.TheVariants as outcome
 use Rattle.pfs_engine.specs.Views.{View}
@@ -110,3 +113,31 @@ pub record IsWorkOfSeconds (counts : Bool) (conf : Conf) (w : World) (seconds : 
   pub visits : work.visits ≡ 0
   pub looks : counts ≡ true → work.looks ≡ work.most_states
   pub uncounted : counts ≡ false → work.looks ≡ 0
+
+-- ---- one event
+
+-- the work of purges and, behind them, of what comes: the slices are those of the purges, the items and the looks those of the packet
+abbrev pub work_of_event : Work → Work → Work
+work_of_event purges coming =
+    record { visits = coming.visits; looks = coming.looks; slices = purges.slices; most_states = purges.most_states; most_nodes = purges.most_nodes }
+
+-- such work behind that of purges
+pub record IsWorkBehind (purges : Work) (IsWork : Work → Type 0) (work : Work) : Type 0 where
+  pub coming : Work
+  pub is : work ≡ work_of_event purges coming
+  pub of_coming : IsWork coming
+
+-- the work of a packet behind that of these seconds
+pub record IsWorkOfSecondsAnd (counts : Bool) (conf : Conf) (w : World) (seconds : List ℕ) (IsWork : Work → Type 0) (work : Work) : Type 0 where
+  pub purges : Work
+  pub of_purges : IsWorkOfSeconds counts conf w seconds purges
+  pub behind : IsWorkBehind purges IsWork work
+
+-- the work of an event: of the seconds due before it, and of a packet behind them
+abbrev pub IsWorkOfComing : {E : Type 0} → Bool → Conf → Machine → Machine → ℕ → Arrival → Result Outcome E → Work → Type 0
+IsWorkOfComing counts conf m at now (arrival.Packet p) answer work =
+    IsWorkOfSecondsAnd counts conf m.held.world (due m.last now) (IsWorkOfPacket counts conf at.held (met_held conf at p) p answer) work
+IsWorkOfComing counts conf m at now _ answer work = IsWorkOfSeconds counts conf m.held.world (due m.last now) work
+
+abbrev pub IsWorkOfEvent : {E : Type 0} → Bool → Conf → Machine → Event → Result Outcome E → Work → Type 0
+IsWorkOfEvent counts conf m e answer work = IsWorkOfComing counts conf m (machine_at_moment conf m e.time) e.time e.what answer work

@@ -10,7 +10,7 @@ ghost use Rattle.pfs_engine_machine.specs.Kept.{IsWithinLimits, moment_of};
 ghost use Rattle.pfs_engine_machine.specs.Refusals.{IsFree};
 ghost use Rattle.pfs_engine_machine.specs.Machine.{machine_at_moment, amounts_of, answer_to_command, answer_to_packet, due, entries_held, nodes_held, start, states_held, step, machine_after, outcomes_of};
 ghost use Rattle.pfs_engine_machine.specs.Runs.{MayChange, MayCome, AreAllowed, IsInOrder, IsRefusedIn, IsStopped, NeedsMemory, packets_in, packets_of};
-ghost use Rattle.pfs_engine.specs.Calls.{CountsEvent, CountsPacket, IsAnsweredBy, IsAt, IsLimited, IsWorkOfPacket, IsWorkOfSeconds, Keeps, StaysWithin, met_held};
+ghost use Rattle.pfs_engine.specs.Calls.{CountsEvent, CountsPacket, IsAnsweredBy, IsAt, IsLimited, IsWorkBehind, IsWorkOfEvent, IsWorkOfPacket, IsWorkOfSeconds, Keeps, StaysWithin, met_held};
 
 use crate::held::Held;
 use crate::packets::{Meters, answer};
@@ -124,7 +124,7 @@ impl<S: Store> Engine<S> {
         self.held.entries()
     }
 
-    /// The work of the latest `advance` or `packet`; none before the first.
+    /// The work of the latest `advance`, `packet` or `step`; none before the first.
     pub fn work(&self) -> Work
         ensures { result ≡ self.now.work }
     {
@@ -168,10 +168,25 @@ impl<S: Store> Engine<S> {
         ensures work { IsWorkOfPacket S.counts self.old.config self.old.machine.held (met_held self.old.config self.old.machine packet.now)
             packet.now result self.new.work }
     {
+        self.take(packet, Work::none())
+    }
+
+    /// Takes a packet as `packet` does, behind purges of which this was the work.
+    fn take(&mut self, packet: &Packet, purges: Work) -> Result<Outcome, NoMemory>
+        requires started { IsSome self.old.machine.last }
+        requires room { self.old.taken < run_limit }
+        ensures answered { IsAnsweredBy result packet.now self.old self.new }
+        ensures limited { IsLimited result packet.now self.old self.new }
+        ensures free { IsFree self.old.config (met_held self.old.config self.old.machine packet.now).world packet.now
+            (answer_to_packet self.old.config self.old.machine.held packet.now (moment_of self.old.machine.last)).0 → IsOk result }
+        ensures work { IsWorkBehind purges (IsWorkOfPacket S.counts self.old.config self.old.machine.held
+            (met_held self.old.config self.old.machine packet.now) packet.now result) self.new.work }
+    {
         let mut meters = Meters::new();
         let now = self.last.unwrap_or(0);
         let outcome = answer(&mut self.held, packet, now, &mut meters);
-        self.work = Work::of_packet(meters.visits.count(), meters.looks.count());
+        let work = Work::of_packet(meters.visits.count(), meters.looks.count());
+        self.work = Work::of_event(purges, work);
         self.taken = taken_after(self.taken, &outcome);
         outcome
     }
@@ -277,10 +292,12 @@ impl<S: Store> Engine<S> {
         ensures err { OnErr result (IsRefusedIn self.old.config self.old.machine event.now self.new.machine) }
         ensures keeps { IsAt event.now.time self.old self.new }
         ensures taken { CountsEvent result (packets_of event.now.what) self.old.taken self.new.taken }
+        ensures work { IsWorkOfEvent S.counts self.old.config self.old.machine event.now result self.new.work }
     {
         self.advance(event.time);
+        let purges = self.work();
         match &event.what {
-            Arrival::Packet(packet) => self.packet(packet),
+            Arrival::Packet(packet) => self.take(packet, purges),
             Arrival::Skip => Ok(Outcome::Skip),
             Arrival::Table { table, command } => self.command(*table, command),
             Arrival::Held => Ok(Outcome::Held(self.amounts())),

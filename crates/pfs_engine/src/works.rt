@@ -1,8 +1,10 @@
 //! How much work a call of the engine was.
 
 ghost use Rattle.std.specs.Prelude.{◌≡◌};
+ghost use Rattle.pfs_engine.specs.Calls.{work_of_event};
 
-/// The work of the latest `advance` or `packet` of an engine.
+/// The work of the latest `advance`, `packet` or `step` of an engine. That of a step is of the purges due; where a packet comes
+/// the slices are those of the purges, and the items and the looks those of the packet.
 #[derive(Clone, Copy, Debug, PartialEq, Eq)]
 pub struct Work {
     /// Of a packet: how many items it was compared with.
@@ -28,6 +30,17 @@ impl Work {
             slices: 0,
             most_states: 0,
             most_nodes: 0,
+        }
+    }
+
+    /// The work of a packet behind that of purges.
+    pub(crate) fn of_event(purges: Work, coming: Work) -> Work
+        ensures { result ≡ work_of_event purges coming }
+    {
+        Work {
+            visits: coming.visits,
+            looks: coming.looks,
+            ..purges
         }
     }
 

@@ -15,19 +15,19 @@ pub returns-in-Packet-clause-err : goal.returns-in-Packet-clause-err
 returns-in-Packet-clause-err g c =
     let p = c.in-Packet.packet in
     let at = c.advance.new.self.machine in
-    let a = c.packet.ensures in
-    refused_in c.args.self.now.config c.args.self.now.machine at c.packet.new.self.machine c.args.event.now p c.packet.result c.in-Packet.is c.advance.ensures.machine
-    (subst (λ (k : Conf). OnErr c.packet.result (c.packet.new.self.machine ≡ holding at (met_held k at p))) c.advance.ensures.config a.answered.err)
-    (subst (λ (k : Conf). IsFree k (met_held k at p).world p (answer_to_packet k at.held p (moment_of at.last)).0 → IsOk c.packet.result) c.advance.ensures.config a.free)
+    let a = c.take.ensures in
+    refused_in c.args.self.now.config c.args.self.now.machine at c.take.new.self.machine c.args.event.now p c.take.result c.in-Packet.is c.advance.ensures.machine
+    (subst (λ (k : Conf). OnErr c.take.result (c.take.new.self.machine ≡ holding at (met_held k at p))) c.advance.ensures.config a.answered.err)
+    (subst (λ (k : Conf). IsFree k (met_held k at p).world p (answer_to_packet k at.held p (moment_of at.last)).0 → IsOk c.take.result) c.advance.ensures.config a.free)
 
 pub returns-in-Packet-clause-ok : goal.returns-in-Packet-clause-ok
 returns-in-Packet-clause-ok g c =
     let p = c.in-Packet.packet in
     let at = c.advance.new.self.machine in
-    let a = c.packet.ensures.answered in
-    stepped c.args.self.now.config c.args.self.now.machine at c.packet.new.self.machine c.args.event.now p c.packet.result c.in-Packet.is c.advance.ensures.machine
+    let a = c.take.ensures.answered in
+    stepped c.args.self.now.config c.args.self.now.machine at c.take.new.self.machine c.args.event.now p c.take.result c.in-Packet.is c.advance.ensures.machine
     a.keeps.first a.keeps.last
-    (subst (λ (k : Conf). IfOk c.packet.result (λ o. (o, c.packet.new.self.machine.held) ≡ answer_to_packet k at.held p (moment_of at.last))) c.advance.ensures.config a.ok)
+    (subst (λ (k : Conf). IfOk c.take.result (λ o. (o, c.take.new.self.machine.held) ≡ answer_to_packet k at.held p (moment_of at.last))) c.advance.ensures.config a.ok)
 
 pub returns-in-Table-clause-err : goal.returns-in-Table-clause-err
 returns-in-Table-clause-err g c =

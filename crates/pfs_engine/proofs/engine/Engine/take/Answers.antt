@@ -1,4 +1,4 @@
--- Answers of Engine::packet: what an engine keeps, and its clauses `answered`, `limited` and `free`.
+-- Answers of Engine::take: what an engine keeps, and its clauses `answered`, `limited` and `free`.
 use Rattle.std.proofs.Common.{◌<◌, ℕ, ap, arith, subst, sym}
 use Rattle.pfs_addr_values.specs.Packets.{run_limit}
 use Rattle.pfs_engine_machine.specs.Kept.{moment_of}
@@ -7,7 +7,7 @@ use Rattle.pfs_engine.specs.Packets.{NeedsNoneOf}
 use Rattle.pfs_engine.specs.Views.{View}
 use Rattle.pfs_engine.proofs.Free.{needs_none}
 use Rattle.pfs_engine.proofs.Keeping.{answered_by, limited, whole_packet}
-use Rattle.pfs_engine.proofs.engine.Engine.packet.Goals as goal
+use Rattle.pfs_engine.proofs.engine.Engine.take.Goals as goal
 
 pub invariant_of-self : goal.invariant_of-self
 invariant_of-self g c =
