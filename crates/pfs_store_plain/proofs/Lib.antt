@@ -1,1 +1,1 @@
-mod IdleLaws
+mod RetentionLaws

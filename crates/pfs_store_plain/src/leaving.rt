@@ -1,16 +1,17 @@
 //! States leave, in lists of states and nodes.
 
-ghost use Rattle.std.specs.Prelude.{◌≡◌, ◌≤◌, ℕ, List, filter, length, map, vec_capacity};
+ghost use Rattle.std.specs.Prelude.{◌≡◌, ◌+◌, ◌≤◌, ◌^◌, ℕ, List, filter, length, map, vec_capacity};
 ghost use Rattle.pfs_store_contract.specs.Counts.{node_states};
-ghost use Rattle.pfs_store_contract.specs.Leaving.{node_after_leaving, is_flushed, world_without};
+ghost use Rattle.pfs_store_contract.specs.Leaving.{end_on, is_beside, is_flushed, node_after_leaving, node_retention, world_without};
 ghost use Rattle.pfs_store_contract.specs.Calls.{other_than, stays_unflushed};
 ghost use Rattle.pfs_store_plain.specs.Rooms.{AreScores};
 ghost use Rattle.pfs_store_contract.specs.Worlds.{holds_number, lists};
 
 use crate::counts::{OfNode, Test, count};
-use pfs_addr_values::Addr;
-use pfs_conf_values::{Config, RuleNo};
-use pfs_store_contract::{Node, State};
+use pfs_addr_values::{Addr, Dir, Endpoint, FlowKey};
+use pfs_conf_values::{Config, Profile, RuleNo};
+use pfs_store_contract::{Node, NodeScope, State};
+use pfs_store_rules::node_retention;
 
 /// All states but that of a number.
 #[derive(Clone, Copy)]
@@ -24,21 +25,46 @@ impl Test for OtherThan {
     }
 }
 
-/// The states of a source, all of them or those of one rule.
+/// The states that a flush takes for those of a source, all of them or those of one rule.
 #[derive(Clone, Copy)]
 pub(crate) struct Flushed {
+    pub profile: Profile,
+    pub dir: Dir,
     pub source: Addr,
     pub rule: Option<RuleNo>,
 }
 
 impl Test for Flushed {
-    ghost passes = { λ t s. is_flushed t.source t.rule s };
+    ghost passes = { λ t s. is_flushed t.profile t.dir t.source t.rule s };
 
     fn passes(&self, state: &State) -> bool {
         match self.rule {
-            Some(rule) => state.rule == rule && state.source == self.source,
-            None => state.source == self.source,
+            Some(rule) => state.rule == rule && self.is_beside(state),
+            None => self.is_beside(state),
         }
+    }
+}
+
+impl Flushed {
+    /// Whether a state, of whatever rule, is one of those of the source: it made it, or under the profile of OpenBSD 7.4 it is at
+    /// the end of its key from which packets of the direction come.
+    fn is_beside(&self, state: &State) -> bool
+        ensures { result ≡ is_beside self.now.profile self.now.dir self.now.source state.now }
+    {
+        match self.profile {
+            Profile::Own => state.source == self.source,
+            Profile::OpenBsd74 => end_on(self.dir, &state.key).addr == self.source,
+        }
+    }
+}
+
+/// The end of a key from which packets of a direction come.
+fn end_on(dir: Dir, key: &FlowKey) -> Endpoint
+    ensures { result ≡ end_on dir key.now }
+{
+    match dir {
+        Dir::In => key.a,
+        Dir::Out => key.b,
     }
 }
 
@@ -47,7 +73,7 @@ impl Test for Flushed {
 pub(crate) struct Unflushed(pub Flushed);
 
 impl Test for Unflushed {
-    ghost passes = { λ t s. stays_unflushed t.0.source t.0.rule s };
+    ghost passes = { λ t s. stays_unflushed t.0.profile t.0.dir t.0.source t.0.rule s };
 
     fn passes(&self, state: &State) -> bool {
         !self.0.passes(state)
@@ -63,6 +89,7 @@ pub(crate) fn leave<T: Test>(
     test: &T,
     now: u64,
 )
+    requires moment { now ≤ 2 ^ 63 }
     requires scores { AreScores nodes.old }
     ensures world { (node_numbers : List ℕ) (made : ℕ) → lists states.new.items nodes.new pending.new.items node_numbers made
         ≡ world_without config.now (lists states.old.items nodes.old pending.old.items node_numbers made) (T.passes test.now) now }
@@ -70,19 +97,20 @@ pub(crate) fn leave<T: Test>(
     ensures room { vec_capacity pending.new ≡ vec_capacity pending.old }
     ensures scores { AreScores nodes.new }
 {
-    idle(config, nodes, states, test, now);
+    release(config, nodes, states, test, now);
     keep(states, test);
     strike(pending, states);
 }
 
-/// The nodes that lose their last state when those states stay that pass a test have been idle since now.
-pub(crate) fn idle<T: Test>(
+/// The nodes that lose their last state when those states stay that pass a test are kept for their retention from now on.
+pub(crate) fn release<T: Test>(
     config: &Config,
     nodes: &mut [Node],
     before: &[State],
     test: &T,
     now: u64,
 )
+    requires moment { now ≤ 2 ^ 63 }
     requires scores { AreScores nodes.old }
     ensures nodes { nodes.new ≡ map (node_after_leaving config.now before.now (filter (T.passes test.now) before.now) now) nodes.old }
     ensures scores { AreScores nodes.new }
@@ -94,16 +122,18 @@ pub(crate) fn idle<T: Test>(
 }
 
 fn settle<T: Test>(config: &Config, nodes: &mut [Node], before: &[State], test: &T, now: u64)
+    requires moment { now ≤ 2 ^ 63 }
     requires scores { AreScores nodes.old }
     ensures nodes { nodes.new ≡ map (node_after_leaving config.now before.now (filter (T.passes test.now) before.now) now) nodes.old }
     ensures scores { AreScores nodes.new }
 {
     for node in nodes.iter_mut() {
-        *node = idled(config, *node, before, test, now);
+        *node = released(config, *node, before, test, now);
     }
 }
 
-fn idled<T: Test>(config: &Config, node: Node, before: &[State], test: &T, now: u64) -> Node
+fn released<T: Test>(config: &Config, node: Node, before: &[State], test: &T, now: u64) -> Node
+    requires moment { now ≤ 2 ^ 63 }
     ensures node { result ≡ node_after_leaving config.now before.now (filter (T.passes test.now) before.now) now node }
     ensures score { result.score ≡ node.score }
 {
@@ -113,10 +143,22 @@ fn idled<T: Test>(config: &Config, node: Node, before: &[State], test: &T, now: 
         source: node.source,
     };
     if count(before, &of_node) > 0 && count_passing(before, test, &of_node) == 0 {
-        Node { idle: now, ..node }
+        Node {
+            expires: end_of_retention(config, node.scope, now),
+            ..node
+        }
     } else {
         node
     }
+}
+
+/// The moment from which on a node may leave whose last state leaves now.
+fn end_of_retention(config: &Config, scope: NodeScope, now: u64) -> u64
+    requires { now ≤ 2 ^ 63 }
+    ensures { result ≡ now + node_retention config.now scope }
+{
+    config.keeps_load_rules();
+    now + node_retention(config, scope)
 }
 
 /// How many of the states that pass a test pass another one too.

@@ -1,9 +1,9 @@
 //! A store over plain lists.
 
-ghost use Rattle.std.specs.Prelude.{◌≡◌, ◌+◌, ◌<◌, ◌≤◌, [], ◌∷◌, ◌++◌, false, true, IfOk, IsOk, IsSome, None, OnErr, OnOk, length, vec_capacity};
+ghost use Rattle.std.specs.Prelude.{◌≡◌, ◌+◌, ◌<◌, ◌≤◌, ◌^◌, [], ◌∷◌, ◌++◌, false, true, IfOk, IsOk, IsSome, None, OnErr, OnOk, length, vec_capacity};
 ghost use Rattle.pfs_addr_values.specs.Packets.{run_limit};
 ghost use Rattle.pfs_conf_values.specs.Configs.{options_at};
-ghost use Rattle.pfs_store_contract.specs.Admission.{world_after_admission, nodes_with};
+ghost use Rattle.pfs_store_contract.specs.Admission.{leaves_node, nodes_with, world_after_admission, world_after_refusal};
 ghost use Rattle.pfs_store_contract.specs.Calls.{packet_limit};
 ghost use Rattle.pfs_store_plain.specs.Rooms.{AreScores};
 ghost use Rattle.pfs_store_contract.specs.Worlds.{empty_world};
@@ -13,7 +13,7 @@ use crate::leaving::{Flushed, OtherThan, Unflushed, holds_number, leave};
 use crate::limits::limit_met;
 use crate::purging::{slice_nodes, slice_states};
 use crate::touching::{self, state_with};
-use pfs_addr_values::{Addr, FlowKey, Meter, NoMemory, Packet};
+use pfs_addr_values::{Addr, Dir, FlowKey, Meter, NoMemory, Packet};
 use pfs_conf_values::{Config, RuleNo};
 use pfs_store_contract::{Found, Limit, Node, NodeScope, Slice, State, StateNo, Store, Touched};
 use pfs_store_rules::node_scope;
@@ -86,18 +86,54 @@ impl PlainStore {
         make_node_room(&mut self.nodes, &mut self.pending_nodes, scope)?;
         let number = self.made + 1;
         let source = packet.src();
-        add_node(&mut self.nodes, number, source, scope);
+        add_node(&mut self.nodes, number, source, now, scope);
         self.states.push_reserved(State {
             number,
             key: FlowKey::of(packet),
             dir: packet.dir(),
             source,
             rule,
-            phase: StatePhase::first(packet.proto()),
+            phase: StatePhase::first(self.config.tracks_fully(rule), packet.proto()),
             last: now,
         });
         self.made = number;
         Ok(StateNo(number))
+    }
+
+    /// What a refusal by this limit leaves: maybe a node of the source.
+    fn refuse(
+        &mut self,
+        source: Addr,
+        rule: RuleNo,
+        now: u64,
+        limit: Limit,
+    ) -> Result<(), AllocError>
+        requires room { self.old.world.made < run_limit }
+        ensures ok { OnOk result (self.new.world ≡ world_after_refusal self.old.config self.old.world source rule.0 now limit) }
+        ensures err { OnErr result (self.new.world ≡ self.old.world) }
+        ensures free { leaves_node self.old.config self.old.world source rule.0 limit ≡ false → IsOk result }
+        ensures config { self.new.config ≡ self.old.config }
+    {
+        if self.leaves_node(source, rule, limit) {
+            let scope = node_scope(&self.config, rule);
+            make_node_room(&mut self.nodes, &mut self.pending_nodes, scope)?;
+            self.made += 1;
+            add_node(&mut self.nodes, self.made, source, now, scope);
+        }
+        Ok(())
+    }
+
+    /// Whether a refusal by this limit leaves a node: under the profile of OpenBSD 7.4, where `max` refuses a source that has none in
+    /// the scope in which the rule tracks it.
+    fn leaves_node(&self, source: Addr, rule: RuleNo, limit: Limit) -> bool
+        ensures { result ≡ leaves_node self.now.config self.now.world source rule.0 limit }
+    {
+        match (limit, node_scope(&self.config, rule)) {
+            (Limit::Max, Some(scope)) => {
+                self.config.profile().is_openbsd() && !has_node(&self.nodes, scope, source)
+            }
+            _ => false,
+        }
     }
 }
 
@@ -145,7 +181,10 @@ impl Store for PlainStore {
         now: u64,
     ) -> Result<Result<StateNo, Limit>, NoMemory> {
         if let Some(limit) = self.limit_for(packet, rule) {
-            return Ok(Err(limit));
+            return match self.refuse(packet.src(), rule, now, limit) {
+                Ok(()) => Ok(Err(limit)),
+                Err(_) => Err(NoMemory),
+            };
         }
         match self.place(packet, rule, now) {
             Ok(number) => Ok(Ok(number)),
@@ -163,6 +202,10 @@ impl Store for PlainStore {
         )
     }
 
+    fn has_closed(&self, _found: Found, key: &FlowKey, _meter: &mut Meter) -> bool {
+        touching::has_closed(&self.states, key)
+    }
+
     fn kill(&mut self, found: Found, now: u64, _meter: &mut Meter) {
         leave(
             &self.config,
@@ -174,8 +217,20 @@ impl Store for PlainStore {
         );
     }
 
-    fn flush(&mut self, source: Addr, rule: Option<RuleNo>, now: u64, _meter: &mut Meter) -> u64 {
-        let flushed = Flushed { source, rule };
+    fn flush(
+        &mut self,
+        dir: Dir,
+        source: Addr,
+        rule: Option<RuleNo>,
+        now: u64,
+        _meter: &mut Meter,
+    ) -> u64 {
+        let flushed = Flushed {
+            profile: self.config.profile(),
+            dir,
+            source,
+            rule,
+        };
         let killed = count(&self.states, &flushed);
         leave(
             &self.config,
@@ -242,11 +297,11 @@ fn make_node_room(
     }
 }
 
-/// Adds the node of a source in a scope, if there is a scope and it has none.
-fn add_node(nodes: &mut Vec<Node>, number: u64, source: Addr, scope: Option<NodeScope>)
+/// Adds the node of a source in a scope, if there is a scope and it has none. It may leave from now on.
+fn add_node(nodes: &mut Vec<Node>, number: u64, source: Addr, now: u64, scope: Option<NodeScope>)
     requires room { IsSome scope → length nodes.old.items < vec_capacity nodes.old }
     requires scores { AreScores nodes.old.items }
-    ensures nodes { nodes.new.items ≡ nodes_with nodes.old.items number source scope }
+    ensures nodes { nodes.new.items ≡ nodes_with nodes.old.items number source now scope }
     ensures fewer { IsSome scope → length nodes.new.items ≤ length nodes.old.items + 1 }
     ensures none { scope ≡ None → nodes.new.items ≡ nodes.old.items }
     ensures scores { AreScores nodes.new.items }
@@ -259,7 +314,7 @@ fn add_node(nodes: &mut Vec<Node>, number: u64, source: Addr, scope: Option<Node
             scope,
             source,
             score: Score::default(),
-            idle: 0,
+            expires: now,
         });
     }
 }

@@ -12,10 +12,10 @@ ghost use Rattle.pfs_store_plain.specs.Rooms.{AreScores};
 ghost use Rattle.pfs_store_contract.specs.Worlds.{lists};
 
 use crate::counts::{OfNode, Test, count};
-use crate::leaving::{idle, keep};
+use crate::leaving::{keep, release};
 use pfs_conf_values::{Config, LimitName, TimeoutName};
 use pfs_store_contract::{Node, Slice, State};
-use pfs_store_rules::{count_at, node_retention};
+use pfs_store_rules::count_at;
 use pfs_track::{is_expired, lifetime};
 
 /// What a round goes over: states, or source nodes.
@@ -140,6 +140,7 @@ pub(crate) fn slice_states(
     pending: &mut Vec<u64>,
     now: u64,
 ) -> Slice
+    requires moment { now ≤ 2 ^ 63 }
     requires room { length states.old.items ≤ vec_capacity pending.old }
     requires rules { length rule_counts.old ≡ length config.now.items }
     requires scores { AreScores nodes.old }
@@ -161,7 +162,7 @@ pub(crate) fn slice_states(
         now,
         examined: &pending[..examined],
     };
-    idle(config, nodes, states, &test, now);
+    release(config, nodes, states, &test, now);
     keep(states, &test);
     take_off(pending, examined);
     Slice {
@@ -198,7 +199,7 @@ pub(crate) fn slice_nodes(
     }
 }
 
-/// The nodes stay that are not among those examined, or whose time is not over.
+/// The nodes stay that are not among those examined, or may not leave yet.
 fn keep_nodes(config: &Config, states: &[State], nodes: &mut Vec<Node>, examined: &[u64], now: u64)
     requires scores { AreScores nodes.old.items }
     ensures items { nodes.new.items ≡ filter (node_stays config.now states.now now examined.now) nodes.old.items }
@@ -214,7 +215,7 @@ fn node_stays(config: &Config, states: &[State], node: &Node, examined: &[u64], 
     !(examined.contains(&node.number) && is_over(config, states, node, now))
 }
 
-/// Whether a node has no state, and its retention is over.
+/// Whether a node has no state, and the moment has come from which it may leave.
 fn is_over(config: &Config, states: &[State], node: &Node, now: u64) -> bool
     ensures { result ≡ is_over config.now states.now now node.now }
 {
@@ -223,6 +224,5 @@ fn is_over(config: &Config, states: &[State], node: &Node, now: u64) -> bool
         scope: node.scope,
         source: node.source,
     };
-    let retention = node_retention(config, node.scope);
-    count(states, &of_node) == 0 && retention <= now && node.idle <= now - retention
+    count(states, &of_node) == 0 && node.expires <= now
 }

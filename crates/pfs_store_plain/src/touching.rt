@@ -4,11 +4,13 @@ ghost use Rattle.std.specs.Prelude.{◌≡◌, ◌≤◌, ℕ, [], IfSome, IsSom
 ghost use Rattle.pfs_addr_values.specs.Keys.{key_of};
 ghost use Rattle.pfs_conf_values.specs.Configs.{options_of};
 ghost use Rattle.pfs_conf_values.specs.Bounds.{IsRate};
+ghost use Rattle.pfs_track.specs.StatePhases.{has_closed};
 ghost use Rattle.pfs_store_contract.specs.Counts.{node_scope_of};
 ghost use Rattle.pfs_store_plain.specs.Rooms.{AreScores};
 ghost use Rattle.pfs_store_contract.specs.Touching.{completes_at, connections_in, goes_forward, node_score, nodes_scored, nodes_touched, numbered_state_after, node_after_handshake, score_in};
 ghost use Rattle.pfs_store_contract.specs.Calls.{touch_of, world_touched};
 ghost use Rattle.pfs_store_contract.specs.Worlds.{IsUpToNow, lists, state_with};
+ghost use Rattle.pfs_store_contract.specs.declared.records.State.{State};
 
 use crate::counts::{Connections, OfNode, count};
 use pfs_addr_values::{Addr, FlowKey, Packet};
@@ -53,6 +55,17 @@ pub(crate) fn state_with(states: &[State], key: &FlowKey) -> Option<State>
     None
 }
 
+/// Whether both peers of the state that has a key have closed their connection, or it was reset.
+pub(crate) fn has_closed(states: &[State], key: &FlowKey) -> bool
+    requires held { IsSome (state_with key.now (lists states.now [] [] [] 0)) }
+    ensures { Some result ≡ option_map (λ (s : State). has_closed s.phase) (state_with key.now (lists states.now [] [] [] 0)) }
+{
+    match state_with(states, key) {
+        Some(state) => state.phase.has_closed(),
+        None => unreachable!(),
+    }
+}
+
 /// Takes a packet of this state.
 fn touch_state(
     config: &Config,
@@ -78,6 +91,7 @@ fn touch_state(
     Touched {
         rule: state.rule,
         source: state.source,
+        dir: state.dir,
         completed,
         connections: connections_in(config, states, scope, state.source),
         score: score_in(nodes, scope, state.source),

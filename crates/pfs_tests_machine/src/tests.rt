@@ -2,6 +2,7 @@
 
 mod comparing;
 mod engines;
+mod profiled;
 mod scenarios;
 mod stores;
 mod tallied;

@@ -6,7 +6,7 @@ ghost use Rattle.pfs_store_contract.specs.Worlds.{IsUpToNow};
 use crate::kinds::Kind;
 use crate::rules_texts::NODES;
 use crate::telling::{Stop, begin, begin_free, end, plain, refused, wrong};
-use pfs_addr_values::{Addr, FlowKey, Meter, Packet, RUN_LIMIT};
+use pfs_addr_values::{Addr, Dir, FlowKey, Meter, Packet, RUN_LIMIT};
 use pfs_conf::{Config, RuleNo, load};
 use pfs_store::{Limit, StateNo, Store};
 use pfs_tests_cases::{A1, A2, EVERYTHING, Sent, packet};
@@ -16,6 +16,9 @@ const LIMITED: &[u8] = b"set limit states 14\n\
     pass keep state (max 12, max-src-nodes 2, max-src-states 6)\npass\n";
 
 const UNTRACKED: &[u8] = b"pass\n";
+
+/// A refusal by `max` leaves a source node.
+const PROFILED: &[u8] = b"set profile openbsd-7.4\npass keep state (max 1, source-track rule)\n";
 
 /// What is asked of a store.
 #[derive(Debug, Clone, Copy)]
@@ -30,6 +33,8 @@ enum Ask {
     Untracked,
     /// A state where a limit is met: no memory is taken.
     AtLimit,
+    /// One where a limit is met, and the refusal leaves a source node.
+    Stray,
     /// A state in the room of one that has left: no memory is taken.
     InRoom,
 }
@@ -67,6 +72,57 @@ const UNTRACKED_ROWS: &[Row] = &[
     (Ask::Untracked, A2, 2, 0, Ok(4)),
 ];
 
+/// Of many nodes some want more room.
+const STRAY_ROWS: &[Row] = &[
+    (Ask::Tracked, A1, 1, 0, Ok(1)),
+    (Ask::AtLimit, A1, 2, 0, Err(Limit::Max)),
+    (Ask::Stray, A2, 1, 0, Err(Limit::Max)),
+    (Ask::AtLimit, A2, 2, 0, Err(Limit::Max)),
+    (Ask::Stray, A3, 1, 0, Err(Limit::Max)),
+    (
+        Ask::Stray,
+        Addr::V4([198, 51, 100, 4]),
+        1,
+        0,
+        Err(Limit::Max),
+    ),
+    (
+        Ask::Stray,
+        Addr::V4([198, 51, 100, 5]),
+        1,
+        0,
+        Err(Limit::Max),
+    ),
+    (
+        Ask::Stray,
+        Addr::V4([198, 51, 100, 6]),
+        1,
+        0,
+        Err(Limit::Max),
+    ),
+    (
+        Ask::Stray,
+        Addr::V4([198, 51, 100, 7]),
+        1,
+        0,
+        Err(Limit::Max),
+    ),
+    (
+        Ask::Stray,
+        Addr::V4([198, 51, 100, 8]),
+        1,
+        0,
+        Err(Limit::Max),
+    ),
+    (
+        Ask::Stray,
+        Addr::V4([198, 51, 100, 9]),
+        1,
+        0,
+        Err(Limit::Max),
+    ),
+];
+
 /// A kind of store.
 pub fn tell<S: Kind + Drop>(rt: &HostRuntime) -> Result<(), Stop> {
     for text in &[EVERYTHING, NODES, LIMITED] {
@@ -77,6 +133,7 @@ pub fn tell<S: Kind + Drop>(rt: &HostRuntime) -> Result<(), Stop> {
     }
     fill_first::<S>(rt)?;
     fill_second::<S>(rt)?;
+    leave_nodes::<S>(rt)?;
     touch_first::<S>(rt)
 }
 
@@ -103,6 +160,13 @@ fn fill_second<S: Kind + Drop>(rt: &HostRuntime) -> Result<(), Stop> {
     fill_again(rt, &mut store, &config)
 }
 
+/// Refusals under a profile by which they leave source nodes.
+fn leave_nodes<S: Kind + Drop>(rt: &HostRuntime) -> Result<(), Stop> {
+    let config = load(rt.alloc(), PROFILED)?;
+    let mut store = S::empty(rt.alloc(), &config)?;
+    admit_all(rt, &mut store, &config, STRAY_ROWS)
+}
+
 /// The first state of a store, and its second packet, which takes no memory.
 fn touch_first<S: Kind + Drop>(rt: &HostRuntime) -> Result<(), Stop> {
     let config = load(rt.alloc(), LIMITED)?;
@@ -110,7 +174,7 @@ fn touch_first<S: Kind + Drop>(rt: &HostRuntime) -> Result<(), Stop> {
     admit_and_touch(rt, &mut store, &config)
 }
 
-/// How many states and source nodes are held, and how many states were made.
+/// How many states and source nodes are held, and how many numbers were used.
 fn counts<S: Store>(store: &S) -> (u64, u64, u64) {
     (store.state_count(), store.node_count(), store.made())
 }
@@ -174,6 +238,10 @@ fn touch<S: Store>(rt: &HostRuntime, store: &mut S, packet: &Packet, now: u64) -
     };
     let before = counts(store);
     let mut meter = Meter::new();
+    begin_free(rt, "has_closed")?;
+    let closed = store.has_closed(found, &FlowKey::of(packet), &mut meter);
+    end(rt)?;
+    plain(rt, !closed)?;
     begin_free(rt, "touch")?;
     let touched = store.touch(found, packet, now, &mut meter);
     end(rt)?;
@@ -201,7 +269,7 @@ fn admit_all<S: Store>(
     Ok(())
 }
 
-/// A state of a rule, or the limit that is met, at which no memory is taken.
+/// A state of a rule, or the limit that is met, at which no memory is taken but for a node that is left.
 fn admit<S: Store>(
     rt: &HostRuntime,
     store: &mut S,
@@ -224,9 +292,18 @@ fn admit<S: Store>(
         Some(Ok(number)) => plain(rt, Ok(number) == wanted && found == Some(number)),
         Some(Err(limit)) => plain(
             rt,
-            Err(limit) == wanted && found == None && counts(store) == before,
+            Err(limit) == wanted && found == None && counts(store) == after_refusal(ask, before),
         ),
         None => refused(rt, found == None && counts(store) == before),
+    }
+}
+
+/// What is held after a refusal: a node more, and a number used for it, or as much as before.
+fn after_refusal(ask: Ask, before: (u64, u64, u64)) -> (u64, u64, u64) {
+    let (states, nodes, made) = before;
+    match ask {
+        Ask::Stray => (states, nodes.saturating_add(1), made.saturating_add(1)),
+        _ => before,
     }
 }
 
@@ -237,6 +314,7 @@ fn begin_ask(rt: &HostRuntime, ask: Ask) -> Result<(), Stop> {
         Ask::Tracked => begin(rt, "admit where sources are tracked"),
         Ask::Untracked => begin(rt, "admit where no sources are tracked"),
         Ask::AtLimit => begin_free(rt, "admit at a limit"),
+        Ask::Stray => begin(rt, "admit where a refusal leaves a node"),
         Ask::InRoom => begin_free(rt, "admit in the room of a state that left"),
     }
 }
@@ -291,7 +369,7 @@ fn kill<S: Store>(rt: &HostRuntime, store: &mut S) -> Result<(), Stop> {
 fn flush<S: Store>(rt: &HostRuntime, store: &mut S) -> Result<(), Stop> {
     let mut meter = Meter::new();
     begin_free(rt, "flush")?;
-    let killed = store.flush(A1, Some(RuleNo(0)), 6, &mut meter);
+    let killed = store.flush(Dir::In, A1, Some(RuleNo(0)), 6, &mut meter);
     end(rt)?;
     plain(rt, killed == 5 && counts(store) == (8, 2, 14))?;
     Ok(())

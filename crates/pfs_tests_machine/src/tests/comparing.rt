@@ -1,13 +1,13 @@
-//! The same thousands of calls, drawn from a fixed seed, over plain lists and over indexes: every answer and every
-//! count is the same.
+//! The same thousands of calls, drawn from a fixed seed, over plain lists and over indexes, without a profile and under that of
+//! OpenBSD 7.4: every answer and every count is the same.
 
 use super::tried::Tried;
-use pfs_addr_values::{Addr, Flags, FlowKey, Packet};
-use pfs_conf::{Config, RuleNo, load};
+use pfs_addr_values::{Addr, Dir, Flags, FlowKey, Packet};
+use pfs_conf::{Config, RuleNo};
 use pfs_store::IndexStore;
 use pfs_store_contract::{Limit, Slice, StateNo, Store, Touched};
 use pfs_store_plain::PlainStore;
-use pfs_tests_cases::{Sent, packet};
+use pfs_tests_cases::{SERVER, Sent, configured, packet};
 use std::alloc::AllocGlobal;
 use std::process::Abort;
 use std::test::Fail;
@@ -15,14 +15,15 @@ use std::test::Fail;
 /// What a call answered.
 #[derive(Debug, Clone, Copy, PartialEq, Eq)]
 enum Answer {
-    Touched(Touched),
+    /// Whether the connection had closed before.
+    Touched(bool, Touched),
     Admitted(Result<StateNo, Limit>),
     Killed(Option<StateNo>),
     Flushed(u64),
     Purged(Slice, Slice),
 }
 
-/// What a call answered, how many states and source nodes are held after it, and how many states were made.
+/// What a call answered, how many states and source nodes are held after it, and how many numbers were used.
 #[derive(Debug, Clone, Copy, PartialEq, Eq)]
 struct Told {
     answer: Answer,
@@ -33,14 +34,17 @@ struct Told {
 
 const CALLS: u64 = 20_000;
 
-/// Four rules: sources of its own, or of all rules, a rate, and no limit.
-const RULES: &[u8] = b"set limit { states 12, src-nodes 5 }
+/// Five rules: sources of its own, or of all rules, a rate, no limit, and sloppy states.
+const RULES: &str = "set limit { states 12, src-nodes 5 }
 set timeout { interval 3, src.track 2, tcp.first 9, adaptive.start 4, adaptive.end 16 }
 pass keep state (max 5, source-track rule, max-src-nodes 3, max-src-states 2)
 pass keep state (max 5, source-track global, max-src-nodes 3, max-src-states 2)
 pass keep state (source-track rule, max-src-conn 1, max-src-conn-rate 3/10)
 pass keep state
+pass keep state (max 3, source-track rule, sloppy)
 ";
+
+const PROFILES: [&str; 2] = ["", "set profile openbsd-7.4\n"];
 
 /// A packet of one of six sources, from one of eight ports or to it, with flags by the draw
 fn drawn(draw: u64) -> Result<Packet, Fail> {
@@ -66,20 +70,25 @@ fn source(draw: u64) -> Addr {
 fn come<S: Store>(rt: &impl Abort, tried: &mut Tried<S>, draw: u64) -> Result<Answer, Fail> {
     let packet = drawn(draw)?;
     if tried.store().find(&FlowKey::of(&packet)).is_some() {
-        return Ok(Answer::Touched(tried.touch(&packet)?));
+        let closed = tried.has_closed(&packet)?;
+        return Ok(Answer::Touched(closed, tried.touch(&packet)?));
     }
-    let rule = RuleNo((draw / 131_072 % 4) as u32);
+    let rule = RuleNo((draw / 131_072 % 5) as u32);
     Ok(Answer::Admitted(tried.admit(rt, &packet, rule)?))
 }
 
-/// A source is flushed, of one rule or of all
+/// A source is flushed, of one rule or of all; of an eighth of these it is the server
 fn wash<S: Store>(tried: &mut Tried<S>, draw: u64) -> Answer {
     let rule = if draw / 64 % 2 == 0 {
-        Some(RuleNo((draw / 128 % 4) as u32))
+        Some(RuleNo((draw / 128 % 5) as u32))
     } else {
         None
     };
-    Answer::Flushed(tried.flush(source(draw), rule))
+    if draw / 4_096 % 8 == 0 {
+        Answer::Flushed(tried.flush(Dir::Out, SERVER, rule))
+    } else {
+        Answer::Flushed(tried.flush(Dir::In, source(draw), rule))
+    }
 }
 
 /// A state is killed, where one has the key of the drawn packet
@@ -147,15 +156,21 @@ fn indexed(rt: &(impl Abort + AllocGlobal), config: &Config) -> Result<Vec<Told>
     )
 }
 
-#[test]
-fn both_stores_answer_alike(rt: HostRuntime) -> Result<(), Fail> {
-    let config = load(rt.alloc(), RULES)?;
-    let listed = listed(&rt, &config)?;
-    let indexed = indexed(&rt, &config)?;
+fn compare(rt: &(impl Abort + AllocGlobal), config: &Config) -> Result<(), Fail> {
+    let listed = listed(rt, config)?;
+    let indexed = indexed(rt, config)?;
     for (step, (told, wanted)) in indexed.iter().zip(&listed).enumerate() {
         assert_eq!(rt; told, wanted, "at step {step}");
     }
     assert_eq!(rt; indexed.len(), listed.len());
     assert!(rt; listed.last().is_some_and(|told| told.made > 100));
+    Ok(())
+}
+
+#[test]
+fn both_stores_answer_alike(rt: HostRuntime) -> Result<(), Fail> {
+    for profile in PROFILES {
+        compare(&rt, &configured(rt.alloc(), profile, RULES)?)?;
+    }
     Ok(())
 }

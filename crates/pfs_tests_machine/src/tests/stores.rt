@@ -1,8 +1,9 @@
-//! Stores by themselves: the numbers of states, what is reported of handshakes, what leaves, and the slices of a round.
+//! Stores by themselves: the numbers of states, what is reported of handshakes, what leaves, and the slices of a round. What is
+//! done with them one by one is for `profiled` too.
 
 use super::tallied::Tallied;
 use super::tried::Tried;
-use pfs_addr_values::{Addr, FlowKey};
+use pfs_addr_values::{Addr, Dir, FlowKey, Packet};
 use pfs_conf::{Config, RuleNo};
 use pfs_store::IndexStore;
 use pfs_store_contract::{Limit, StateNo, Staying, Store, Touched};
@@ -14,17 +15,25 @@ use std::test::Fail;
 
 /// What is done with a store, and what it answers.
 #[derive(Clone, Copy)]
-enum Step {
+pub enum Step {
     /// A UDP packet of this source and port is admitted at a rule.
     Admit(Addr, u16, u32, Result<u64, Limit>),
     /// It comes once more, of a rule that tracks no sources.
     Again(Addr, u16, u32),
+    /// This packet of a source and port is admitted at a rule.
+    Send(Sent, Addr, u16, u32, Result<u64, Limit>),
     /// The first source shakes hands from this port at rule 0: how many connections it has then, and its score.
     Shake(u16, u64, u64),
+    /// This packet of the first source and port comes: the direction in which its state was made, and whether the handshake
+    /// completes.
+    Comes(Sent, u16, Dir, bool),
+    /// Whether the connection of such a packet has closed.
+    Closed(Sent, u16, bool),
     /// The state of this number, source and port is killed.
     Kill(u64, Addr, u16),
-    /// The states of the first source leave, all or those of a rule: how many they are.
-    Flush(Option<RuleNo>, u64),
+    /// The states leave that are those of the first source, where it made one in this direction, all or those of a rule: how many
+    /// they are.
+    Flush(Dir, Option<RuleNo>, u64),
     /// Whether a state of this number is held.
     Holds(u64, bool),
     /// A slice of the states examines and removes so many.
@@ -37,7 +46,7 @@ enum Step {
     WatchNodes(u64, Told, bool),
     /// So many seconds are passed over.
     PassOver(u64),
-    /// So many states and source nodes are held, and so many states were ever made.
+    /// So many states and source nodes are held, and so many numbers were ever used.
     Held(u64, u64, u64),
 }
 
@@ -45,7 +54,7 @@ enum Step {
 type Told = (Option<u64>, Option<u64>, u64);
 
 /// When it is done, and what.
-type Row = (u64, Step);
+pub type Row = (u64, Step);
 
 /// A handshake of the first source from this port: what its third packet did
 fn shake<S: Store>(rt: &impl Abort, tried: &mut Tried<S>, port: u16) -> Result<Touched, Fail> {
@@ -71,14 +80,38 @@ fn admitted(answer: Result<StateNo, Limit>, rule: u32) -> Option<(StateNo, RuleN
     }
 }
 
+/// A packet makes a state that is found by its key, or is refused
+fn admit<S: Store>(
+    rt: &impl Abort,
+    tried: &mut Tried<S>,
+    packet: &Packet,
+    rule: u32,
+    want: Result<u64, Limit>,
+) -> Result<(), Fail> {
+    let answer = tried.admit(rt, packet, RuleNo(rule))?;
+    same!(rt; numbered(answer), want);
+    let found = tried.store().find(&FlowKey::of(packet));
+    same!(rt; found.map(|it| (it.number, it.rule)), admitted(answer, rule));
+    Ok(())
+}
+
 fn come<S: Store>(rt: &impl Abort, tried: &mut Tried<S>, row: &Row) -> Result<(), Fail> {
     match row.1 {
         Step::Admit(source, port, rule, want) => {
-            let packet = packet(&Sent::Udp(53), source, port)?;
-            let answer = tried.admit(rt, &packet, RuleNo(rule))?;
-            same!(rt; numbered(answer), want);
-            let found = tried.store().find(&FlowKey::of(&packet));
-            same!(rt; found.map(|it| (it.number, it.rule)), admitted(answer, rule));
+            admit(
+                rt,
+                tried,
+                &packet(&Sent::Udp(53), source, port)?,
+                rule,
+                want,
+            )?;
+        }
+        Step::Send(sent, source, port, rule, want) => {
+            admit(rt, tried, &packet(&sent, source, port)?, rule, want)?;
+        }
+        Step::Comes(sent, port, dir, completed) => {
+            let told = tried.touch(&packet(&sent, A1, port)?)?;
+            same!(rt; (told.dir, told.completed), (dir, completed));
         }
         Step::Again(source, port, rule) => {
             let told = tried.touch(&packet(&Sent::Udp(53), source, port)?)?;
@@ -90,6 +123,7 @@ fn come<S: Store>(rt: &impl Abort, tried: &mut Tried<S>, row: &Row) -> Result<()
             let wanted = Touched {
                 rule: RuleNo(0),
                 source: A1,
+                dir: Dir::In,
                 completed: true,
                 connections,
                 score: Score { value, last: row.0 },
@@ -107,7 +141,7 @@ fn leave<S: Store>(rt: &impl Abort, tried: &mut Tried<S>, step: &Step) -> Result
             let killed = tried.kill(&packet(&Sent::Udp(53), source, port)?);
             same!(rt; killed, Some(StateNo(number)));
         }
-        Step::Flush(rule, killed) => same!(rt; tried.flush(A1, rule), killed),
+        Step::Flush(dir, rule, killed) => same!(rt; tried.flush(dir, A1, rule), killed),
         Step::States(examined, removed) => {
             let slice = tried.purge_states();
             same!(rt; (slice.examined, slice.removed), (examined, removed));
@@ -140,14 +174,19 @@ fn watch<S: Store>(rt: &impl Abort, tried: &mut Tried<S>, step: &Step) {
     }
 }
 
-fn look<S: Store>(rt: &impl Abort, store: &S, step: &Step) {
+fn look<S: Store>(rt: &impl Abort, tried: &Tried<S>, step: &Step) -> Result<(), Fail> {
+    let store = tried.store();
     match *step {
         Step::Holds(number, wanted) => same!(rt; store.holds(StateNo(number)), wanted),
         Step::Held(states, nodes, made) => {
             same!(rt; (store.state_count(), store.node_count(), store.made()), (states, nodes, made));
         }
+        Step::Closed(sent, port, wanted) => {
+            same!(rt; tried.has_closed(&packet(&sent, A1, port)?)?, wanted);
+        }
         _ => {}
     }
+    Ok(())
 }
 
 /// The steps one by one
@@ -157,7 +196,7 @@ fn follow<S: Store>(rt: &impl Abort, tried: &mut Tried<S>, rows: &[Row]) -> Resu
         come(rt, tried, row)?;
         leave(rt, tried, &row.1)?;
         watch(rt, tried, &row.1);
-        look(rt, tried.store(), &row.1);
+        look(rt, tried, &row.1)?;
     }
     Ok(())
 }
@@ -166,7 +205,7 @@ fn follow<S: Store>(rt: &impl Abort, tried: &mut Tried<S>, rows: &[Row]) -> Resu
 fn changes(step: &Step) -> u64 {
     match step {
         Step::Shake(..) => 3,
-        Step::Holds(..) | Step::Held(..) => 0,
+        Step::Holds(..) | Step::Held(..) | Step::Closed(..) => 0,
         _ => 1,
     }
 }
@@ -179,9 +218,18 @@ fn all_changes(rows: &[Row]) -> u64 {
     all
 }
 
-/// In each kind of store, of which one is held at a time
 fn tell(rt: &(impl Abort + AllocGlobal), rules: &str, rows: &[Row]) -> Result<(), Fail> {
-    let config = configured(rt.alloc(), UNSCALED, rules)?;
+    tell_under(rt, UNSCALED, rules, rows)
+}
+
+/// After a first line of rules, in each kind of store, of which one is held at a time
+pub fn tell_under(
+    rt: &(impl Abort + AllocGlobal),
+    first: &str,
+    rules: &str,
+    rows: &[Row],
+) -> Result<(), Fail> {
+    let config = configured(rt.alloc(), first, rules)?;
     tell_plain(rt, &config, rows)?;
     tell_tallied(rt, &config, rows)?;
     tell_indexed(rt, &config, rows)
@@ -326,17 +374,17 @@ const LEAVING: &[Row] = &[
     (6, Step::Kill(2, A1, 2)),
     (6, Step::Holds(2, false)),
     (6, Step::Holds(1, true)),
-    (6, Step::Flush(Some(RuleNo(1)), 2)),
+    (6, Step::Flush(Dir::In, Some(RuleNo(1)), 2)),
     (6, Step::Holds(1, true)),
     (6, Step::Holds(4, true)),
-    (7, Step::Flush(None, 1)),
+    (7, Step::Flush(Dir::In, None, 1)),
     (7, Step::Held(1, 1, 5)),
     (26, Step::Nodes(1, 0)),
     (27, Step::Nodes(1, 1)),
     (27, Step::Held(1, 0, 5)),
 ];
 
-/// The node has been idle since moment 7, and is kept for 20 seconds
+/// The last state of the node leaves at moment 7, and it is kept for 20 seconds
 #[test]
 fn states_leave_by_number_and_by_source(rt: HostRuntime) -> Result<(), Fail> {
     let rules =
@@ -368,7 +416,7 @@ const ROUNDS: &[Row] = &[
 ];
 
 /// A slice examines two states and one node, and does not go on into the next round. The states expire at moment 10; the
-/// source of the fourth is idle since then, the other one since moment 12
+/// source of the fourth has none from then on, the other one from moment 12
 #[test]
 fn a_slice_examines_its_share_of_a_round(rt: HostRuntime) -> Result<(), Fail> {
     tell(&rt, SLICES, ROUNDS)
@@ -424,7 +472,7 @@ const PASSED: &[Row] = &[
 ];
 
 /// Of four seconds three are a whole round of the states, and two rounds of the nodes. The states expire at moment 10; the source
-/// of the fourth has been idle since moment 13, and the other one since 15
+/// of the fourth has none from moment 13 on, and the other one from 15
 #[test]
 fn seconds_are_passed_over_by_rounds(rt: HostRuntime) -> Result<(), Fail> {
     let config = configured(rt.alloc(), UNSCALED, SLICES)?;

@@ -2,7 +2,7 @@
 
 ghost use Rattle.std.specs.Prelude.{◌≡◌};
 
-use pfs_addr_values::{Addr, FlowKey, Meter, NoMemory, Packet};
+use pfs_addr_values::{Addr, Dir, FlowKey, Meter, NoMemory, Packet};
 use pfs_conf::RuleNo;
 use pfs_store_contract::{Found, Limit, Slice, StateNo, Store, Touched};
 
@@ -78,14 +78,25 @@ impl<S: Store> Store for Tallied<S> {
         self.inner.renew(found, packet, now, meter)
     }
 
+    fn has_closed(&self, found: Found, key: &FlowKey, meter: &mut Meter) -> bool {
+        self.inner.has_closed(found, key, meter)
+    }
+
     fn kill(&mut self, found: Found, now: u64, meter: &mut Meter) {
         self.tick();
         self.inner.kill(found, now, meter)
     }
 
-    fn flush(&mut self, source: Addr, rule: Option<RuleNo>, now: u64, meter: &mut Meter) -> u64 {
+    fn flush(
+        &mut self,
+        dir: Dir,
+        source: Addr,
+        rule: Option<RuleNo>,
+        now: u64,
+        meter: &mut Meter,
+    ) -> u64 {
         self.tick();
-        self.inner.flush(source, rule, now, meter)
+        self.inner.flush(dir, source, rule, now, meter)
     }
 
     fn purge_states(&mut self, now: u64, meter: &mut Meter) -> Slice {

@@ -3,14 +3,14 @@
 ghost use Rattle.std.specs.Prelude.{◌≡◌};
 ghost use Rattle.pfs_store_contract.specs.Worlds.{empty_world};
 
-use pfs_addr_values::{Addr, FlowKey, Meter, Packet, RUN_LIMIT};
+use pfs_addr_values::{Addr, Dir, FlowKey, Meter, Packet, RUN_LIMIT};
 use pfs_conf::{Config, RuleNo};
 use pfs_store_contract::{Limit, Slice, StateNo, Store, Touched, Watched};
 use std::marker::Model;
 use std::process::Abort;
 use std::test::Fail;
 
-/// A store that was made for a configuration, at a moment that is not before any handshake that it counts.
+/// A store that was made for a configuration, at a moment of a trace that is not before any handshake that it counts.
 #[derive(Drop)]
 pub struct Tried<'a, S: Store> {
     store: S,
@@ -19,14 +19,14 @@ pub struct Tried<'a, S: Store> {
 }
 
 impl<'a, S: Store> Model for Tried<'a, S> {
-    ghost use Rattle.std.specs.Prelude.{◌≡◌, ℕ};
+    ghost use Rattle.std.specs.Prelude.{◌≡◌, ◌≤◌, ◌^◌, ℕ};
     ghost use Rattle.pfs_store_contract.specs.Worlds.{IsUpToNow};
 
     ghost Value = { ℕ };
 
     ghost view = { λ t. t.now };
 
-    ghost invariant = { λ t. (S.config t.store ≡ t.config.now) × IsUpToNow t.now (S.world t.store) };
+    ghost invariant = { λ t. (S.config t.store ≡ t.config.now) × IsUpToNow t.now (S.world t.store) × (t.now ≤ 2 ^ 63) };
 }
 
 impl<'a, S: Store> Tried<'a, S> {
@@ -49,7 +49,7 @@ impl<'a, S: Store> Tried<'a, S> {
 
     /// Goes on to a moment that is not before the last one.
     pub fn go_to(&mut self, rt: &impl Abort, now: u64) {
-        assert!(rt; self.now <= now);
+        assert!(rt; self.now <= now && now <= 4294967295);
         self.now = now;
     }
 
@@ -88,6 +88,14 @@ impl<'a, S: Store> Tried<'a, S> {
         Ok(self.store.renew(found, packet, self.now, &mut meter))
     }
 
+    /// Whether both peers of the state with the key of a packet have closed their connection.
+    pub fn has_closed(&self, packet: &Packet) -> Result<bool, Fail> {
+        let key = FlowKey::of(packet);
+        let found = self.store.find(&key).ok_or("its key is not held")?;
+        let mut meter = Meter::new();
+        Ok(self.store.has_closed(found, &key, &mut meter))
+    }
+
     /// The state that has the key of a packet is killed: its number, if there is one.
     pub fn kill(&mut self, packet: &Packet) -> Option<StateNo> {
         let found = self.store.find(&FlowKey::of(packet))?;
@@ -96,10 +104,11 @@ impl<'a, S: Store> Tried<'a, S> {
         Some(found.number)
     }
 
-    /// The states of a source leave, all or those of a rule: how many they are.
-    pub fn flush(&mut self, source: Addr, rule: Option<RuleNo>) -> u64 {
+    /// The states leave that a flush takes for those of the source of a state that was made in this direction, all or those of a
+    /// rule: how many they are.
+    pub fn flush(&mut self, dir: Dir, source: Addr, rule: Option<RuleNo>) -> u64 {
         let mut meter = Meter::new();
-        self.store.flush(source, rule, self.now, &mut meter)
+        self.store.flush(dir, source, rule, self.now, &mut meter)
     }
 
     /// A slice of the states.

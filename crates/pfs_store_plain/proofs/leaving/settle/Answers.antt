@@ -15,9 +15,9 @@ loop-node-preserved g c =
     let before = c.args.before.now in
     record {
       nodes =
-          rw c.idled.ensures.node
+          rw c.released.ensures.node
           (map_over_more (node_after_leaving c.args.config.now before (filter (g.T.Test.passes c.args.test.now) before) c.args.now) c.args.nodes.now c.loop-node.nodes i _ (omega arith) c.loop-node.invariant.nodes (get_or_default c.loop-node.nodes i _ _ within));
       scores =
-          All-set (λ (n : Node). n.score.value ≤ 4294968000) c.loop-node.nodes i c.idled.result
-          (subst (λ (s : Score). s.value ≤ 4294968000) (sym c.idled.ensures.score) (c.loop-node.invariant.scores i _ within)) c.loop-node.invariant.scores;
+          All-set (λ (n : Node). n.score.value ≤ 4294968000) c.loop-node.nodes i c.released.result
+          (subst (λ (s : Score). s.value ≤ 4294968000) (sym c.released.ensures.score) (c.loop-node.invariant.scores i _ within)) c.loop-node.invariant.scores;
     }

@@ -21,18 +21,18 @@ returns-clause-world c = λ node_numbers made.
     ap (λ n. left n c.deref-3.result.now) held ∙ ap (left (length before)) examined in
     let kept : c.keep.new.states.items ≡ left c.len-held.result c.deref-3.result.now = c.keep.ensures.items in
     let all : c.deref-4.result.now ≡ before = c.deref-4.ensures.value in
-    let idle : c.idle.new.nodes ≡ settled c.deref-4.result.now (filter (stays_by conf c.count_rules.new.counts c.len-held.result c.args.now (take e c.deref-3.result.now)) c.deref-4.result.now) =
-    c.idle.ensures.nodes in
+    let released : c.release.new.nodes ≡ settled c.deref-4.result.now (filter (stays_by conf c.count_rules.new.counts c.len-held.result c.args.now (take e c.deref-3.result.now)) c.deref-4.result.now) =
+    c.release.ensures.nodes in
     state_slice-parts conf c.count_rules.new.counts (lists before c.args.nodes.now c.args.pending.now.items node_numbers made) c.args.now
-    c.keep.new.states.items c.idle.new.nodes c.take_off.new.pending.items c.begin_round.new.pending.items e
+    c.keep.new.states.items c.release.new.nodes c.take_off.new.pending.items c.begin_round.new.pending.items e
     (search rules) (search rules) (search rules) (search rules)
     (kept ∙ same)
-    (idle ∙ ap (λ xs. settled xs (filter (stays_by conf c.count_rules.new.counts c.len-held.result c.args.now (take e c.deref-3.result.now)) xs)) all ∙ ap (settled before) same)
+    (released ∙ ap (λ xs. settled xs (filter (stays_by conf c.count_rules.new.counts c.len-held.result c.args.now (take e c.deref-3.result.now)) xs)) all ∙ ap (settled before) same)
     (search rules)
 
 pub returns-clause-answer : goal.returns-clause-answer
 returns-clause-answer c =
     state_slice-told c.args.config.now (lists c.args.states.now.items c.args.nodes.now c.args.pending.now.items [] 0) c.args.now c.len-held.result c.len-2.result c.share_of-examined.result
-    c.keep.new.states.items c.idle.new.nodes c.take_off.new.pending.items c.begin_round.new.pending.items
+    c.keep.new.states.items c.release.new.nodes c.take_off.new.pending.items c.begin_round.new.pending.items
     (returns-clause-world c [] 0)
     (search rules) (search rules) (search rules) (search rules)

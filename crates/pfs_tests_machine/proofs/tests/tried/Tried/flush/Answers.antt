@@ -6,5 +6,6 @@ use Rattle.pfs_tests_machine.proofs.tests.tried.Tried.flush.Goals as goal
 pub invariant_of-self : goal.invariant_of-self
 invariant_of-self g c = (
   c.flush.ensures.config ∙ c.self.invariant.0,
-  rw c.flush.ensures.world (flushed-up_to_now (g.S.Store.config c.self.inside.store) (g.S.Store.world c.self.inside.store) c.args.source c.args.rule c.self.inside.now c.self.inside.now c.self.invariant.1),
+  rw c.flush.ensures.world (flushed-up_to_now (g.S.Store.config c.self.inside.store) (g.S.Store.world c.self.inside.store) c.args.dir c.args.source c.args.rule c.self.inside.now c.self.inside.now c.self.invariant.1),
+  c.self.invariant.2,
 )

@@ -7,4 +7,5 @@ pub invariant_of-self : goal.invariant_of-self
 invariant_of-self g c = (
   c.touch.ensures.config ∙ c.self.invariant.0,
   rw c.touch.ensures.world (world_touched-up_to_now (g.S.Store.config c.self.inside.store) (g.S.Store.world c.self.inside.store) c.args.packet.now c.self.inside.now _ c.self.invariant.1),
+  c.self.invariant.2,
 )
