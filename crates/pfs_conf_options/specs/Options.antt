@@ -111,6 +111,7 @@ resolved_options o table = record {
   max_src_conn = o.max_src_conn;
   max_src_conn_rate = o.max_src_conn_rate;
   overload = overload_to o.overload table;
+  sloppy = o.sloppy;
   timeouts = o.timeouts;
 }
 

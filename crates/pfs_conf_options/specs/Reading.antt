@@ -115,7 +115,7 @@ timeout_by (Some place) o = once (slice_index_or o.timeouts place None) (take (c
 unfoldable pub timeout_at : Options → Reader Options
 timeout_at o ts = on_front (λ t. timeout_by (rule_place t.key) o) ts
 
--- a word that has no effect, or a timeout
+-- a word that says all by itself, or a timeout
 abbrev pub mark_by : Key → Options → Act Options
 mark_by key.Sloppy o = mark_once o.sloppy (take (done (record o { sloppy = true })))
 mark_by key.Floating o = mark_once o.floating (take (done (record o { floating = true })))

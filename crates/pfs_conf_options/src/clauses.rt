@@ -40,7 +40,7 @@ pub struct Options {
     pub max_src_conn_rate: Option<Rate>,
     /// `overload`: what happens to a source that goes past the last two.
     pub overload: Option<OverloadText>,
-    /// `sloppy`, which has no effect here.
+    /// `sloppy`: states of TCP are tracked as pf tracks sloppy ones; of effect under the profile of OpenBSD 7.4 alone.
     pub sloppy: bool,
     /// `floating`, which has no effect here.
     pub floating: bool,

@@ -188,7 +188,7 @@ fn with_overload(options: Options, overload: OverloadText) -> Options
     }
 }
 
-/// A word of its own, which has no effect, or a timeout.
+/// A word of its own, or a timeout.
 #[tactic(auto, unfolding(crate::specs::Reading::state_mark_at, crate::specs::Reading::timeout_at))]
 fn mark(cursor: &mut Cursor, options: Options) -> Result<Options, Refusal>
     ensures { Gives result cursor.new (state_mark_at options cursor.old) }

@@ -94,6 +94,7 @@ impl Options {
             max_src_conn: self.max_src_conn,
             max_src_conn_rate: self.max_src_conn_rate,
             overload: overload_to(self.overload, table),
+            sloppy: self.sloppy,
             timeouts: self.timeouts,
         }
     }

@@ -36,7 +36,7 @@ IsDraft_with_tables d n k more = record {
 
 -- a draft with other items
 abbrev pub with_items : List Item → Drafted → Drafted
-with_items items d = record { limits = d.limits; timeouts = d.timeouts; tables = d.tables; defined = d.defined; items = items }
+with_items items d = record { profile = d.profile; limits = d.limits; timeouts = d.timeouts; tables = d.tables; defined = d.defined; items = items }
 
 -- so the items after a push leave a draft, whether it was refused or not
 pub IsDraft_pushed : {E : Type 0} (d e : Drafted) (i : Item) (after : List Item) (r : Result (Unit {0}) E) → d ≡ e → IsDraft d

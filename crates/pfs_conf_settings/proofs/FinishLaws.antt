@@ -1,16 +1,21 @@
 -- A draft that keeps the load rules of the whole text is a configuration.
-use Rattle.std.proofs.Common.{◌≡◌, ◌∙◌, ◌≤◌, ◌<◌, ◌+◌, ◌*◌, ◌/◌, ◌^◌, ◌||◌, ◌&&◌, ◌==◌, ℕ, Bool, true, false, not, nat_lt, All, List, [], ◌∷◌, length, refl, ap, sym, arith, Option, Some, None, IfSome, unwrap_or}
+use Rattle.std.proofs.Common.{◌≡◌, ◌∙◌, ◌≤◌, ◌<◌, ◌+◌, ◌*◌, ◌/◌, ◌^◌, ◌||◌, ◌&&◌, ◌==◌, ℕ, Bool, true, false, not, nat_lt, All, List, [], ◌∷◌, length, zero, suc, refl, ap, sym, arith, Option, Some, None, IfSome, unwrap_or}
 use Rattle.std.specs.Prelude.{position, slice_index_or}
 use Rattle.std.specs.List.{IsDistinct, list_any, position_or_len}
 use Rattle.std.specs.Str.{bytes_eq}
 use Rattle.std.proofs.lemmas.Bool.{cond-false, cond-true, false≢true, lt-ltb, ltb-false, not-false}
+use Rattle.std.proofs.lemmas.List.{length-map}
 use Rattle.pfs_conf_values.specs.Configs.{is_adaptive, overloads_const, table_names, timeout_of}
 use Rattle.pfs_conf_values.specs.Invariants.{IsConfig, IsTable, is_seconds}
 use Rattle.pfs_conf_settings.specs.Invariants.{IsDraft}
 use Rattle.pfs_conf_settings.specs.Drafts.{Drafted, broken_pair, const_overload, conf_of_draft, has_broken_pair, has_too_many_entries, has_too_many_tables}
 use Rattle.pfs_conf_values.specs.LoadRules.{IsTimeout}
 use Rattle.pfs_conf_values.specs.Bounds.{greatest_timeout, least_timeout}
-use Rattle.pfs_conf_values.specs.Timeouts.{place_of}
+use Rattle.pfs_conf_values.specs.Settled.{settled_item}
+use Rattle.pfs_conf_values.specs.Timeouts.{place_of, tenths_of}
+use Rattle.pfs_conf_values.proofs.SettledLaws.{overloads_settled_items, settled_AreNamedOnce, settled_IsPreorder, settled_items_IsItem, settled_items_again}
+use Rattle.pfs_conf_values.specs.declared.profiles.Profile.{Profile}
+use Rattle.pfs_conf_values.specs.declared.profiles.Profile.TheVariants as profile
 use Rattle.pfs_conf_values.specs.declared.items.Item.{Item}
 use Rattle.pfs_conf_values.specs.declared.timeouts.TimeoutName.{TimeoutName}
 use Rattle.pfs_conf_values.specs.declared.timeouts.TimeoutName.TheVariants as timeout
@@ -65,23 +70,31 @@ or_true : (b : Bool) → (b || true) ≡ true
 or_true true = refl
 or_true false = refl
 
+-- in order, or both 0
+in_order_is : (start end : ℕ) → start < end → is_adaptive start end ≡ true
+in_order_is start end h = ap (λ b. ((start == 0) && (end == 0)) || b) (lt-ltb start end h) ∙ or_true _
+
 -- the default pair is one
-default_adaptive : (states : ℕ) → 1 ≤ states → is_adaptive (6 * states / 10) (12 * states / 10) ≡ true
-default_adaptive states h =
-    let less = lt-ltb (6 * states / 10) (12 * states / 10) (omega arith) in
-    ap (λ b. ((6 * states / 10 == 0) && (12 * states / 10 == 0)) || b) less ∙ or_true _
+default_adaptive : (p : Profile) (states : ℕ) → 1 ≤ states → is_adaptive (tenths_of p 6 states) (tenths_of p 12 states) ≡ true
+default_adaptive profile.Own states h = in_order_is (6 * states / 10) (12 * states / 10) (omega arith)
+default_adaptive profile.OpenBsd74 states h = by (states / 10)
+  where
+    by : (n : ℕ) → is_adaptive (n * 6) (n * 12) ≡ true
+    by zero = refl
+    by (suc n) = in_order_is (suc n * 6) (suc n * 12) (omega arith)
 
 -- a pair that is not broken
-adaptive : (states : ℕ) (start end : Option ℕ) → 1 ≤ states → broken_pair start end ≡ false
-    → is_adaptive (unwrap_or start (6 * states / 10)) (unwrap_or end (12 * states / 10)) ≡ true
-adaptive states None None h whole = default_adaptive states h
-adaptive states (Some s) (Some e) h whole = not-false _ whole
-adaptive states None (Some e) h whole = absurd (false≢true (sym whole))
-adaptive states (Some s) None h whole = absurd (false≢true (sym whole))
+adaptive : (p : Profile) (states : ℕ) (start end : Option ℕ) → 1 ≤ states → broken_pair start end ≡ false
+    → is_adaptive (unwrap_or start (tenths_of p 6 states)) (unwrap_or end (tenths_of p 12 states)) ≡ true
+adaptive p states None None h whole = default_adaptive p states h
+adaptive p states (Some s) (Some e) h whole = not-false _ whole
+adaptive p states None (Some e) h whole = absurd (false≢true (sym whole))
+adaptive p states (Some s) None h whole = absurd (false≢true (sym whole))
 
-adaptive_end_is : (states : ℕ) (end : Option ℕ) → states ≤ 4294967295 → IfSome end (IsTimeout 15) → unwrap_or end (12 * states / 10) < 2 ^ 33
-adaptive_end_is states None h k = omega arith
-adaptive_end_is states (Some n) h k = omega arith
+adaptive_end_is : (p : Profile) (states : ℕ) (end : Option ℕ) → states ≤ 4294967295 → IfSome end (IsTimeout 15) → unwrap_or end (tenths_of p 12 states) < 2 ^ 33
+adaptive_end_is profile.Own states None h k = omega arith
+adaptive_end_is profile.OpenBsd74 states None h k = omega arith
+adaptive_end_is p states (Some n) h k = omega arith
 
 -- a draft that keeps the rules of the whole text is a configuration
 pub IsConfig_finished : (d : Drafted) → IsDraft d → All IsTable d.tables → IsDistinct bytes_eq (table_names d.tables)
@@ -92,16 +105,17 @@ IsConfig_finished d k tables names pair overloads few entries = record {
   seconds = seconds d k;
   interval = resolved_least 13 10 _ (k.timeouts 13) (omega arith);
   adaptive =
-      adaptive d.limits.states (slice_index_or d.timeouts (place_of timeout.AdaptiveStart) None)
+      adaptive d.profile d.limits.states (slice_index_or d.timeouts (place_of timeout.AdaptiveStart) None)
       (slice_index_or d.timeouts (place_of timeout.AdaptiveEnd) None) k.limits.states.0 pair;
-  adaptive_end = adaptive_end_is d.limits.states _ k.limits.states.1 (k.timeouts 15);
+  adaptive_end = adaptive_end_is d.profile d.limits.states _ k.limits.states.1 (k.timeouts 15);
   tables = tables;
   names = names;
   few_tables = ltb-false _ _ few;
   few_entries = ltb-false _ _ entries;
-  items = k.items;
-  few_items = k.few_items;
-  preorder = k.preorder;
-  anchors = k.anchors;
-  overloads = none_passes (overloads_const d.tables) d.items overloads;
+  items = settled_items_IsItem d.profile (length d.tables) d.items k.items;
+  few_items = let same = length-map d.items (settled_item d.profile) in let few = k.few_items in omega (arith, same, few);
+  preorder = settled_IsPreorder d.profile 0 d.items k.preorder;
+  anchors = settled_AreNamedOnce d.profile d.items k.anchors;
+  overloads = overloads_settled_items d.profile d.tables d.items ∙ none_passes (overloads_const d.tables) d.items overloads;
+  settled = settled_items_again d.profile (length d.tables) d.items k.items;
 }

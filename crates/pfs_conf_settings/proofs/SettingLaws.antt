@@ -8,11 +8,12 @@ use Rattle.pfs_conf_tokens.proofs.Laws.{Taking, OnlineAct, Online, across, onlin
 use Rattle.pfs_conf_tokens.proofs.ReaderLaws.{closes_braces_before_end, online_list, next_shrinks, online_skipping, skipping_shrinks, online_number}
 use Rattle.pfs_conf_values.specs.declared.limits.LimitName.{LimitName}
 use Rattle.pfs_conf_values.specs.declared.limits.LimitName.TheVariants as limit
+use Rattle.pfs_conf_values.specs.declared.profiles.Profile.TheVariants as profile
 use Rattle.pfs_conf_values.specs.declared.timeouts.TimeoutName.{TimeoutName}
 use Rattle.pfs_conf_settings.specs.declared.settings.Setting.{Setting}
 use Rattle.pfs_conf_settings.specs.declared.settings.Setting.TheVariants as setting
-use Rattle.pfs_conf_settings.specs.Drafts.{Drafted, with_limit, with_timeout}
-use Rattle.pfs_conf_settings.specs.Settings.{timeout_named, bounded_at, limit_statement, limit_by, limit_at, least_value, greatest_value, unkept, timeout_statement, time_by, time_at, setting_at, lined_setting_at, some_settings_by, some_settings_at, settings_by, settings_at}
+use Rattle.pfs_conf_settings.specs.Drafts.{Drafted, with_limit, with_profile, with_timeout}
+use Rattle.pfs_conf_settings.specs.Settings.{timeout_named, bounded_at, limit_statement, limit_by, limit_at, least_value, greatest_value, unkept, timeout_statement, time_by, time_at, setting_at, lined_setting_at, some_settings_by, some_settings_at, profile_by, profile_at, settings_by, settings_at}
 
 -- ---- a pair of a name and a number
 
@@ -102,7 +103,16 @@ online_some_settings : (s : Setting) (d : Drafted) → Online across (some_setti
 unfolding some_settings_at
 online_some_settings s d = online_front (λ t. some_settings_by s d t.key) (λ t. some_settings_act s d t.key)
 
+profile_taking : (d : Drafted) (k : Key) → Taking across k (profile_by d k)
+profile_taking d key.OpenBsd74 = (refl, online_done (with_profile profile.OpenBsd74 d))
+profile_taking d _ = tt
+
+online_profile : (d : Drafted) → Online across (profile_at d)
+unfolding profile_at
+online_profile d = online_taking (λ t. profile_by d t.key) (λ t. profile_taking d t.key)
+
 settings_act : (d : Drafted) (k : Key) → OnlineAct across k (settings_by d k)
+settings_act d key.Profile = (refl, online_profile d)
 settings_act d key.Limit = (refl, online_some_settings setting.Limit d)
 settings_act d key.Timeout = (refl, online_some_settings setting.Timeout d)
 settings_act d _ = tt

@@ -10,12 +10,13 @@ use Rattle.pfs_conf_tokens.proofs.Laws.{ok_parts, chain_ok, not_refused}
 use Rattle.pfs_conf_tokens.proofs.ReaderLaws.{closes_braces_key, line_end_key, word_head, word_is, number_is, number_reads, list_is, list_reads, ReadsList, no_comma}
 use Rattle.pfs_conf_tokens.proofs.LineLaws.{skip_stays}
 use Rattle.pfs_conf_values.specs.declared.limits.LimitName.TheVariants as limit_name
+use Rattle.pfs_conf_values.specs.declared.profiles.Profile.TheVariants as profile_name
 use Rattle.pfs_conf_values.specs.declared.timeouts.TimeoutName.{TimeoutName}
 use Rattle.pfs_conf_settings.specs.declared.settings.Setting.{Setting}
 use Rattle.pfs_conf_settings.specs.declared.settings.Setting.TheVariants as setting
-use Rattle.pfs_conf_settings.specs.Drafts.{Drafted, with_limit, with_timeout}
-use Rattle.pfs_conf_settings.specs.Settings.{timeout_named, bounded_at, limit_by, limit_at, least_value, greatest_value, timeout_statement, time_by, time_at, setting_at, lined_setting_at, some_settings_by, some_settings_at, settings_by, settings_at}
-use Rattle.pfs_conf_settings.specs.SettingGrammar.{ValueOf, plain, lined, LimitOf, states, src_nodes, tables, table_entries, frags, TimeOf, kept, frag, tsdiff, icmp_first, icmp_error, AmongLines, SettingOf, limit, limits, timeout, timeouts}
+use Rattle.pfs_conf_settings.specs.Drafts.{Drafted, with_limit, with_profile, with_timeout}
+use Rattle.pfs_conf_settings.specs.Settings.{timeout_named, bounded_at, limit_by, limit_at, least_value, greatest_value, timeout_statement, time_by, time_at, setting_at, lined_setting_at, some_settings_by, some_settings_at, profile_by, profile_at, settings_by, settings_at}
+use Rattle.pfs_conf_settings.specs.SettingGrammar.{ValueOf, plain, lined, LimitOf, states, src_nodes, tables, table_entries, frags, TimeOf, kept, frag, tsdiff, icmp_first, icmp_error, AmongLines, SettingOf, profile, limit, limits, timeout, timeouts}
 use Rattle.pfs_conf_settings.proofs.SettingLaws.{lined_shrinks}
 use Rattle.pfs_conf_settings.proofs.TimeoutKeys.{placed, named}
 
@@ -100,11 +101,22 @@ some_settings_are s d ts a e left w h = by_key (head a).key refl h
     by_key key.OpenBrace g q = list_of s w (word_is key.OpenBrace a g (λ r. cc)) (list_is key.CloseBrace closes_braces (AmongLines (OfSetting s true)) (lined_setting_at s) closes_braces_key (λ r. cc) (lined_is s) d (rest a) e left q)
     by_key _ g q = one_is s w (setting_is s false d a e left q)
 
+profile_is : (d : Drafted) (ts a : List Tok) (e : Drafted) (left : List Tok) → Word key.Profile ts a → profile_at d a ≡ Ok (e, left) → SettingOf d ts e left
+unfolding profile_at
+profile_is d ts a e left w h = by_key (head a).key refl h
+  where
+    by_key : (k : Key) → (head a).key ≡ k → act (profile_by d k) a ≡ Ok (e, left) → SettingOf d ts e left
+    by_key key.OpenBsd74 g q =
+        let r = ok_parts (with_profile profile_name.OpenBsd74 d) e (rest a) left q in
+        subst (λ (z : Drafted). SettingOf d ts z left) r.0 (profile w (subst (λ (z : List Tok). Word key.OpenBsd74 a z) r.1 (word_is key.OpenBsd74 a g (λ r. cc))))
+    by_key _ g q = absurd (not_refused _ _ _ q)
+
 pub settings_are : (d : Drafted) (ts : List Tok) (e : Drafted) (left : List Tok) → settings_at d ts ≡ Ok (e, left) → SettingOf d ts e left
 unfolding settings_at
 settings_are d ts e left h = by_key (head ts).key refl h
   where
     by_key : (k : Key) → (head ts).key ≡ k → act (settings_by d k) ts ≡ Ok (e, left) → SettingOf d ts e left
+    by_key key.Profile g q = profile_is d ts (rest ts) e left (word_is key.Profile ts g (λ r. cc)) q
     by_key key.Limit g q = some_settings_are setting.Limit d ts (rest ts) e left (word_is key.Limit ts g (λ r. cc)) q
     by_key key.Timeout g q = some_settings_are setting.Timeout d ts (rest ts) e left (word_is key.Timeout ts g (λ r. cc)) q
     by_key _ g q = absurd (not_refused _ _ _ q)
@@ -212,7 +224,8 @@ time_stays d (icmp_first w v) = rw (word_head w).0 refl
 time_stays d (icmp_error w v) = rw (word_head w).0 refl
 
 pub settings_read : {d e : Drafted} {ts left : List Tok} → SettingOf d ts e left → settings_at d ts ≡ Ok (e, left)
-unfolding settings_at some_settings_at
+unfolding settings_at some_settings_at profile_at
+settings_read (profile w v) = let h = word_head w in let i = word_head v in rw (h.0, h.1, i.0, i.1) refl
 settings_read {d = d} (limit w v) = let h = word_head w in rw (h.0, h.1, limit_stays d v) (limit_reads v)
 settings_read (limits w o v) = let h = word_head w in let i = word_head o in rw (h.0, h.1, i.0, i.1) (list_reads (settings_readable setting.Limit) v)
 settings_read {d = d} (timeout w v) = let h = word_head w in rw (h.0, h.1, time_stays d v) (time_reads v)

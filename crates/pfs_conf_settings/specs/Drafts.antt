@@ -4,16 +4,20 @@ use Rattle.pfs_conf_values.specs.Configs.{Conf, entries_in, is_adaptive, overloa
 use Rattle.pfs_conf_values.specs.Limits.{default_limits, limits_with}
 use Rattle.pfs_conf_settings.specs.Namings.{Named, defining, is_defined_in, naming, place_in, table_number}
 use Rattle.pfs_conf_values.specs.Timeouts.{no_timeouts, place_of, resolved_timeouts}
+use Rattle.pfs_conf_values.specs.Settled.{settled_items}
 use Rattle.pfs_conf_values.specs.declared.items.Item.{Item}
 use Rattle.pfs_conf_values.specs.declared.limits.LimitName.{LimitName}
 use Rattle.pfs_conf_values.specs.declared.limits.Limits.{Limits}
+use Rattle.pfs_conf_values.specs.declared.profiles.Profile.{Profile}
+use Rattle.pfs_conf_values.specs.declared.profiles.Profile.TheVariants as profile
 use Rattle.pfs_conf_values.specs.declared.tables.TableDef.{TableDef}
 use Rattle.pfs_conf_values.specs.declared.timeouts.TimeoutName.{TimeoutName}
 use Rattle.pfs_conf_values.specs.declared.timeouts.TimeoutName.TheVariants as timeout
 
--- what the first statements of a text say: the limits, the timeouts that are set, by their places, the tables that are
--- named, which of them are defined, and the items
+-- what the first statements of a text say: the profile, the limits, the timeouts that are set, by their places, the tables
+-- that are named, which of them are defined, and the items
 pub record Drafted : Type 0 where
+  pub profile : Profile
   pub limits : Limits
   pub timeouts : List (Option ℕ)
   pub tables : List TableDef
@@ -22,9 +26,13 @@ pub record Drafted : Type 0 where
 
 -- no statement is read
 abbrev pub empty_draft : Drafted
-empty_draft = record { limits = default_limits; timeouts = no_timeouts; tables = []; defined = []; items = [] }
+empty_draft = record { profile = profile.Own; limits = default_limits; timeouts = no_timeouts; tables = []; defined = []; items = [] }
 
 -- ---- what a statement changes
+
+-- `set profile`
+abbrev pub with_profile : Profile → Drafted → Drafted
+with_profile p d = record d { profile = p }
 
 -- `set limit` (pf.conf(5), OPTIONS)
 abbrev pub with_limit : LimitName → ℕ → Drafted → Drafted
@@ -88,11 +96,13 @@ has_too_many_tables d = nat_lt d.limits.tables (length d.tables)
 abbrev pub has_too_many_entries : Drafted → Bool
 has_too_many_entries d = nat_lt d.limits.table_entries (entries_in d.tables)
 
--- what a text says whose statements say this: what it does not set has its default
+-- what a text says whose statements say this: what it does not set has its default, and its rules have what its profile gives
+-- them
 abbrev pub conf_of_draft : Drafted → Conf
 conf_of_draft d = record {
+  profile = d.profile;
   limits = d.limits;
-  timeouts = resolved_timeouts d.limits.states d.timeouts;
+  timeouts = resolved_timeouts d.profile d.limits.states d.timeouts;
   tables = d.tables;
-  items = d.items;
+  items = settled_items d.profile d.items;
 }

@@ -6,8 +6,9 @@ use Rattle.pfs_conf_tokens.specs.Tokens.{Tok}
 use Rattle.pfs_conf_tokens.specs.Keys.{timeout_place}
 use Rattle.pfs_conf_tokens.specs.Grammar.{Word, Number, ListOf, skip_lines}
 use Rattle.pfs_conf_values.specs.declared.limits.LimitName.TheVariants as limit_name
+use Rattle.pfs_conf_values.specs.declared.profiles.Profile.TheVariants as profile_name
 use Rattle.pfs_conf_values.specs.declared.timeouts.TimeoutName.{TimeoutName}
-use Rattle.pfs_conf_settings.specs.Drafts.{Drafted, with_limit, with_timeout}
+use Rattle.pfs_conf_settings.specs.Drafts.{Drafted, with_limit, with_profile, with_timeout}
 use Rattle.pfs_conf_values.specs.Bounds.{least_timeout, greatest_timeout}
 use Rattle.pfs_conf_values.specs.Timeouts.{place_of}
 
@@ -39,8 +40,9 @@ pub record AmongLines {A : Type 0} (Item : A → List Tok → A → List Tok →
   pub item : Item a (skip_lines ts) c mid
   pub behind : left ≡ skip_lines mid
 
--- "limit" limit | "limit" "{" list(limit) "}" | "timeout" time | "timeout" "{" list(time) "}"
+-- "profile" "openbsd-7.4" | "limit" limit | "limit" "{" list(limit) "}" | "timeout" time | "timeout" "{" list(time) "}"
 pub data SettingOf : Drafted → List Tok → Drafted → List Tok → Type 0 where
+  profile : {d : Drafted} {ts a left : List Tok} → Word key.Profile ts a → Word key.OpenBsd74 a left → SettingOf d ts (with_profile profile_name.OpenBsd74 d) left
   limit : {d e : Drafted} {ts a left : List Tok} → Word key.Limit ts a → LimitOf false d a e left → SettingOf d ts e left
   limits : {d e : Drafted} {ts a b left : List Tok} → Word key.Limit ts a → Word key.OpenBrace a b → ListOf key.CloseBrace (AmongLines (LimitOf true)) d b e left → SettingOf d ts e left
   timeout : {d e : Drafted} {ts a left : List Tok} → Word key.Timeout ts a → TimeOf false d a e left → SettingOf d ts e left

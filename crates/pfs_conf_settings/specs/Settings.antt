@@ -1,4 +1,4 @@
--- How the statements that set limits and timeouts are read. Line ends are ignored between any two tokens in braces.
+-- How the statements that set the profile, limits and timeouts are read. Line ends are ignored between any two tokens in braces.
 use Rattle.std.specs.Prelude.{ℕ, Bool, true, false, Option, Some, None}
 use Rattle.pfs_conf_tokens.specs.declared.keys.Key.{Key}
 use Rattle.pfs_conf_tokens.specs.declared.keys.Key.TheVariants as key
@@ -6,11 +6,12 @@ use Rattle.pfs_conf_tokens.specs.declared.refusals.Why.TheVariants as why
 use Rattle.pfs_conf_tokens.specs.Reading.{closes_braces, Reader, Act, take, stay, refuse, on_front, done, chain, list_all, skipping, number_at}
 use Rattle.pfs_conf_values.specs.declared.limits.LimitName.{LimitName}
 use Rattle.pfs_conf_values.specs.declared.limits.LimitName.TheVariants as limit
+use Rattle.pfs_conf_values.specs.declared.profiles.Profile.TheVariants as profile
 use Rattle.pfs_conf_values.specs.declared.timeouts.TimeoutName.{TimeoutName}
 use Rattle.pfs_conf_values.specs.declared.timeouts.TimeoutName.TheVariants as timeout
 use Rattle.pfs_conf_settings.specs.declared.settings.Setting.{Setting}
 use Rattle.pfs_conf_settings.specs.declared.settings.Setting.TheVariants as setting
-use Rattle.pfs_conf_settings.specs.Drafts.{Drafted, with_limit, with_timeout}
+use Rattle.pfs_conf_settings.specs.Drafts.{Drafted, with_limit, with_profile, with_timeout}
 use Rattle.pfs_conf_values.specs.Bounds.{least_timeout, greatest_timeout}
 use Rattle.pfs_conf_values.specs.Timeouts.{place_of}
 
@@ -96,8 +97,17 @@ some_settings_by s d _ = stay (setting_at s false d)
 unfoldable pub some_settings_at : Setting → Drafted → Reader Drafted
 some_settings_at s d ts = on_front (λ t. some_settings_by s d t.key) ts
 
+-- the name of a profile
+abbrev pub profile_by : Drafted → Key → Act Drafted
+profile_by d key.OpenBsd74 = take (done (with_profile profile.OpenBsd74 d))
+profile_by d _ = refuse why.Plain
+
+unfoldable pub profile_at : Drafted → Reader Drafted
+profile_at d ts = on_front (λ t. profile_by d t.key) ts
+
 -- what follows `set`
 abbrev pub settings_by : Drafted → Key → Act Drafted
+settings_by d key.Profile = take (profile_at d)
 settings_by d key.Limit = take (some_settings_at setting.Limit d)
 settings_by d key.Timeout = take (some_settings_at setting.Timeout d)
 settings_by d _ = refuse why.Setting

@@ -5,16 +5,18 @@ ghost use Rattle.std.specs.Option.{option_map};
 ghost use Rattle.pfs_addr_values.specs.Names.{is_name};
 ghost use Rattle.pfs_conf_values.specs.Configs.{is_const_table, overloads_const};
 ghost use Rattle.pfs_conf_values.specs.Order.{depth_after, next_depth, repeats_by, repeats_name};
-ghost use Rattle.pfs_conf_settings.specs.Drafts.{broken_pair, const_overload, empty_draft, conf_of_draft, has_broken_pair, has_too_many_entries, has_too_many_tables, is_defined, number_of_table, with_item, with_limit, with_name, with_table, with_timeout};
+ghost use Rattle.pfs_conf_settings.specs.Drafts.{broken_pair, const_overload, empty_draft, conf_of_draft, has_broken_pair, has_too_many_entries, has_too_many_tables, is_defined, number_of_table, with_item, with_limit, with_name, with_profile, with_table, with_timeout};
 ghost use Rattle.pfs_conf_values.specs.LoadRules.{IsAnchor, IsCount, IsItem, IsRule, IsTimeout};
+ghost use Rattle.pfs_conf_values.specs.Settled.{settled_items};
 ghost use Rattle.pfs_conf_values.specs.Siblings.{has_sibling, is_anchor_named};
 ghost use Rattle.pfs_conf_values.specs.Timeouts.{place_of};
 
 use crate::named_tables::NamedTables;
 use pfs_addr_values::NoMemory;
 use pfs_conf_values::{
-    Action, Anchor, AnchorName, Config, Item, ItemKind, LimitName, Limits, Rule, RuleNo,
+    Action, Anchor, AnchorName, Config, Item, ItemKind, LimitName, Limits, Profile, Rule, RuleNo,
     RuleTimeouts, RulesHasher, TableDef, TableName, TableNo, TimeoutName, Timeouts, count_entries,
+    settle_items,
 };
 use std::alloc::Global;
 use std::marker::Model;
@@ -26,6 +28,7 @@ use std::marker::Model;
 /// then as before.
 #[derive(Debug, Drop)]
 pub struct Draft {
+    profile: Profile,
     limits: Limits,
     timeouts: RuleTimeouts,
     tables: NamedTables,
@@ -39,13 +42,13 @@ impl Model for Draft {
 
     ghost Value = { Drafted };
 
-    ghost view = { λ d. record { limits = d.limits; timeouts = d.timeouts; tables = d.tables.tables; defined = d.tables.defined; items = d.items.items } };
+    ghost view = { λ d. record { profile = d.profile; limits = d.limits; timeouts = d.timeouts; tables = d.tables.tables; defined = d.tables.defined; items = d.items.items } };
 
-    ghost invariant = { λ d. IsDraft (record { limits = d.limits; timeouts = d.timeouts; tables = d.tables.tables; defined = d.tables.defined; items = d.items.items }) };
+    ghost invariant = { λ d. IsDraft (record { profile = d.profile; limits = d.limits; timeouts = d.timeouts; tables = d.tables.tables; defined = d.tables.defined; items = d.items.items }) };
 }
 
 impl Draft {
-    /// The draft of a text of which nothing has been read: the default limits, no timeout set, no tables and items. Its
+    /// The draft of a text of which nothing has been read: no profile, the default limits, no timeout set, no tables and items. Its
     /// hasher was fed with nothing; for a stranger's text use `with_hasher`. It takes no memory.
     pub fn new(alloc: Global) -> Draft
         ensures { result ≡ empty_draft }
@@ -58,6 +61,7 @@ impl Draft {
         ensures { result ≡ empty_draft }
     {
         Draft {
+            profile: Profile::Own,
             limits: Limits::DEFAULT,
             timeouts: RuleTimeouts::new(),
             tables: NamedTables::new(alloc, hasher),
@@ -69,6 +73,13 @@ impl Draft {
     /// The hasher that the draft was made with.
     pub fn hasher(&self) -> RulesHasher {
         self.hasher
+    }
+
+    /// Sets the profile. It takes effect at the end of the text, also on what is read before.
+    pub fn set_profile(&mut self, profile: Profile)
+        ensures { self.new ≡ with_profile profile self.old }
+    {
+        self.profile = profile;
     }
 
     /// Sets a limit, 1 to 4294967295. A later value replaces an earlier one. (pf.conf(5), OPTIONS, "set limit")
@@ -212,7 +223,8 @@ impl Draft {
         count_entries(self.tables.tables()) > u64::from(self.limits.table_entries)
     }
 
-    /// What a text says that ends here; what it does not set has its default. It takes no memory.
+    /// What a text says that ends here; what it does not set has its default, and its rules have what its profile gives them. It takes
+    /// no memory.
     pub fn finish(self) -> Config
         requires pair { has_broken_pair self ≡ false }
         requires overloads { const_overload self ≡ None }
@@ -221,6 +233,7 @@ impl Draft {
         ensures { result ≡ conf_of_draft self }
     {
         let Draft {
+            profile,
             limits,
             timeouts,
             tables,
@@ -228,9 +241,19 @@ impl Draft {
             hasher: _,
         } = self;
         let tables = tables.into_tables();
-        let timeouts = Timeouts::resolved(&timeouts, limits.states);
-        Config::of_parts(limits, timeouts, tables, items)
+        let timeouts = Timeouts::resolved(&timeouts, profile, limits.states);
+        let items = settled(profile, items);
+        Config::of_parts(profile, limits, timeouts, tables, items)
     }
+}
+
+/// The items of a text that ends, as they are under its profile.
+fn settled(profile: Profile, items: Vec<Item>) -> Vec<Item>
+    ensures { result.items ≡ settled_items profile items.items }
+{
+    let mut items = items;
+    settle_items(profile, &mut items);
+    items
 }
 
 fn has_sibling(items: &[Item], depth: u8, name: &AnchorName) -> bool

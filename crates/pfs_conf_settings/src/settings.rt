@@ -4,11 +4,11 @@ ghost use Rattle.std.specs.Prelude.{◌≡◌, ◌≤◌, Some, IfOk};
 ghost use Rattle.pfs_conf_tokens.specs.Reading.{closes_braces, act, number_at, until_all, next_of};
 ghost use Rattle.pfs_conf_tokens.specs.Giving.{Gives};
 ghost use Rattle.pfs_conf_settings.specs.Draws.{Draws};
-ghost use Rattle.pfs_conf_settings.specs.Settings.{timeout_named, bounded_at, least_value, greatest_value, limit_statement, timeout_statement, limit_at, time_at, setting_at, lined_setting_at, some_settings_at, settings_at};
+ghost use Rattle.pfs_conf_settings.specs.Settings.{timeout_named, bounded_at, least_value, greatest_value, limit_statement, timeout_statement, limit_at, profile_at, time_at, setting_at, lined_setting_at, some_settings_at, settings_at};
 
 use crate::drafts::Draft;
 use pfs_conf_tokens::{Cursor, Key, Refusal, Why, number, skip_lines};
-use pfs_conf_values::{LimitName, TimeoutName};
+use pfs_conf_values::{LimitName, Profile, TimeoutName};
 
 /// What a `set` statement sets.
 #[derive(Debug, Clone, Copy, PartialEq, Eq)]
@@ -21,9 +21,9 @@ pub enum Setting {
 
 /// Reads what follows the word `set`, up to the line end, which stays, and sets it: a later value replaces an earlier one.
 ///
-/// It refuses what continues no `set` statement, with the cursor at that token. `set` is followed by `limit` or
-/// `timeout`, and then by one pair of a name and a number, or by a list of them in braces, in which line ends are
-/// ignored. `frags`, `frag`, `tcp.tsdiff`, `icmp.first` and `icmp.error` are read without effect. Where it refuses,
+/// It refuses what continues no `set` statement, with the cursor at that token. `set` is followed by `profile` and
+/// `openbsd-7.4`, or by `limit` or `timeout`, and then by one pair of a name and a number, or by a list of them in braces, in
+/// which line ends are ignored. `frags`, `frag`, `tcp.tsdiff`, `icmp.first` and `icmp.error` are read without effect. Where it refuses,
 /// what was read before the refused token may have been set. It takes no memory. (pf.conf(5), OPTIONS, "set limit" and
 /// "set timeout")
 #[tactic(auto, unfolding(crate::specs::Settings::settings_at))]
@@ -31,6 +31,10 @@ pub fn read_settings(cursor: &mut Cursor, draft: &mut Draft) -> Result<(), Refus
     ensures { Draws result cursor.new draft.new (settings_at draft.old cursor.old) }
 {
     match cursor.key() {
+        Key::Profile => {
+            cursor.advance();
+            profile(cursor, draft)
+        }
         Key::Limit => {
             cursor.advance();
             some_settings(cursor, draft, Setting::Limit)
@@ -40,6 +44,21 @@ pub fn read_settings(cursor: &mut Cursor, draft: &mut Draft) -> Result<(), Refus
             some_settings(cursor, draft, Setting::Timeout)
         }
         _ => Err(Refusal::Stop(Why::Setting)),
+    }
+}
+
+/// The name of a profile.
+#[tactic(auto, unfolding(crate::specs::Settings::profile_at))]
+fn profile(cursor: &mut Cursor, draft: &mut Draft) -> Result<(), Refusal>
+    ensures { Draws result cursor.new draft.new (profile_at draft.old cursor.old) }
+{
+    match cursor.key() {
+        Key::OpenBsd74 => {
+            cursor.advance();
+            draft.set_profile(Profile::OpenBsd74);
+            Ok(())
+        }
+        _ => Err(Refusal::Stop(Why::Plain)),
     }
 }
 

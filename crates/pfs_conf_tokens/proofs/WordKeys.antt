@@ -39,6 +39,14 @@ pub key_of_Frags : key_of_text (codes "frags") ≡ key.Frags
 unfolding key_of_text
 key_of_Frags = refl
 
+pub key_of_Profile : key_of_text (codes "profile") ≡ key.Profile
+unfolding key_of_text
+key_of_Profile = refl
+
+pub key_of_OpenBsd74 : key_of_text (codes "openbsd-7.4") ≡ key.OpenBsd74
+unfolding key_of_text
+key_of_OpenBsd74 = refl
+
 pub key_of_Table : key_of_text (codes "table") ≡ key.Table
 unfolding key_of_text
 key_of_Table = refl

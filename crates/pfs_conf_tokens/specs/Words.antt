@@ -19,7 +19,7 @@ statement_words =
     ∷ (codes "counters", key.Counters) ∷ (codes "drop", key.Drop) ∷ (codes "return", key.Return)
     ∷ (codes "return-rst", key.ReturnRst) ∷ (codes "return-icmp", key.ReturnIcmp)
     ∷ (codes "return-icmp6", key.ReturnIcmp6) ∷ (codes "anchor", key.Anchor) ∷ (codes "matches", key.Matches)
-    ∷ (codes "user", key.User) ∷ []
+    ∷ (codes "user", key.User) ∷ (codes "profile", key.Profile) ∷ (codes "openbsd-7.4", key.OpenBsd74) ∷ []
 
 -- words of the state clause, and the names of timeouts
 abbrev pub option_words : List (List ℕ × Key)

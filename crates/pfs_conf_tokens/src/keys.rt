@@ -22,6 +22,10 @@ pub enum Key {
     TableEntries,
     /// `frags`
     Frags,
+    /// `profile`
+    Profile,
+    /// `openbsd-7.4`
+    OpenBsd74,
     /// `table`
     Table,
     /// `persist`

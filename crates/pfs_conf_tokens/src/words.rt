@@ -150,11 +150,12 @@ static SIX: [(&[u8], Key); 12] = [
     (b"dup-to", Key::Foreign),
 ];
 
-static SEVEN: [(&[u8], Key); 6] = [
+static SEVEN: [(&[u8], Key); 7] = [
     (b"rdomain", Key::Rdomain),
     (b"timeout", Key::Timeout),
     (b"persist", Key::Persist),
     (b"matches", Key::Matches),
+    (b"profile", Key::Profile),
     (b"no-sync", Key::NoSync),
     (b"include", Key::Foreign),
 ];
@@ -195,8 +196,9 @@ static TEN: [(&[u8], Key); 8] = [
     (b"allow-opts", Key::Foreign),
 ];
 
-static ELEVEN: [(&[u8], Key); 7] = [
+static ELEVEN: [(&[u8], Key); 8] = [
     (b"return-icmp", Key::ReturnIcmp),
+    (b"openbsd-7.4", Key::OpenBsd74),
     (b"tcp.opening", Key::TcpOpening),
     (b"tcp.closing", Key::TcpClosing),
     (b"tcp.finwait", Key::TcpFinwait),

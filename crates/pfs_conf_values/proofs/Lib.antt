@@ -1,1 +1,3 @@
 pub mod RuleLaws
+pub mod SettledLaws
+mod Worked

@@ -9,6 +9,7 @@ use Rattle.pfs_conf_values.specs.Entries.{TextEntry, same_network}
 use Rattle.pfs_conf_values.specs.Hashing.{hasher_of}
 use Rattle.pfs_conf_values.specs.LoadRules.{IsCount, IsItem}
 use Rattle.pfs_conf_values.specs.Order.{AreNamedOnce, IsPreorder}
+use Rattle.pfs_conf_values.specs.Settled.{settled_items}
 use Rattle.pfs_conf_values.specs.declared.hashing.RulesHasher.{RulesHasher}
 use Rattle.pfs_conf_values.specs.declared.limits.Limits.{Limits}
 use Rattle.pfs_conf_values.specs.declared.tables.TableDef.{TableDef}
@@ -51,6 +52,7 @@ pub record IsConfig (conf : Conf) : Type 0 where
   pub preorder : IsPreorder 0 conf.items
   pub anchors : AreNamedOnce [] conf.items
   pub overloads : list_any (overloads_const conf.tables) conf.items ≡ false
+  pub settled : settled_items conf.profile conf.items ≡ conf.items
 
 -- a configuration, beside which are the count of its entries, and its hasher
 pub record IsConfigKept (entries : ℕ) (hasher : RulesHasher) (conf : Conf) : Type 0 where

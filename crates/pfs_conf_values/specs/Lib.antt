@@ -8,5 +8,6 @@ pub mod Limits
 pub mod LoadRules
 pub mod Order
 pub mod Profiles
+pub mod Settled
 pub mod Siblings
 pub mod Timeouts

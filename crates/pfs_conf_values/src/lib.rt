@@ -8,6 +8,7 @@ mod hashing;
 mod items;
 mod limits;
 mod profiles;
+mod settling;
 mod tables;
 mod timeouts;
 
@@ -18,5 +19,6 @@ pub use hashing::RulesHasher;
 pub use items::{Anchor, AnchorName, Item, ItemKind, Rule, RuleNo};
 pub use limits::{LimitName, Limits};
 pub use profiles::Profile;
+pub use settling::settle_items;
 pub use tables::{Entries, TableDef};
 pub use timeouts::{RuleTimeouts, TimeoutName, Timeouts};

@@ -1,8 +1,9 @@
 //! The timeouts: the global ones, and those that a rule gives for its own states.
 
 ghost use Rattle.std.specs.Prelude.{◌≡◌, ◌<◌, ◌≤◌, ◌^◌, slice_index, slice_index_or, slice_set, None, Some};
-ghost use Rattle.pfs_conf_values.specs.Timeouts.{default_timeout, place_of, no_timeouts, resolved_timeout, resolved_timeouts};
+ghost use Rattle.pfs_conf_values.specs.Timeouts.{default_timeout, place_of, no_timeouts, resolved_timeout, resolved_timeouts, tenths_of};
 
+use crate::profiles::Profile;
 use std::marker::Model;
 
 /// A timeout of `set timeout`, in seconds but for the last two, which count states.
@@ -94,8 +95,8 @@ impl TimeoutName {
     }
 
     /// The value where `set timeout` gives none and so many states may be held.
-    fn default_value(self, states: u32) -> u64
-        ensures { result ≡ default_timeout states self }
+    fn default_value(self, profile: Profile, states: u32) -> u64
+        ensures { result ≡ default_timeout profile states self }
     {
         match self {
             TimeoutName::TcpFirst => 120,
@@ -112,9 +113,20 @@ impl TimeoutName {
             TimeoutName::OtherMultiple => 60,
             TimeoutName::SrcTrack => 0,
             TimeoutName::Interval => 10,
-            TimeoutName::AdaptiveStart => 6 * u64::from(states) / 10,
-            TimeoutName::AdaptiveEnd => 12 * u64::from(states) / 10,
+            TimeoutName::AdaptiveStart => tenths_of(profile, 6, states),
+            TimeoutName::AdaptiveEnd => tenths_of(profile, 12, states),
         }
+    }
+}
+
+/// So many tenths of a number of states; to OpenBSD of its whole tens. (pf.conf(5), OPTIONS, "adaptive.start")
+pub fn tenths_of(profile: Profile, count: u64, states: u32) -> u64
+    requires { count ≤ 12 }
+    ensures { result ≡ tenths_of profile count states }
+{
+    match profile {
+        Profile::Own => count * u64::from(states) / 10,
+        Profile::OpenBsd74 => u64::from(states) / 10 * count,
     }
 }
 
@@ -161,12 +173,12 @@ impl RuleTimeouts {
     }
 
     /// The value of a name: the given one, else the default where so many states may be held.
-    fn resolved(&self, name: TimeoutName, states: u32) -> u64
-        ensures { result ≡ resolved_timeout states self.now name }
+    fn resolved(&self, name: TimeoutName, profile: Profile, states: u32) -> u64
+        ensures { result ≡ resolved_timeout profile states self.now name }
     {
         match self.get(name) {
             Some(value) => u64::from(value),
-            None => name.default_value(states),
+            None => name.default_value(profile, states),
         }
     }
 
@@ -198,28 +210,28 @@ impl Model for Timeouts {
 }
 
 impl Timeouts {
-    /// The timeouts of a text that gives these, and the defaults for the others, where so many states may be held.
-    pub fn resolved(given: &RuleTimeouts, states: u32) -> Timeouts
-        ensures { result ≡ resolved_timeouts states given.now }
+    /// The timeouts of a text of this profile that gives these, and the defaults for the others, where so many states may be held.
+    pub fn resolved(given: &RuleTimeouts, profile: Profile, states: u32) -> Timeouts
+        ensures { result ≡ resolved_timeouts profile states given.now }
     {
         Timeouts {
             values: [
-                given.resolved(TimeoutName::TcpFirst, states),
-                given.resolved(TimeoutName::TcpOpening, states),
-                given.resolved(TimeoutName::TcpEstablished, states),
-                given.resolved(TimeoutName::TcpClosing, states),
-                given.resolved(TimeoutName::TcpFinwait, states),
-                given.resolved(TimeoutName::TcpClosed, states),
-                given.resolved(TimeoutName::UdpFirst, states),
-                given.resolved(TimeoutName::UdpSingle, states),
-                given.resolved(TimeoutName::UdpMultiple, states),
-                given.resolved(TimeoutName::OtherFirst, states),
-                given.resolved(TimeoutName::OtherSingle, states),
-                given.resolved(TimeoutName::OtherMultiple, states),
-                given.resolved(TimeoutName::SrcTrack, states),
-                given.resolved(TimeoutName::Interval, states),
-                given.resolved(TimeoutName::AdaptiveStart, states),
-                given.resolved(TimeoutName::AdaptiveEnd, states),
+                given.resolved(TimeoutName::TcpFirst, profile, states),
+                given.resolved(TimeoutName::TcpOpening, profile, states),
+                given.resolved(TimeoutName::TcpEstablished, profile, states),
+                given.resolved(TimeoutName::TcpClosing, profile, states),
+                given.resolved(TimeoutName::TcpFinwait, profile, states),
+                given.resolved(TimeoutName::TcpClosed, profile, states),
+                given.resolved(TimeoutName::UdpFirst, profile, states),
+                given.resolved(TimeoutName::UdpSingle, profile, states),
+                given.resolved(TimeoutName::UdpMultiple, profile, states),
+                given.resolved(TimeoutName::OtherFirst, profile, states),
+                given.resolved(TimeoutName::OtherSingle, profile, states),
+                given.resolved(TimeoutName::OtherMultiple, profile, states),
+                given.resolved(TimeoutName::SrcTrack, profile, states),
+                given.resolved(TimeoutName::Interval, profile, states),
+                given.resolved(TimeoutName::AdaptiveStart, profile, states),
+                given.resolved(TimeoutName::AdaptiveEnd, profile, states),
             ],
         }
     }

@@ -8,13 +8,14 @@ pub of_parts-requires : goal.of_parts-requires
 of_parts-requires c =
     let tables = c.into_tables-tables.ensures.value in
     let draft : Drafted = record {
+      profile = c.self.inside.profile;
       limits = c.self.inside.limits;
       timeouts = c.self.inside.timeouts;
       tables = c.self.inside.tables.tables;
       defined = c.self.inside.tables.defined;
       items = c.self.inside.items.items;
     } in
-    rw (c.resolved-timeouts.ensures, tables)
+    rw (c.resolved-timeouts.ensures, tables, c.settled-items.ensures)
     (IsConfig_finished draft c.self.invariant c.into_tables-tables.ensures.each c.into_tables-tables.ensures.names
     (ap has_broken_pair c.self.view_is ∙ c.requires.pair)
     (ap const_overload c.self.view_is ∙ c.requires.overloads)
