@@ -7,6 +7,7 @@ mod fakes;
 mod families;
 mod jobs;
 mod lines;
+mod profiles;
 mod reports;
 mod runs;
 mod scenarios;

@@ -36,7 +36,7 @@ const DEFAULT: &[(u64, u64)] = &[
 #[test]
 fn lifetimes_shrink_by_the_default_pair(rt: HostRuntime) -> Result<(), Fail> {
     let config = configured(rt.alloc(), "set limit states 10", "")?;
-    let first = StatePhase::first(Proto::Tcp);
+    let first = StatePhase::first(false, Proto::Tcp);
     for &(count, wanted) in DEFAULT {
         let told = lifetime(&config, RuleNo(0), first, 0, count);
         same!(rt; told, wanted, count);
@@ -62,7 +62,7 @@ const SET: &[(&str, u64, u64)] = &[
 
 #[test]
 fn lifetimes_shrink_by_a_pair_that_is_set(rt: HostRuntime) -> Result<(), Fail> {
-    let first = StatePhase::first(Proto::Tcp);
+    let first = StatePhase::first(false, Proto::Tcp);
     for &(rules, count, wanted) in SET {
         let config = configured(rt.alloc(), "", rules)?;
         same!(rt; lifetime(&config, RuleNo(0), first, 0, count), wanted);
@@ -74,7 +74,7 @@ fn lifetimes_shrink_by_a_pair_that_is_set(rt: HostRuntime) -> Result<(), Fail> {
 fn lifetimes_of_a_rule_shrink_by_its_own_pair(rt: HostRuntime) -> Result<(), Fail> {
     let rules = "pass keep state (tcp.first 60, adaptive.start 1, adaptive.end 4)";
     let config = configured(rt.alloc(), "", rules)?;
-    let first = StatePhase::first(Proto::Tcp);
+    let first = StatePhase::first(false, Proto::Tcp);
     for (count, wanted) in [(0, 60), (1, 60), (2, 40), (3, 20), (4, 0)] {
         let told = lifetime(&config, RuleNo(0), first, count, 1_000_000);
         same!(rt; told, wanted, count);

@@ -27,7 +27,7 @@ const CONNECTION: &[(bool, Flags, TimeoutName, bool)] = &[
 
 #[test]
 fn a_tcp_connection_opens_and_closes(rt: HostRuntime) {
-    let mut phase = StatePhase::first(Proto::Tcp);
+    let mut phase = StatePhase::first(false, Proto::Tcp);
     same!(rt; phase.slot(), TimeoutName::TcpFirst);
     let mut done = false;
     for &(forward, flags, slot, completes) in CONNECTION {
@@ -104,7 +104,7 @@ fn a_phase_goes_by_its_protocol(rt: HostRuntime) {
             TimeoutName::OtherMultiple,
         ),
     ] {
-        let phase = StatePhase::first(proto);
+        let phase = StatePhase::first(false, proto);
         same!(rt; phase.slot(), first);
         let (phase, _) = phase.step(false, ACK);
         let (phase, completes) = phase.step(true, ACK);

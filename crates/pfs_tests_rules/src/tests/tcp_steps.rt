@@ -137,7 +137,7 @@ fn every_reachable_phase_steps_by_the_table(rt: HostRuntime) -> Result<(), Fail>
         timeout: TimeoutName::TcpFirst,
         complete: false,
     };
-    let first = StatePhase::first(Proto::Tcp);
+    let first = StatePhase::first(false, Proto::Tcp);
     let mut reached: Vec<Pair> = Vec::new(rt.alloc());
     reached.push((first, closed))?;
     same!(rt; (first.slot(), first.done()), (TimeoutName::TcpFirst, false));
