@@ -1,5 +1,5 @@
 -- A state comes: each fact of the indexes and counts, of the states and nodes with it.
-use Rattle.std.proofs.Common.{◌≡◌, ◌≢◌, ◌∙◌, ◌+◌, ◌<◌, ◌≤◌, ◌==◌, ◌&&◌, ◌||◌, ℕ, Bool, true, false, cond, not, if◌then◌else◌, Option, Some, None, is_some, List, [], ◌∷◌, ◌++◌, length, map, filter, option_map, slice_index, slice_set, length-set, refl, ap, sym, subst, arith}
+use Rattle.std.proofs.Common.{◌≡◌, ◌≢◌, ◌∙◌, ◌+◌, ◌<◌, ◌≤◌, ◌==◌, ◌&&◌, ◌||◌, ℕ, Bool, true, false, cond, not, if◌then◌else◌, Option, Some, None, is_some, List, [], ◌∷◌, ◌++◌, length, map, filter, option_map, slice_index, slice_set, length-set, refl, ap, sym, subst, arith, Result, Ok, Err, OnOk, OnErr}
 use Rattle.std.specs.List.{find, list_any, AllByRecursion, IsDistinct}
 use Rattle.std.proofs.lemmas.Bool.Decides.{nat_tests}
 use Rattle.std.proofs.lemmas.List.{get_or-set_other}
@@ -8,7 +8,7 @@ use Rattle.std.proofs.lemmas.Map.Keys.{IsDistinct-head, IsDistinct-tail, IsDisti
 use Rattle.pfs_addr_values.proofs.SameLaws.{same_addr_self, same_addr_true, same_key_true}
 use Rattle.pfs_addr_values.specs.Keys.{first_end, second_end}
 use Rattle.pfs_addr_values.specs.Packets.{PacketView, run_limit}
-use Rattle.pfs_addr_values.specs.Sameness.{same_key}
+use Rattle.pfs_addr_values.specs.Sameness.{same_addr, same_key}
 use Rattle.pfs_addr_values.specs.declared.addresses.Addr.{Addr}
 use Rattle.pfs_addr_values.specs.declared.packets.Dir.{Dir}
 use Rattle.pfs_addr_values.specs.declared.packets.Dir.TheVariants.{In, Out}
@@ -29,7 +29,8 @@ use Rattle.pfs_store_records.specs.Sourced.{source_at}
 use Rattle.pfs_store_records.specs.Tallies.{is_tally, nodes_of}
 use Rattle.pfs_store_records.specs.declared.nodes.Tally.{Tally}
 use Rattle.pfs_store_index.specs.declared.indexes.Entry.{Entry}
-use Rattle.pfs_store_index.specs.Ties.{HasRule, IsCounted, entry_of, has_key, is_pair, key_in}
+use Rattle.pfs_store_index.specs.Filed.{is_pair}
+use Rattle.pfs_store_index.specs.Ties.{HasRule, IsCounted, entry_of, has_key, key_in}
 use Rattle.pfs_store_records.specs.Changes.{HasTally, IsFew, IsScope, IsScored, IsScoped, at_node, is_at, tallies_with_state, joined_of, new_tally}
 use Rattle.pfs_store_records.proofs.OneNode.{of_node, scope_of-IsScope, scoped-at, tally-at}
 use Rattle.std.proofs.lemmas.Bool.{and_parts, and_from, and_right}
@@ -148,7 +149,16 @@ new-counted conf sc s xs ts e p f h =
     let d : node_connections conf sc s.source (xs ++ s ∷ []) ≡ node_connections conf sc s.source xs = count-same (is_connection conf sc s.source) s xs (rw p refl) in
     let m : 1 ≡ node_states conf sc s.source (xs ++ s ∷ []) = omega (arith, c, n) in
     let z : 0 ≡ node_connections conf sc s.source (xs ++ s ∷ []) = omega (arith, d, n, connections-le conf sc s.source xs) in
-    (λ j. record { node = new_node s.number sc s.source; states = m j; connections = z j })
+    (λ j. record { node = new_node s.number sc s.source s.last; states = m j; connections = z j })
+
+-- a node that comes without a state has none
+pub stateless-counted : (conf : Conf) (number : ℕ) (sc : NodeScope) (a : Addr) (now : ℕ) (xs : List State) (ts : List Tally) → IsScope conf sc → list_any (is_tally sc a) ts ≡ false
+    → AllByRecursion (HasTally conf ts) xs → IsCounted conf xs (record { node = new_node number sc a now; states = 0; connections = 0 })
+stateless-counted conf number sc a now xs ts k f h =
+    let n = none-counted conf sc a xs ts k f h in
+    let m : 0 ≡ node_states conf sc a xs = sym n in
+    let z : 0 ≡ node_connections conf sc a xs = omega (arith, n, connections-le conf sc a xs) in
+    (λ j. record { node = new_node number sc a now; states = m j; connections = z j })
 
 none-of : (sc : NodeScope) (a : Addr) (ts : List Tally) → find (is_tally sc a) ts ≡ None → AllByRecursion (λ t. is_at (Some sc) a t ≡ false) ts
 none-of sc a [] f = tt
@@ -208,13 +218,17 @@ or_true : (b : Bool) → (b || true) ≡ true
 or_true true = refl
 or_true false = refl
 
+-- what is there is there with one more
+pub any-more : (test : Tally → Bool) (t : Tally) (ts : List Tally) → list_any test ts ≡ true → list_any test (ts ++ t ∷ []) ≡ true
+any-more test t ts h = any-push test t ts ∙ ap (λ b. test t || b) h ∙ or_true (test t)
+
 has-joined : (o : Option NodeScope) (s : State) (ts : List Tally) (sc : NodeScope) (a : Addr) → list_any (is_tally sc a) ts ≡ true → list_any (is_tally sc a) (tallies_with_state o s ts) ≡ true
 has-joined None s ts sc a h = h
 has-joined (Some own) s ts sc a h = go (is_some (find (is_tally own s.source) ts))
   where
     go : (b : Bool) → list_any (is_tally sc a) (if b then map (at_node (Some own) s.source joined_of) ts else ts ++ new_tally own s ∷ []) ≡ true
     go true = tally-at sc a (Some own) s.source joined_of joined-faithful ts ∙ h
-    go false = any-push (is_tally sc a) (new_tally own s) ts ∙ ap (λ b. is_tally sc a (new_tally own s) || b) h ∙ or_true (is_tally sc a (new_tally own s))
+    go false = any-more (is_tally sc a) (new_tally own s) ts h
 
 has-own : (sc : NodeScope) (s : State) (ts : List Tally) → list_any (is_tally sc s.source) (tallies_with_state (Some sc) s ts) ≡ true
 has-own sc s ts = go (is_some (find (is_tally sc s.source) ts)) refl
@@ -232,6 +246,11 @@ noded-came conf o s xs ts e h =
     (all-weaker (HasTally conf ts) (HasTally conf (tallies_with_state o s ts)) (λ x k sc f. has-joined o s ts sc x.source (k sc f)) xs h)
     (λ sc f. subst (λ (z : Option NodeScope). list_any (is_tally sc s.source) (tallies_with_state z s ts) ≡ true) (sym f ∙ e) (has-own sc s ts))
 
+-- a list that has one element more, or is as it was, has what both have
+pub on-either : {T E : Type 0} (r : Result T E) (P : List Tally → Type 0) (old more new : List Tally) → OnOk r (new ≡ more) → OnErr r (new ≡ old) → P more → P old → P new
+on-either (Ok x) P old more new h k m n = subst P (sym h) m
+on-either (Err e) P old more new h k m n = subst P (sym k) n
+
 nodes-joined : (o : Option NodeScope) (a : Addr) (ts : List Tally) → nodes_of (map (at_node o a joined_of) ts) ≡ nodes_of ts
 nodes-joined o a [] = refl
 nodes-joined o a (t ∷ ts) = (λ j. go (is_at o a t) j ∷ nodes-joined o a ts j)
@@ -247,13 +266,20 @@ has_node-of sc a (t ∷ ts) = ap (λ b. is_node sc a t.node || b) (has_node-of s
 pub has_node-tally : (sc : NodeScope) (a : Addr) (ts : List Tally) → has_node sc a (nodes_of ts) ≡ is_some (find (is_tally sc a) ts)
 has_node-tally sc a ts = has_node-of sc a ts ∙ sym (any-found (is_tally sc a) ts)
 
-pub nodes-came : (o : Option NodeScope) (s : State) (ts : List Tally) → nodes_of (tallies_with_state o s ts) ≡ nodes_with (nodes_of ts) s.number s.source o
+pub node-absent : (sc : NodeScope) (a : Addr) (ts : List Tally) → has_node sc a (nodes_of ts) ≡ false → find (is_tally sc a) ts ≡ None
+node-absent sc a ts h = go (find (is_tally sc a) ts) (sym (has_node-tally sc a ts) ∙ h)
+  where
+    go : (o : Option Tally) → is_some o ≡ false → o ≡ None
+    go None k = refl
+    go (Some t) k = absurd (cc k)
+
+pub nodes-came : (o : Option NodeScope) (s : State) (ts : List Tally) → nodes_of (tallies_with_state o s ts) ≡ nodes_with (nodes_of ts) s.number s.source s.last o
 nodes-came None s ts = refl
 nodes-came (Some sc) s ts =
     go (is_some (find (is_tally sc s.source) ts))
-    ∙ ap (λ (b : Bool). if b then nodes_of ts else nodes_of ts ++ new_node s.number sc s.source ∷ []) (sym (has_node-tally sc s.source ts))
+    ∙ ap (λ (b : Bool). if b then nodes_of ts else nodes_of ts ++ new_node s.number sc s.source s.last ∷ []) (sym (has_node-tally sc s.source ts))
   where
-    go : (b : Bool) → nodes_of (if b then map (at_node (Some sc) s.source joined_of) ts else ts ++ new_tally sc s ∷ []) ≡ (if b then nodes_of ts else nodes_of ts ++ new_node s.number sc s.source ∷ [])
+    go : (b : Bool) → nodes_of (if b then map (at_node (Some sc) s.source joined_of) ts else ts ++ new_tally sc s ∷ []) ≡ (if b then nodes_of ts else nodes_of ts ++ new_node s.number sc s.source s.last ∷ [])
     go true = nodes-joined (Some sc) s.source ts
     go false = map-push (λ (t : Tally). t.node) (new_tally sc s) ts
 
@@ -299,19 +325,19 @@ key-came s xs k g g' f e e' = rw (e', e, find-push k s xs f) (go (same_key s.sta
 
 -- ---- the index by source
 
-pub pair-came : (s : State) (xs : List State) (a : Addr) (n : ℕ) (g g' : Bool) → g ≡ list_any (is_pair a n) xs → g' ≡ cond (is_pair a n s) true g → g' ≡ list_any (is_pair a n) (xs ++ s ∷ [])
-pair-came s xs a n g g' e e' = rw (e', e, any-push (is_pair a n) s xs) (go (is_pair a n s))
+pub pair-came : (under : State → Addr) (s : State) (xs : List State) (a : Addr) (n : ℕ) (g g' : Bool) → g ≡ list_any (is_pair under a n) xs → g' ≡ cond (is_pair under a n s) true g → g' ≡ list_any (is_pair under a n) (xs ++ s ∷ [])
+pair-came under s xs a n g g' e e' = rw (e', e, any-push (is_pair under a n) s xs) (go (is_pair under a n s))
   where
-    go : (b : Bool) → cond b true (list_any (is_pair a n) xs) ≡ (b || list_any (is_pair a n) xs)
+    go : (b : Bool) → cond b true (list_any (is_pair under a n) xs) ≡ (b || list_any (is_pair under a n) xs)
     go true = refl
     go false = refl
 
 lower_differs : (n k : ℕ) → k < n → (k == n) ≡ false
 lower_differs n k h = grind (arith, nat_tests)
 
-pub pair-fresh : (a : Addr) (n : ℕ) (xs : List State) → IsAbove n (map (λ (x : State). x.number) xs) → list_any (is_pair a n) xs ≡ false
-pair-fresh a n [] h = refl
-pair-fresh a n (x ∷ xs) (h, hs) = rw (and_right (is_of_source a x) (x.number == n) (lower_differs n x.number h)) (pair-fresh a n xs hs)
+pub pair-fresh : (under : State → Addr) (a : Addr) (n : ℕ) (xs : List State) → IsAbove n (map (λ (x : State). x.number) xs) → list_any (is_pair under a n) xs ≡ false
+pair-fresh under a n [] h = refl
+pair-fresh under a n (x ∷ xs) (h, hs) = rw (and_right (same_addr (under x) a) (x.number == n) (lower_differs n x.number h)) (pair-fresh under a n xs hs)
 
 -- what was placed is taken out again
 pub push-undone : (s : State) (xs : List Placed) (p : Placed) → p.state ≡ s → IsAbove s.number (map (λ (x : Placed). x.state.number) xs)

@@ -1,6 +1,5 @@
 -- A node without states goes: every state keeps its node.
 use Rattle.std.proofs.Common.{◌≡◌, ◌∙◌, ◌==◌, ℕ, Bool, true, false, not, if◌then◌else◌, Option, Some, None, IfSome, option_map, List, [], ◌∷◌, length, filter, refl, ap, sym, arith}
-use Rattle.std.specs.BTreeSet.{BTreeSet}
 use Rattle.std.specs.HashMap.{HashMap}
 use Rattle.std.specs.List.{find, list_any, AllByRecursion}
 use Rattle.pfs_addr_values.specs.declared.packets.FlowKey.{FlowKey}
@@ -14,7 +13,7 @@ use Rattle.pfs_store_records.specs.Records.{IsRising, Placed, states_of}
 use Rattle.pfs_store_records.specs.Tallies.{has_node_number, is_tally, nodes_of, other_node}
 use Rattle.pfs_store_records.specs.declared.nodes.Tally.{Tally}
 use Rattle.pfs_store_index.specs.declared.indexes.Entry.{Entry}
-use Rattle.pfs_store_index.specs.declared.sources.Source.{Source}
+use Rattle.pfs_store_index.specs.declared.filing.Filing.{Filing}
 use Rattle.pfs_store_records.specs.Changes.{HasTally, IsScored, IsScoped, is_at}
 use Rattle.pfs_store_index.specs.Ties.{IsCounted, IsTied}
 use Rattle.pfs_store_records.proofs.OneNode.{of_node}
@@ -40,10 +39,10 @@ noded-dropped conf n t ts (x ∷ xs) r f k z (h, hs) =
       noded-dropped conf n t ts xs r f k w.1 hs,
     )
 
-pub tied-dropped : {S : Type 0} (conf : Conf) (rs : List Placed) (keys : HashMap FlowKey Entry S) (counts : List ℕ) (ts : List Tally) (pairs : BTreeSet (Source × ℕ)) (n : Node)
-    → IsTied conf rs keys counts ts pairs → IsRising (node_numbers (nodes_of ts)) → find (λ (m : Node). m.number == n.number) (nodes_of ts) ≡ Some n
-    → node_states conf n.scope n.source (states_of rs) ≡ 0 → IsTied conf rs keys counts (filter (other_node n.number) ts) pairs
-tied-dropped conf rs keys counts ts pairs n i r f z =
+pub tied-dropped : {S : Type 0} (conf : Conf) (rs : List Placed) (keys : HashMap FlowKey Entry S) (counts : List ℕ) (ts : List Tally) (filing : Filing) (n : Node)
+    → IsTied conf rs keys counts ts filing → IsRising (node_numbers (nodes_of ts)) → find (λ (m : Node). m.number == n.number) (nodes_of ts) ≡ Some n
+    → node_states conf n.scope n.source (states_of rs) ≡ 0 → IsTied conf rs keys counts (filter (other_node n.number) ts) filing
+tied-dropped conf rs keys counts ts filing n i r f z =
     let t = part-found (λ (u : Tally). u.node) (λ (m : Node). m.number == n.number) n ts f in
     let k = found-all (IsScoped conf) (has_node_number n.number) t.whole ts i.scoped t.found in
     let y : node_states conf t.whole.node.scope t.whole.node.source (states_of rs) ≡ 0 = ap (λ (m : Node). node_states conf m.scope m.source (states_of rs)) t.same ∙ z in

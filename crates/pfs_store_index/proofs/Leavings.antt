@@ -4,13 +4,13 @@ use Rattle.std.specs.List.{find, list_any, AllByRecursion, IsDistinct}
 use Rattle.std.proofs.lemmas.Bool.Decides.{nat_tests}
 use Rattle.std.proofs.lemmas.List.{get_or-set_other}
 use Rattle.std.proofs.lemmas.Grind.{get_or-set_at}
-use Rattle.pfs_addr_values.specs.Sameness.{same_key}
+use Rattle.pfs_addr_values.specs.Sameness.{same_addr, same_key}
 use Rattle.pfs_addr_values.specs.declared.addresses.Addr.{Addr}
 use Rattle.pfs_addr_values.specs.declared.packets.FlowKey.{FlowKey}
 use Rattle.pfs_conf_values.specs.Configs.{Conf}
 use Rattle.pfs_track.specs.StatePhases.{is_done}
-use Rattle.pfs_store_contract.specs.Counts.{is_connection, is_of_node, is_of_rule, is_of_source, node_connections, node_scope_of, node_states, rule_states}
-use Rattle.pfs_store_contract.specs.Leaving.{node_after_leaving}
+use Rattle.pfs_store_contract.specs.Counts.{is_connection, is_of_node, is_of_rule, node_connections, node_scope_of, node_states, rule_states}
+use Rattle.pfs_store_contract.specs.Leaving.{node_after_leaving, node_retention}
 use Rattle.pfs_store_contract.specs.Calls.{other_than}
 use Rattle.pfs_store_contract.specs.Plain.{AreCounts}
 use Rattle.pfs_store_contract.specs.declared.records.Node.{Node}
@@ -20,7 +20,8 @@ use Rattle.pfs_store_records.specs.Records.{Placed}
 use Rattle.pfs_store_records.specs.Tallies.{nodes_of}
 use Rattle.pfs_store_records.specs.declared.nodes.Tally.{Tally}
 use Rattle.pfs_store_index.specs.declared.indexes.Entry.{Entry}
-use Rattle.pfs_store_index.specs.Ties.{HasRule, IsCounted, entry_of, has_key, is_pair, key_in, left_at}
+use Rattle.pfs_store_index.specs.Filed.{is_pair}
+use Rattle.pfs_store_index.specs.Ties.{HasRule, IsCounted, entry_of, has_key, key_in, left_at}
 use Rattle.pfs_store_records.specs.Changes.{HasTally, IsScored, IsScoped, is_at, left_of}
 use Rattle.pfs_store_records.proofs.OneNode.{of_node, tally-at}
 use Rattle.pfs_store_index.proofs.Removals.{any-kept, any-removed, count-removed, find-removed}
@@ -45,11 +46,11 @@ parted conf before after now t = record {
   connections = node_connections conf t.node.scope t.node.source after;
 }
 
-idle_no : (c d : ℕ) → c ≡ d → (nat_lt 0 c && (d == 0)) ≡ false
-idle_no c d e = grind (arith, nat_tests)
+last_no : (c d : ℕ) → c ≡ d → (nat_lt 0 c && (d == 0)) ≡ false
+last_no c d e = grind (arith, nat_tests)
 
-idle_last : (c d : ℕ) → d + 1 ≡ c → (nat_lt 0 c && (d == 0)) ≡ (d == 0)
-idle_last c d e = let p : nat_lt 0 c ≡ true = grind (arith, nat_tests) in rw p refl
+last_yes : (c d : ℕ) → d + 1 ≡ c → (nat_lt 0 c && (d == 0)) ≡ (d == 0)
+last_yes c d e = let p : nat_lt 0 c ≡ true = grind (arith, nat_tests) in rw p refl
 
 done_first : (a b : Bool) → b ≡ true → (a && b) ≡ a
 done_first true b h = h
@@ -92,10 +93,10 @@ left-parted conf s now xs t r f h e = go (is_at (node_scope_of conf s.rule.0) s.
         ap (λ (b : Bool). length (filter (is_connection conf t.node.scope t.node.source) (filter (other_than s.number) xs)) + cond b 1 0) (sym z) ∙ d in
         let m : t.states - 1 ≡ length (filter (is_of_node conf t.node.scope t.node.source) (filter (other_than s.number) xs)) = omega (arith, c1, es) in
         let n : t.connections - cond (is_done s.phase) 1 0 ≡ length (filter (is_connection conf t.node.scope t.node.source) (filter (other_than s.number) xs)) = omega (arith, d1, ec) in
-        let l = idle_last (length (filter (is_of_node conf t.node.scope t.node.source) xs)) (length (filter (is_of_node conf t.node.scope t.node.source) (filter (other_than s.number) xs))) c1 in
-        let w : left_at conf s now t ≡ left_of s now t = ap (λ (b : Bool). if b then left_of s now t else t) i in
+        let l = last_yes (length (filter (is_of_node conf t.node.scope t.node.source) xs)) (length (filter (is_of_node conf t.node.scope t.node.source) (filter (other_than s.number) xs))) c1 in
+        let w : left_at conf s now t ≡ left_of conf s now t = ap (λ (b : Bool). if b then left_of conf s now t else t) i in
         w ∙ (λ j. record {
-          node = if (ap (λ k. k == 0) m ∙ sym l) j then record t.node { idle = now } else t.node;
+          node = if (ap (λ k. k == 0) m ∙ sym l) j then record t.node { expires = now + node_retention conf t.node.scope } else t.node;
           states = m j;
           connections = n j;
         })
@@ -109,10 +110,10 @@ left-parted conf s now xs t r f h e = go (is_at (node_scope_of conf s.rule.0) s.
         let m : t.states ≡ length (filter (is_of_node conf t.node.scope t.node.source) (filter (other_than s.number) xs)) = omega (arith, c1, es) in
         let n : t.connections ≡ length (filter (is_connection conf t.node.scope t.node.source) (filter (other_than s.number) xs)) = omega (arith, d1, ec) in
         let k : length (filter (is_of_node conf t.node.scope t.node.source) xs) ≡ length (filter (is_of_node conf t.node.scope t.node.source) (filter (other_than s.number) xs)) = omega (arith, c1) in
-        let l = idle_no (length (filter (is_of_node conf t.node.scope t.node.source) xs)) (length (filter (is_of_node conf t.node.scope t.node.source) (filter (other_than s.number) xs))) k in
-        let w : left_at conf s now t ≡ t = ap (λ (b : Bool). if b then left_of s now t else t) i in
+        let l = last_no (length (filter (is_of_node conf t.node.scope t.node.source) xs)) (length (filter (is_of_node conf t.node.scope t.node.source) (filter (other_than s.number) xs))) k in
+        let w : left_at conf s now t ≡ t = ap (λ (b : Bool). if b then left_of conf s now t else t) i in
         w ∙ (λ j. record {
-          node = if sym l j then record t.node { idle = now } else t.node;
+          node = if sym l j then record t.node { expires = now + node_retention conf t.node.scope } else t.node;
           states = m j;
           connections = n j;
         })
@@ -124,19 +125,19 @@ counted-left conf s now xs (t ∷ ts) r f (g, gs) (h, hs) =
     (still (left_at conf s now t) (left-parted conf s now xs t r f g h), counted-left conf s now xs ts r f gs hs)
   where
     same_scope_of : (node_after_leaving conf xs (filter (other_than s.number) xs) now t.node).scope ≡ t.node.scope
-    same_scope_of = idle-part (λ (n : Node). n.scope) refl
+    same_scope_of = kept-part (λ (n : Node). n.scope) refl
       where
-        idle-part : {Y : Type 0} (part : Node → Y) → part (record t.node { idle = now }) ≡ part t.node → part (node_after_leaving conf xs (filter (other_than s.number) xs) now t.node) ≡ part t.node
-        idle-part part e = go (nat_lt 0 (node_states conf t.node.scope t.node.source xs) && (node_states conf t.node.scope t.node.source (filter (other_than s.number) xs) == 0))
+        kept-part : {Y : Type 0} (part : Node → Y) → part (record t.node { expires = now + node_retention conf t.node.scope }) ≡ part t.node → part (node_after_leaving conf xs (filter (other_than s.number) xs) now t.node) ≡ part t.node
+        kept-part part e = go (nat_lt 0 (node_states conf t.node.scope t.node.source xs) && (node_states conf t.node.scope t.node.source (filter (other_than s.number) xs) == 0))
           where
-            go : (b : Bool) → part (if b then record t.node { idle = now } else t.node) ≡ part t.node
+            go : (b : Bool) → part (if b then record t.node { expires = now + node_retention conf t.node.scope } else t.node) ≡ part t.node
             go true = e
             go false = refl
 
     same_source_of : (node_after_leaving conf xs (filter (other_than s.number) xs) now t.node).source ≡ t.node.source
     same_source_of = go (nat_lt 0 (node_states conf t.node.scope t.node.source xs) && (node_states conf t.node.scope t.node.source (filter (other_than s.number) xs) == 0))
       where
-        go : (b : Bool) → (if b then record t.node { idle = now } else t.node).source ≡ t.node.source
+        go : (b : Bool) → (if b then record t.node { expires = now + node_retention conf t.node.scope } else t.node).source ≡ t.node.source
         go true = refl
         go false = refl
 
@@ -159,14 +160,14 @@ pub scored-left : (conf : Conf) (s : State) (now : ℕ) (ts : List Tally) → Al
 scored-left conf s now [] h = tt
 scored-left conf s now (t ∷ ts) (h, hs) = (go (is_at (node_scope_of conf s.rule.0) s.source t), scored-left conf s now ts hs)
   where
-    go : (b : Bool) → IsScored (if b then left_of s now t else t)
-    go true = subst (λ n. n ≤ 4294968000) (sym (left-node (λ n. n.score.value) s now t refl)) h
+    go : (b : Bool) → IsScored (if b then left_of conf s now t else t)
+    go true = subst (λ n. n ≤ 4294968000) (sym (left-node (λ n. n.score.value) conf s now t (λ e. refl))) h
     go false = h
 
 pub noded-left : (conf : Conf) (s : State) (now : ℕ) (ts : List Tally) (xs : List State) → AllByRecursion (HasTally conf ts) xs → AllByRecursion (HasTally conf (map (left_at conf s now) ts)) xs
 noded-left conf s now ts [] h = tt
 noded-left conf s now ts (x ∷ xs) (h, hs) =
-    ((λ sc e. tally-at sc x.source (node_scope_of conf s.rule.0) s.source (left_of s now) (left-faithful s now) ts ∙ h sc e), noded-left conf s now ts xs hs)
+    ((λ sc e. tally-at sc x.source (node_scope_of conf s.rule.0) s.source (left_of conf s now) (left-faithful conf s now) ts ∙ h sc e), noded-left conf s now ts xs hs)
 
 -- ---- the index by key
 
@@ -218,13 +219,13 @@ ruled-set counts i v xs h = subst (λ n. AllByRecursion (HasRule n) xs) (sym (le
 
 -- ---- the index by source
 
-pub pair-left : (s : State) (xs : List State) (a : Addr) (n : ℕ) (g g' : Bool) → IsRisingBy state_number xs → find (has_number state_number s.number) xs ≡ Some s
-    → g ≡ list_any (is_pair a n) xs → g' ≡ cond (is_pair a n s) false g → g' ≡ list_any (is_pair a n) (filter (other_than s.number) xs)
-pair-left s xs a n g g' r f e e' = rw (e', e) (go (is_pair a n s) refl)
+pub pair-left : (under : State → Addr) (s : State) (xs : List State) (a : Addr) (n : ℕ) (g g' : Bool) → IsRisingBy state_number xs → find (has_number state_number s.number) xs ≡ Some s
+    → g ≡ list_any (is_pair under a n) xs → g' ≡ cond (is_pair under a n s) false g → g' ≡ list_any (is_pair under a n) (filter (other_than s.number) xs)
+pair-left under s xs a n g g' r f e e' = rw (e', e) (go (is_pair under a n s) refl)
   where
-    second : (x : State) → is_pair a n x ≡ true → x.number ≡ n
-    second x h = let t = (and_parts (is_of_source a x) (x.number == n) h).1 in grind (arith, nat_tests)
+    second : (x : State) → is_pair under a n x ≡ true → x.number ≡ n
+    second x h = let t = (and_parts (same_addr (under x) a) (x.number == n) h).1 in grind (arith, nat_tests)
 
-    go : (b : Bool) → is_pair a n s ≡ b → cond (is_pair a n s) false (list_any (is_pair a n) xs) ≡ list_any (is_pair a n) (filter (other_than s.number) xs)
-    go true t = rw t (sym (any-removed state_number (is_pair a n) s.number s xs r f (λ x h. second x h ∙ sym (second s t)) t))
-    go false t = rw t (sym (any-kept state_number (is_pair a n) s.number s xs r f t))
+    go : (b : Bool) → is_pair under a n s ≡ b → cond (is_pair under a n s) false (list_any (is_pair under a n) xs) ≡ list_any (is_pair under a n) (filter (other_than s.number) xs)
+    go true t = rw t (sym (any-removed state_number (is_pair under a n) s.number s xs r f (λ x h. second x h ∙ sym (second s t)) t))
+    go false t = rw t (sym (any-kept state_number (is_pair under a n) s.number s xs r f t))

@@ -1,12 +1,13 @@
 mod Comings
 mod Dropping
-mod Idling
+mod Filings
 mod Leavings
 mod Meetings
 mod PassingNodes
 mod Reached
 mod Removals
 mod Renewing
+mod Retained
 mod RisingWalks
 mod SourcePairs
 mod Stands

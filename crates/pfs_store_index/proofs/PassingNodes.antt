@@ -1,9 +1,9 @@
 -- A walk by nodes that stay: of their tallies, and of the nodes.
-use Rattle.std.proofs.Common.{◌≡◌, ◌∙◌, ◌+◌, ◌==◌, ◌&&◌, ℕ, Bool, true, false, if◌then◌else◌, List, [], ◌∷◌, length, filter, nat_le, refl, ap, sym, arith}
+use Rattle.std.proofs.Common.{◌≡◌, ◌∙◌, ◌==◌, ◌&&◌, ℕ, Bool, true, false, if◌then◌else◌, List, [], ◌∷◌, length, filter, nat_le, refl, ap, sym, arith}
 use Rattle.std.specs.List.{AllByRecursion}
 use Rattle.pfs_conf_values.specs.Configs.{Conf}
 use Rattle.pfs_store_contract.specs.Counts.{node_states}
-use Rattle.pfs_store_contract.specs.Purging.{is_over, node_retention}
+use Rattle.pfs_store_contract.specs.Purging.{is_over}
 use Rattle.pfs_store_contract.specs.Quiet.{NodeStays}
 use Rattle.pfs_store_contract.specs.declared.records.Node.{Node}
 use Rattle.pfs_store_contract.specs.declared.records.State.{State}
@@ -14,20 +14,20 @@ use Rattle.pfs_store_records.specs.Tallies.{nodes_of, stateless}
 use Rattle.pfs_store_index.specs.Ties.{IsCounted}
 use Rattle.pfs_store_records.specs.Walks.{IsPassing}
 use Rattle.pfs_store_records.specs.declared.nodes.Tally.{Tally}
-use Rattle.pfs_store_index.proofs.Idling.{node_number}
+use Rattle.pfs_store_index.proofs.Retained.{node_number}
 use Rattle.pfs_store_records.proofs.NodeLaws.{numbers-nodes}
 
-states_are : (conf : Conf) (xs : List State) (now : ℕ) (t : Tally) → IsCounted conf xs t → is_over conf xs now t.node ≡ is_past conf now t
-states_are conf xs now t c = ap (λ k. (k == 0) && nat_le (t.node.idle + node_retention conf t.node.scope) now) (sym (ap (λ (u : Tally). u.states) c))
+states_are : (conf : Conf) (xs : List State) (now : ℕ) (t : Tally) → IsCounted conf xs t → is_over conf xs now t.node ≡ is_past now t
+states_are conf xs now t c = ap (λ k. (k == 0) && nat_le t.node.expires now) (sym (ap (λ (u : Tally). u.states) c))
 
 stay-nodes : (conf : Conf) (xs : List State) (now a l : ℕ) (ts : List Tally) → AllByRecursion (IsCounted conf xs) ts
-    → AllByRecursion (λ (t : Tally). between a l (number_of_node t) ≡ true → is_past conf now t ≡ false) ts
+    → AllByRecursion (λ (t : Tally). between a l (number_of_node t) ≡ true → is_past now t ≡ false) ts
     → AllByRecursion (λ (n : Node). between a l (node_number n) ≡ true → is_over conf xs now n ≡ false) (nodes_of ts)
 stay-nodes conf xs now a l [] c h = tt
 stay-nodes conf xs now a l (t ∷ ts) (c, cs) (h, hs) = ((λ b. states_are conf xs now t c ∙ h b), stay-nodes conf xs now a l ts cs hs)
 
 pub passing-nodes : (conf : Conf) (xs : List State) (now above most share stayed last : ℕ) (ts : List Tally) → AllByRecursion (IsCounted conf xs) ts
-    → IsPassing number_of_node (is_past conf now) ts above most share stayed last → IsPassing node_number (is_over conf xs now) (nodes_of ts) above most share stayed last
+    → IsPassing number_of_node (is_past now) ts above most share stayed last → IsPassing node_number (is_over conf xs now) (nodes_of ts) above most share stayed last
 passing-nodes conf xs now above most share stayed last ts c w = record {
   from = w.from;
   to = w.to;
@@ -39,7 +39,7 @@ passing-nodes conf xs now above most share stayed last ts c w = record {
 }
 
 pub kept-nodes : (conf : Conf) (xs : List State) (a l until : ℕ) (ts : List Tally) → AllByRecursion (IsCounted conf xs) ts
-    → AllByRecursion (λ (t : Tally). between a l (number_of_node t) ≡ true → IsKeptUntil conf until t) ts
+    → AllByRecursion (λ (t : Tally). between a l (number_of_node t) ≡ true → IsKeptUntil until t) ts
     → AllByRecursion (λ (n : Node). between a l (node_number n) ≡ true → NodeStays conf xs until n) (nodes_of ts)
 kept-nodes conf xs a l until [] c h = tt
 kept-nodes conf xs a l until (t ∷ ts) (c, cs) (h, hs) = ((λ b z. h b (ap (λ (u : Tally). u.states) c ∙ z)), kept-nodes conf xs a l until ts cs hs)

@@ -1,5 +1,5 @@
 -- The record of the state that was found, what a packet makes of it, and what is reported of its node.
-use Rattle.std.proofs.Common.{◌≡◌, ◌∙◌, ◌+◌, ◌==◌, ◌||◌, ℕ, Bool, true, false, cond, if◌then◌else◌, Option, Some, None, is_some, unwrap_or, List, map, option_map, refl, ap, sym, subst, arith}
+use Rattle.std.proofs.Common.{◌≡◌, ◌∙◌, ◌+◌, ◌<◌, ◌==◌, ◌||◌, ℕ, Bool, true, false, cond, if◌then◌else◌, Option, Some, None, is_some, unwrap_or, List, [], ◌∷◌, map, option_map, refl, ap, sym, subst, arith}
 use Rattle.std.specs.List.{find, list_any, AllByRecursion}
 use Rattle.std.proofs.lemmas.Bool.Decides.{nat_tests}
 use Rattle.pfs_addr_values.specs.Packets.{PacketView}
@@ -13,13 +13,15 @@ use Rattle.pfs_track.specs.TcpPhases.{tcp_completes}
 use Rattle.pfs_track.specs.PhaseLaws.{tcp_completes-once}
 use Rattle.pfs_track.specs.declared.scores.Score.{Score}
 use Rattle.pfs_track.specs.declared.state_phases.StatePhase.{StatePhase}
-use Rattle.pfs_track.specs.declared.state_phases.StatePhase.TheVariants.{Tcp, Udp, Other}
+use Rattle.pfs_track.specs.declared.state_phases.StatePhase.TheVariants.{Tcp, FullTcp, Udp, Other}
+use Rattle.pfs_store_contract.specs.Calls.{state_number as number_of}
 use Rattle.pfs_store_contract.specs.Counts.{is_node, node_connections}
 use Rattle.pfs_store_contract.specs.Purging.{state_numbers}
 use Rattle.pfs_store_contract.specs.Touching.{connections_in, goes_forward, numbered_state_after, score_in, state_after_packet}
 use Rattle.pfs_store_contract.specs.declared.records.Node.{Node}
 use Rattle.pfs_store_contract.specs.declared.records.NodeScope.{NodeScope}
 use Rattle.pfs_store_contract.specs.declared.records.State.{State}
+use Rattle.pfs_store_contract.specs.declared.records.StateNo.{StateNo}
 use Rattle.pfs_store_records.specs.Records.{IsRecordAt, IsRising, Placed, is_placed, put, states_of}
 use Rattle.pfs_store_records.specs.Tallies.{is_tally, nodes_of}
 use Rattle.pfs_store_records.specs.declared.nodes.Tally.{Tally}
@@ -32,7 +34,7 @@ use Rattle.pfs_store_records.proofs.Searches.{any-also, any-found, find-part, fo
 use Rattle.pfs_store_index.proofs.Reached.{IsKeyAt}
 use Rattle.pfs_store_index.proofs.Stands.{rising-records}
 use Rattle.std.proofs.lemmas.Bool.{and_from}
-use Rattle.pfs_store_records.proofs.Rising.{has_number}
+use Rattle.pfs_store_records.proofs.Rising.{IsRisingBy, has_number, head-above, rest-rising}
 
 same_self : (n : ℕ) → (n == n) ≡ true
 same_self n = grind (arith, nat_tests)
@@ -54,6 +56,38 @@ number-found k at s rs h q r =
     let f : find (has_number record_number s.number) rs ≡ Some h.record_of =
     subst (λ (x : State). find (has_number record_number x.number) rs ≡ Some h.record_of) q (key-number k h.record_of rs (rising-records rs r) h.found) in
     find-part (λ (p : Placed). p.state) (has_number state_number s.number) rs ∙ ap (option_map (λ (p : Placed). p.state)) f ∙ ap Some q
+
+lower_differs : (a b : ℕ) → a < b → (a == b) ≡ false
+lower_differs a b h = grind (arith, nat_tests)
+
+-- a state that is found is found by its number
+by-number : (p : State → Bool) (s : State) (xs : List State) → IsRisingBy state_number xs → find p xs ≡ Some s → find (has_number state_number s.number) xs ≡ Some s
+by-number p s [] r f = absurd cc
+by-number p s (x ∷ xs) r f = go (by-number p s xs (rest-rising state_number x xs r)) (p x) refl
+  where
+    go : (find p xs ≡ Some s → find (has_number state_number s.number) xs ≡ Some s) → (b : Bool) → p x ≡ b → find (has_number state_number s.number) (x ∷ xs) ≡ Some s
+    go more true t =
+        let f' : Some x ≡ Some s = (rw t at f) in
+        let q : x ≡ s = cc in
+        let y : (x.number == s.number) ≡ true = ap (λ (z : State). z.number == s.number) q ∙ same_self s.number in
+        rw y f'
+    go more false t =
+        let f' : find p xs ≡ Some s = (rw t at f) in
+        let l : x.number < s.number = found-all (λ (y : State). x.number < y.number) p s xs (head-above state_number x xs r) f' in
+        let y : (x.number == s.number) ≡ false = lower_differs x.number s.number l in
+        rw y (more f')
+
+-- the state that has a key is that of its number
+pub key-of-number : (k : FlowKey) (n : StateNo) (s : State) (xs : List State) → IsRisingBy state_number xs → find (has_number state_number n.0) xs ≡ Some s
+    → option_map number_of (find (λ (x : State). same_key x.key k) xs) ≡ Some n → find (λ (x : State). same_key x.key k) xs ≡ Some s
+key-of-number k n s xs r f h = go (find (λ (x : State). same_key x.key k) xs) refl h
+  where
+    go : (o : Option State) → find (λ (x : State). same_key x.key k) xs ≡ o → option_map number_of o ≡ Some n → find (λ (x : State). same_key x.key k) xs ≡ Some s
+    go None e i = absurd cc
+    go (Some u) e i =
+        let q : number_of u ≡ n = cc in
+        let m = by-number (λ (x : State). same_key x.key k) u xs r e in
+        e ∙ sym m ∙ ap (λ (z : StateNo). find (has_number state_number z.0) xs) q ∙ f
 
 renewed-self : (p : PacketView) (now : ℕ) (s : State) → numbered_state_after s.number p now s ≡ state_after_packet p now s
 renewed-self p now s = ap (λ (b : Bool). if b then state_after_packet p now s else s) (same_self s.number)
@@ -77,7 +111,8 @@ pub counts-done : (s : State) (p : PacketView) → CountsDone s p
 counts-done s p = go s.phase
   where
     go : (ph : StatePhase) → ◌≡◌ {A = ℕ} (cond (is_done (phase_after ph (goes_forward p s) p.flags)) 1 0) (cond (is_done ph) 1 0 + cond (completes ph (goes_forward p s) p.flags) 1 0)
-    go (Tcp t) = done_more t.complete (tcp_completes t (goes_forward p s) p.flags) (λ h. (tcp_completes-once t (goes_forward p s) p.flags h).0)
+    go (Tcp t) = done_more t.complete (tcp_completes false t (goes_forward p s) p.flags) (λ h. (tcp_completes-once false t (goes_forward p s) p.flags h).0)
+    go (FullTcp t) = done_more t.complete (tcp_completes true t (goes_forward p s) p.flags) (λ h. (tcp_completes-once true t (goes_forward p s) p.flags h).0)
     go (Udp t) = refl
     go (Other t) = refl
 

@@ -20,13 +20,17 @@ use Rattle.std.specs.declared.ops.Bound.TheVariants.{Excluded, Included}
 use Rattle.pfs_addr_values.specs.Addresses.{IsAddr}
 use Rattle.pfs_addr_values.specs.declared.addresses.Addr.{Addr}
 use Rattle.pfs_addr_values.specs.declared.addresses.Addr.TheVariants.{V4 as Addr-V4, V6 as Addr-V6}
-use Rattle.pfs_store_contract.specs.Counts.{is_of_source}
+use Rattle.pfs_addr_values.specs.declared.packets.Dir.{Dir}
 use Rattle.pfs_store_contract.specs.declared.records.State.{State}
 use Rattle.pfs_store_records.specs.Records.{between}
 use Rattle.pfs_store_index.specs.Rounds.{waiting_of}
-use Rattle.pfs_store_index.specs.Ties.{is_pair, pair_cmp, source_cmp, ordered_source}
+use Rattle.pfs_conf_values.specs.declared.profiles.Profile.{Profile}
+use Rattle.pfs_conf_values.specs.declared.profiles.Profile.TheVariants as profile
+use Rattle.pfs_store_contract.specs.Leaving.{is_beside}
+use Rattle.pfs_store_index.specs.Filed.{HasPair, LosesPair, SamePairs, filed_under, is_pair, pair_of, pairs_on, pair_cmp, source_cmp, ordered_source}
 use Rattle.pfs_store_index.specs.contracts.sources.SourceOrd.TheImpl.Laws.{matches_eq-law, total-law}
 use Rattle.pfs_store_index.specs.contracts.sources.SourcePartialEq.TheImpl as source_eq
+use Rattle.pfs_store_index.specs.declared.filing.Filing.{Filing}
 use Rattle.pfs_store_index.specs.declared.sources.Source.{Source}
 use Rattle.pfs_store_index.specs.declared.sources.Source.TheVariants.{V4 as Source-V4, V6 as Source-V6}
 use Rattle.pfs_store_index.proofs.Leavings.{state_number}
@@ -146,136 +150,6 @@ pair_found p q h = go (pair_cmp p q) refl
     go Greater e = let z : is_found (λ (x : Source × ℕ). Greater) q ≡ true = ap (λ (o : Ordering). is_found (λ (x : Source × ℕ). o) q) (sym e) ∙ h in absurd (cc z)
     go Equal e = let w = pair_number p.0 q.0 p.1 q.1 e in (λ i. (w.0 i, w.1 i))
 
-pub pair_test : (s : State) (a : Addr) (n : ℕ) → IsAddr s.source → IsAddr a → is_found (pair_cmp (ordered_source s.source, s.number)) (ordered_source a, n) ≡ is_pair a n s
-pair_test s a n u v = go (is_found (pair_cmp (ordered_source s.source, s.number)) (ordered_source a, n)) refl (is_pair a n s) refl
-  where
-    same_self : (k : ℕ) → (k == k) ≡ true
-    same_self k = grind (arith, nat_tests)
-
-    same_number : (k m : ℕ) → (k == m) ≡ true → k ≡ m
-    same_number k m h = grind (arith, nat_tests)
-
-    nat_itself : (k : ℕ) → nat_cmp k k ≡ Equal
-    nat_itself k = grind (arith, nat_tests)
-
-    found_self : (b : Source) (k : ℕ) → is_found (pair_cmp (b, k)) (b, k) ≡ true
-    found_self b k =
-        let z : pair_cmp (b, k) (b, k) ≡ Equal = ap (λ o. ordering_then o (nat_cmp k k)) (source_itself b) ∙ nat_itself k in
-        ap (λ (o : Ordering). is_found (λ (x : Source × ℕ). o) (b, k)) z
-
-    go : (x : Bool) → is_found (pair_cmp (ordered_source s.source, s.number)) (ordered_source a, n) ≡ x → (y : Bool) → is_pair a n s ≡ y
-        → is_found (pair_cmp (ordered_source s.source, s.number)) (ordered_source a, n) ≡ is_pair a n s
-    go true e true f = e ∙ sym f
-    go false e false f = e ∙ sym f
-    go true e false f =
-        let w = pair_found (ordered_source s.source, s.number) (ordered_source a, n) e in
-        let o : s.source ≡ a = one-source s.source a u v (λ i. (w i).0) in
-        let z : is_pair a n s ≡ true = and_from _ _ (ap (λ (b : Addr). same_addr s.source b) (sym o) ∙ same_addr_self s.source) (ap (λ (p : Source × ℕ). s.number == p.1) (sym w) ∙ same_self s.number) in
-        absurd (cc (z, f))
-    go false e true f =
-        let p = same_addr_true s.source a (and_parts (is_of_source a s) (s.number == n) f).0 in
-        let q = same_number s.number n (and_parts (is_of_source a s) (s.number == n) f).1 in
-        let z : is_found (pair_cmp (ordered_source s.source, s.number)) (ordered_source a, n) ≡ true =
-        ap (λ (x : Source × ℕ). is_found (pair_cmp (ordered_source s.source, s.number)) x) (λ i. (ordered_source (sym p i), sym q i)) ∙ found_self (ordered_source s.source) s.number in
-        absurd (cc (z, e))
-
--- ---- the first of the states of a source
-
--- a number is the least above one and up to another of the states of a source
-pub record IsFirstOf (a : Addr) (above most n : ℕ) (xs : List State) : Type 0 where
-  pub held : list_any (is_pair a n) xs ≡ true
-  pub above_it : above < n
-  pub most_it : n ≤ most
-  pub least : (k : ℕ) → list_any (is_pair a k) xs ≡ true → above < k → k ≤ most → n ≤ k
-
-same_self : (k : ℕ) → (k == k) ≡ true
-same_self k = grind (arith, nat_tests)
-
-between_true : (above most n : ℕ) → above < n → n ≤ most → between above most n ≡ true
-between_true above most n l m = grind (arith, nat_tests)
-
-between_low : (above most n : ℕ) → between above most n ≡ true → above < n
-between_low above most n h = grind (arith, nat_tests)
-
-between_high : (above most n : ℕ) → between above most n ≡ true → n ≤ most
-between_high above most n h = grind (arith, nat_tests)
-
-or_other : (b c : Bool) → b ≡ false → (b || c) ≡ true → c ≡ true
-or_other true c e h = absurd (cc e)
-or_other false c e h = h
-
-number_true : (k n : ℕ) → (k == n) ≡ true → k ≡ n
-number_true k n h = grind (arith, nat_tests)
-
-pair_above : (a : Addr) (k n : ℕ) (xs : List State) → Above state_number k xs → list_any (is_pair a n) xs ≡ true → k < n
-pair_above a k n [] h any = absurd (cc any)
-pair_above a k n (x ∷ xs) (h, hs) any = go (pair_above a k n xs hs) (is_pair a n x) refl
-  where
-    go : (list_any (is_pair a n) xs ≡ true → k < n) → (b : Bool) → is_pair a n x ≡ b → k < n
-    go more true e = let q = number_true x.number n (and_parts (is_of_source a x) (x.number == n) e).1 in omega (arith, h, q)
-    go more false e = more (or_other (is_pair a n x) (list_any (is_pair a n) xs) e any)
-
-pub first-some : (a : Addr) (above most n : ℕ) (xs : List State) → IsRisingBy state_number xs → IsFirstOf a above most n xs → slice_get (waiting_of a above most xs) 0 ≡ Some n
-first-some a above most n [] r f = let h = f.held in absurd (cc h)
-first-some a above most n (x ∷ xs) r f = go (first-some a above most n xs (rest-rising state_number x xs r)) (is_of_source a x && between above most x.number) refl
-  where
-    self-held : is_of_source a x ≡ true → list_any (is_pair a x.number) (x ∷ xs) ≡ true
-    self-held s = ap (λ b. b || list_any (is_pair a x.number) xs) (and_from (is_of_source a x) (x.number == x.number) s (same_self x.number))
-
-    go : (IsFirstOf a above most n xs → slice_get (waiting_of a above most xs) 0 ≡ Some n) → (b : Bool) → (is_of_source a x && between above most x.number) ≡ b → slice_get (waiting_of a above most (x ∷ xs)) 0 ≡ Some n
-    go more true e =
-        let s = (and_parts (is_of_source a x) (between above most x.number) e).0 in
-        let w = (and_parts (is_of_source a x) (between above most x.number) e).1 in
-        let le : n ≤ x.number = f.least x.number (self-held s) (between_low above most x.number w) (between_high above most x.number w) in
-        rw e (ap Some (same (is_pair a n x) refl le))
-      where
-        same : (b : Bool) → is_pair a n x ≡ b → n ≤ x.number → x.number ≡ n
-        same true i le = number_true x.number n (and_parts (is_of_source a x) (x.number == n) i).1
-        same false i le =
-            let later = or_other (is_pair a n x) (list_any (is_pair a n) xs) i f.held in
-            let lo = pair_above a x.number n xs (head-above state_number x xs r) later in
-            absurd (omega (arith, lo, le))
-    go more false e =
-        rw e (more (record {
-          held = or_other (is_pair a n x) (list_any (is_pair a n) xs) (apart (is_pair a n x) refl) f.held;
-          above_it = f.above_it;
-          most_it = f.most_it;
-          least = λ k any l m. f.least k (later k any) l m;
-        }))
-      where
-        or_true : (b : Bool) → (b || true) ≡ true
-        or_true true = refl
-        or_true false = refl
-
-        later : (k : ℕ) → list_any (is_pair a k) xs ≡ true → list_any (is_pair a k) (x ∷ xs) ≡ true
-        later k any = ap (λ b. is_pair a k x || b) any ∙ or_true (is_pair a k x)
-
-        apart : (b : Bool) → is_pair a n x ≡ b → is_pair a n x ≡ false
-        apart true i =
-            let s = (and_parts (is_of_source a x) (x.number == n) i).0 in
-            let q = number_true x.number n (and_parts (is_of_source a x) (x.number == n) i).1 in
-            let w : between above most x.number ≡ true = ap (between above most) q ∙ between_true above most n f.above_it f.most_it in
-            let z = and_from (is_of_source a x) (between above most x.number) s w in
-            absurd (cc (z, e))
-        apart false i = i
-
-pub first-none : (a : Addr) (above most : ℕ) (xs : List State) → ((n : ℕ) → above < n → n ≤ most → list_any (is_pair a n) xs ≡ false) → slice_get (waiting_of a above most xs) 0 ≡ None
-first-none a above most [] h = refl
-first-none a above most (x ∷ xs) h = go (first-none a above most xs) (is_of_source a x && between above most x.number) refl
-  where
-    or_no : (b c : Bool) → (b || c) ≡ false → c ≡ false
-    or_no true c e = absurd (cc e)
-    or_no false c e = e
-
-    go : (((n : ℕ) → above < n → n ≤ most → list_any (is_pair a n) xs ≡ false) → slice_get (waiting_of a above most xs) 0 ≡ None) → (b : Bool) → (is_of_source a x && between above most x.number) ≡ b → slice_get (waiting_of a above most (x ∷ xs)) 0 ≡ None
-    go more true e =
-        let s = (and_parts (is_of_source a x) (between above most x.number) e).0 in
-        let w = (and_parts (is_of_source a x) (between above most x.number) e).1 in
-        let z = h x.number (between_low above most x.number w) (between_high above most x.number w) in
-        let y : list_any (is_pair a x.number) (x ∷ xs) ≡ true = ap (λ b. b || list_any (is_pair a x.number) xs) (and_from (is_of_source a x) (x.number == x.number) s (same_self x.number)) in
-        absurd (cc (y, z))
-    go more false e = rw e (more (λ n l m. or_no (is_pair a n x) (list_any (is_pair a n) xs) (h n l m)))
-
 -- a pair that was placed is taken out again
 pub pair-undone : (p q : Source × ℕ) (a b c : Bool) → a ≡ false → b ≡ cond (is_found (pair_cmp p) q) true c → (is_found (pair_cmp p) q ≡ true → c ≡ a) → cond (is_found (pair_cmp p) q) false b ≡ c
 pair-undone p q a b c z e h = go (is_found (pair_cmp p) q) refl
@@ -284,34 +158,189 @@ pair-undone p q a b c z e h = go (is_found (pair_cmp p) q) refl
     go true i = rw i (sym (h i ∙ z))
     go false i = let e' : b ≡ c = (rw i at e) in rw i e'
 
--- ---- what a range over the pairs of a source gives
+pub set-undone : (p : Source × ℕ) (old mid new : BTreeSet (Source × ℕ)) → tree.contains pair_cmp old p ≡ false → HasPair p old mid → LosesPair p mid new → SamePairs old new
+set-undone p old mid new z h k q =
+    k q ∙ pair-undone p q (tree.contains pair_cmp old p) (tree.contains pair_cmp mid q) (tree.contains pair_cmp old q) z (h q) (λ i. ap (tree.contains pair_cmp old) (sym (pair_found p q i)))
 
--- the pairs that are found are those of the states
-abbrev pub ArePairs : BTreeSet (Source × ℕ) → List State → Type 0
-ArePairs pairs xs = (b : Addr) (n : ℕ) → IsAddr b → tree.contains pair_cmp pairs (ordered_source b, n) ≡ list_any (is_pair b n) xs
+pub filed-undone : (x : Profile) (d : Dir) (s : State) (old mid new : Filing) → tree.contains pair_cmp (pairs_on x d old) (pair_of x d s) ≡ false
+    → HasPair (pair_of x d s) (pairs_on x d old) (pairs_on x d mid) → LosesPair (pair_of x d s) (pairs_on x d mid) (pairs_on x d new) → SamePairs (pairs_on x d old) (pairs_on x d new)
+filed-undone x d s old mid new z h k = set-undone (pair_of x d s) (pairs_on x d old) (pairs_on x d mid) (pairs_on x d new) z h k
 
-of-own : (above most : ℕ) (pairs : BTreeSet (Source × ℕ)) (r : List (Source × ℕ)) (own other : Source) → own ≡ other
-    → tree.IsKeyRangeOf pair_cmp (Excluded (own, above)) (Included (own, most)) pairs r → tree.IsKeyRangeOf pair_cmp (Excluded (other, above)) (Included (other, most)) pairs r
-of-own above most pairs r own other is h = subst (λ (o : Source). tree.IsKeyRangeOf pair_cmp (Excluded (o, above)) (Included (o, most)) pairs r) is h
+-- ---- the states by an address under which they are filed
 
-pub first-of-range : (a : Addr) (above most : ℕ) (xs : List State) (pairs : BTreeSet (Source × ℕ)) (k : Source × ℕ) (r r' : List (Source × ℕ)) (own : Source)
-    → own ≡ ordered_source a → IsAddr a → ArePairs pairs xs → r ≡ k ∷ r'
-    → tree.IsKeyRangeOf pair_cmp (Excluded (own, above)) (Included (own, most)) pairs r → IsFirstOf a above most k.1 xs
-first-of-range a above most xs pairs k r r' own is u paired e ranged =
-    let h = of-own above most pairs r own (ordered_source a) is ranged in
-    let first = subst (λ z. IfSome (slice_get z 0) (tree.IsKeyInRange pair_cmp (Excluded (ordered_source a, above)) (Included (ordered_source a, most)) pairs)) e h.1 in
-    let o = of-range (ordered_source a) above most k.0 k.1 first.0.0 first.0.1 in
-    record {
-      held = sym (paired a k.1 u) ∙ ap (λ (b : Source). tree.contains pair_cmp pairs (b, k.1)) (sym o.source) ∙ first.1;
-      above_it = o.above_it;
-      most_it = o.most_it;
-      least = λ n any l m.
-          let z : is_gt (pair_cmp k (ordered_source a, n)) ≡ false =
-          subst (λ z. IfSome (slice_get z 0) (λ (q : Source × ℕ). is_gt (pair_cmp q (ordered_source a, n)) ≡ false)) e (h.2 (ordered_source a, n) (in-range (ordered_source a) above most n l m) (paired a n u ∙ any)) in
-          nat_not_gt k.1 n (ap (λ o. is_gt (ordering_then o (nat_cmp k.1 n))) (sym (source_itself (ordered_source a)) ∙ ap (λ (b : Source). source_cmp b (ordered_source a)) (sym o.source)) ∙ z);
-    }
+module _ (under : State → Addr) where
+  -- a state is filed under this one
+  abbrev pub filed_at : Addr → State → Bool
+  filed_at a s = same_addr (under s) a
 
-pub none-of-range : (a : Addr) (above most : ℕ) (xs : List State) (pairs : BTreeSet (Source × ℕ)) (r : List (Source × ℕ)) (own : Source)
-    → own ≡ ordered_source a → IsAddr a → ArePairs pairs xs → r ≡ []
-    → tree.IsKeyRangeOf pair_cmp (Excluded (own, above)) (Included (own, most)) pairs r → (n : ℕ) → above < n → n ≤ most → list_any (is_pair a n) xs ≡ false
-none-of-range a above most xs pairs r own is u paired e ranged n l m = sym (paired a n u) ∙ (of-own above most pairs r own (ordered_source a) is ranged).5 e (ordered_source a, n) (in-range (ordered_source a) above most n l m)
+  pub pair_test : (s : State) (a : Addr) (n : ℕ) → IsAddr (under s) → IsAddr a → is_found (pair_cmp (ordered_source (under s), s.number)) (ordered_source a, n) ≡ is_pair under a n s
+  pair_test s a n u v = go (is_found (pair_cmp (ordered_source (under s), s.number)) (ordered_source a, n)) refl (is_pair under a n s) refl
+    where
+      same_self : (k : ℕ) → (k == k) ≡ true
+      same_self k = grind (arith, nat_tests)
+
+      same_number : (k m : ℕ) → (k == m) ≡ true → k ≡ m
+      same_number k m h = grind (arith, nat_tests)
+
+      nat_itself : (k : ℕ) → nat_cmp k k ≡ Equal
+      nat_itself k = grind (arith, nat_tests)
+
+      found_self : (b : Source) (k : ℕ) → is_found (pair_cmp (b, k)) (b, k) ≡ true
+      found_self b k =
+          let z : pair_cmp (b, k) (b, k) ≡ Equal = ap (λ o. ordering_then o (nat_cmp k k)) (source_itself b) ∙ nat_itself k in
+          ap (λ (o : Ordering). is_found (λ (x : Source × ℕ). o) (b, k)) z
+
+      go : (x : Bool) → is_found (pair_cmp (ordered_source (under s), s.number)) (ordered_source a, n) ≡ x → (y : Bool) → is_pair under a n s ≡ y
+          → is_found (pair_cmp (ordered_source (under s), s.number)) (ordered_source a, n) ≡ is_pair under a n s
+      go true e true f = e ∙ sym f
+      go false e false f = e ∙ sym f
+      go true e false f =
+          let w = pair_found (ordered_source (under s), s.number) (ordered_source a, n) e in
+          let o : (under s) ≡ a = one-source (under s) a u v (λ i. (w i).0) in
+          let z : is_pair under a n s ≡ true = and_from _ _ (ap (λ (b : Addr). same_addr (under s) b) (sym o) ∙ same_addr_self (under s)) (ap (λ (p : Source × ℕ). s.number == p.1) (sym w) ∙ same_self s.number) in
+          absurd (cc (z, f))
+      go false e true f =
+          let p = same_addr_true (under s) a (and_parts (same_addr (under s) a) (s.number == n) f).0 in
+          let q = same_number s.number n (and_parts (same_addr (under s) a) (s.number == n) f).1 in
+          let z : is_found (pair_cmp (ordered_source (under s), s.number)) (ordered_source a, n) ≡ true =
+          ap (λ (x : Source × ℕ). is_found (pair_cmp (ordered_source (under s), s.number)) x) (λ i. (ordered_source (sym p i), sym q i)) ∙ found_self (ordered_source (under s)) s.number in
+          absurd (cc (z, e))
+
+  -- ---- the first of the states of a source
+
+  -- a number is the least above one and up to another of the states of a source
+  pub record IsFirstOf (a : Addr) (above most n : ℕ) (xs : List State) : Type 0 where
+    pub held : list_any (is_pair under a n) xs ≡ true
+    pub above_it : above < n
+    pub most_it : n ≤ most
+    pub least : (k : ℕ) → list_any (is_pair under a k) xs ≡ true → above < k → k ≤ most → n ≤ k
+
+  same_self : (k : ℕ) → (k == k) ≡ true
+  same_self k = grind (arith, nat_tests)
+
+  between_true : (above most n : ℕ) → above < n → n ≤ most → between above most n ≡ true
+  between_true above most n l m = grind (arith, nat_tests)
+
+  between_low : (above most n : ℕ) → between above most n ≡ true → above < n
+  between_low above most n h = grind (arith, nat_tests)
+
+  between_high : (above most n : ℕ) → between above most n ≡ true → n ≤ most
+  between_high above most n h = grind (arith, nat_tests)
+
+  or_other : (b c : Bool) → b ≡ false → (b || c) ≡ true → c ≡ true
+  or_other true c e h = absurd (cc e)
+  or_other false c e h = h
+
+  number_true : (k n : ℕ) → (k == n) ≡ true → k ≡ n
+  number_true k n h = grind (arith, nat_tests)
+
+  pair_above : (a : Addr) (k n : ℕ) (xs : List State) → Above state_number k xs → list_any (is_pair under a n) xs ≡ true → k < n
+  pair_above a k n [] h any = absurd (cc any)
+  pair_above a k n (x ∷ xs) (h, hs) any = go (pair_above a k n xs hs) (is_pair under a n x) refl
+    where
+      go : (list_any (is_pair under a n) xs ≡ true → k < n) → (b : Bool) → is_pair under a n x ≡ b → k < n
+      go more true e = let q = number_true x.number n (and_parts (same_addr (under x) a) (x.number == n) e).1 in omega (arith, h, q)
+      go more false e = more (or_other (is_pair under a n x) (list_any (is_pair under a n) xs) e any)
+
+  pub first-some : (a : Addr) (above most n : ℕ) (xs : List State) → IsRisingBy state_number xs → IsFirstOf a above most n xs → slice_get (waiting_of (filed_at a) above most xs) 0 ≡ Some n
+  first-some a above most n [] r f = let h = f.held in absurd (cc h)
+  first-some a above most n (x ∷ xs) r f = go (first-some a above most n xs (rest-rising state_number x xs r)) (same_addr (under x) a && between above most x.number) refl
+    where
+      self-held : same_addr (under x) a ≡ true → list_any (is_pair under a x.number) (x ∷ xs) ≡ true
+      self-held s = ap (λ b. b || list_any (is_pair under a x.number) xs) (and_from (same_addr (under x) a) (x.number == x.number) s (same_self x.number))
+
+      go : (IsFirstOf a above most n xs → slice_get (waiting_of (filed_at a) above most xs) 0 ≡ Some n) → (b : Bool) → (same_addr (under x) a && between above most x.number) ≡ b → slice_get (waiting_of (filed_at a) above most (x ∷ xs)) 0 ≡ Some n
+      go more true e =
+          let s = (and_parts (same_addr (under x) a) (between above most x.number) e).0 in
+          let w = (and_parts (same_addr (under x) a) (between above most x.number) e).1 in
+          let le : n ≤ x.number = f.least x.number (self-held s) (between_low above most x.number w) (between_high above most x.number w) in
+          rw e (ap Some (same (is_pair under a n x) refl le))
+        where
+          same : (b : Bool) → is_pair under a n x ≡ b → n ≤ x.number → x.number ≡ n
+          same true i le = number_true x.number n (and_parts (same_addr (under x) a) (x.number == n) i).1
+          same false i le =
+              let later = or_other (is_pair under a n x) (list_any (is_pair under a n) xs) i f.held in
+              let lo = pair_above a x.number n xs (head-above state_number x xs r) later in
+              absurd (omega (arith, lo, le))
+      go more false e =
+          rw e (more (record {
+            held = or_other (is_pair under a n x) (list_any (is_pair under a n) xs) (apart (is_pair under a n x) refl) f.held;
+            above_it = f.above_it;
+            most_it = f.most_it;
+            least = λ k any l m. f.least k (later k any) l m;
+          }))
+        where
+          or_true : (b : Bool) → (b || true) ≡ true
+          or_true true = refl
+          or_true false = refl
+
+          later : (k : ℕ) → list_any (is_pair under a k) xs ≡ true → list_any (is_pair under a k) (x ∷ xs) ≡ true
+          later k any = ap (λ b. is_pair under a k x || b) any ∙ or_true (is_pair under a k x)
+
+          apart : (b : Bool) → is_pair under a n x ≡ b → is_pair under a n x ≡ false
+          apart true i =
+              let s = (and_parts (same_addr (under x) a) (x.number == n) i).0 in
+              let q = number_true x.number n (and_parts (same_addr (under x) a) (x.number == n) i).1 in
+              let w : between above most x.number ≡ true = ap (between above most) q ∙ between_true above most n f.above_it f.most_it in
+              let z = and_from (same_addr (under x) a) (between above most x.number) s w in
+              absurd (cc (z, e))
+          apart false i = i
+
+  pub first-none : (a : Addr) (above most : ℕ) (xs : List State) → ((n : ℕ) → above < n → n ≤ most → list_any (is_pair under a n) xs ≡ false) → slice_get (waiting_of (filed_at a) above most xs) 0 ≡ None
+  first-none a above most [] h = refl
+  first-none a above most (x ∷ xs) h = go (first-none a above most xs) (same_addr (under x) a && between above most x.number) refl
+    where
+      or_no : (b c : Bool) → (b || c) ≡ false → c ≡ false
+      or_no true c e = absurd (cc e)
+      or_no false c e = e
+
+      go : (((n : ℕ) → above < n → n ≤ most → list_any (is_pair under a n) xs ≡ false) → slice_get (waiting_of (filed_at a) above most xs) 0 ≡ None) → (b : Bool) → (same_addr (under x) a && between above most x.number) ≡ b → slice_get (waiting_of (filed_at a) above most (x ∷ xs)) 0 ≡ None
+      go more true e =
+          let s = (and_parts (same_addr (under x) a) (between above most x.number) e).0 in
+          let w = (and_parts (same_addr (under x) a) (between above most x.number) e).1 in
+          let z = h x.number (between_low above most x.number w) (between_high above most x.number w) in
+          let y : list_any (is_pair under a x.number) (x ∷ xs) ≡ true = ap (λ b. b || list_any (is_pair under a x.number) xs) (and_from (same_addr (under x) a) (x.number == x.number) s (same_self x.number)) in
+          absurd (cc (y, z))
+      go more false e = rw e (more (λ n l m. or_no (is_pair under a n x) (list_any (is_pair under a n) xs) (h n l m)))
+
+  -- ---- what a range over the pairs of a source gives
+
+  -- the pairs that are found are those of the states
+  abbrev pub ArePairs : BTreeSet (Source × ℕ) → List State → Type 0
+  ArePairs pairs xs = (b : Addr) (n : ℕ) → IsAddr b → tree.contains pair_cmp pairs (ordered_source b, n) ≡ list_any (is_pair under b n) xs
+
+  of-own : (above most : ℕ) (pairs : BTreeSet (Source × ℕ)) (r : List (Source × ℕ)) (own other : Source) → own ≡ other
+      → tree.IsKeyRangeOf pair_cmp (Excluded (own, above)) (Included (own, most)) pairs r → tree.IsKeyRangeOf pair_cmp (Excluded (other, above)) (Included (other, most)) pairs r
+  of-own above most pairs r own other is h = subst (λ (o : Source). tree.IsKeyRangeOf pair_cmp (Excluded (o, above)) (Included (o, most)) pairs r) is h
+
+  pub first-of-range : (a : Addr) (above most : ℕ) (xs : List State) (pairs : BTreeSet (Source × ℕ)) (k : Source × ℕ) (r r' : List (Source × ℕ)) (own : Source)
+      → own ≡ ordered_source a → IsAddr a → ArePairs pairs xs → r ≡ k ∷ r'
+      → tree.IsKeyRangeOf pair_cmp (Excluded (own, above)) (Included (own, most)) pairs r → IsFirstOf a above most k.1 xs
+  first-of-range a above most xs pairs k r r' own is u paired e ranged =
+      let h = of-own above most pairs r own (ordered_source a) is ranged in
+      let first = subst (λ z. IfSome (slice_get z 0) (tree.IsKeyInRange pair_cmp (Excluded (ordered_source a, above)) (Included (ordered_source a, most)) pairs)) e h.1 in
+      let o = of-range (ordered_source a) above most k.0 k.1 first.0.0 first.0.1 in
+      record {
+        held = sym (paired a k.1 u) ∙ ap (λ (b : Source). tree.contains pair_cmp pairs (b, k.1)) (sym o.source) ∙ first.1;
+        above_it = o.above_it;
+        most_it = o.most_it;
+        least = λ n any l m.
+            let z : is_gt (pair_cmp k (ordered_source a, n)) ≡ false =
+            subst (λ z. IfSome (slice_get z 0) (λ (q : Source × ℕ). is_gt (pair_cmp q (ordered_source a, n)) ≡ false)) e (h.2 (ordered_source a, n) (in-range (ordered_source a) above most n l m) (paired a n u ∙ any)) in
+            nat_not_gt k.1 n (ap (λ o. is_gt (ordering_then o (nat_cmp k.1 n))) (sym (source_itself (ordered_source a)) ∙ ap (λ (b : Source). source_cmp b (ordered_source a)) (sym o.source)) ∙ z);
+      }
+
+  pub none-of-range : (a : Addr) (above most : ℕ) (xs : List State) (pairs : BTreeSet (Source × ℕ)) (r : List (Source × ℕ)) (own : Source)
+      → own ≡ ordered_source a → IsAddr a → ArePairs pairs xs → r ≡ []
+      → tree.IsKeyRangeOf pair_cmp (Excluded (own, above)) (Included (own, most)) pairs r → (n : ℕ) → above < n → n ≤ most → list_any (is_pair under a n) xs ≡ false
+  none-of-range a above most xs pairs r own is u paired e ranged n l m = sym (paired a n u) ∙ (of-own above most pairs r own (ordered_source a) is ranged).5 e (ordered_source a, n) (in-range (ordered_source a) above most n l m)
+
+-- what a flush takes for the states of an address are those that are filed under it
+pub beside-filed : (q : Profile) (d : Dir) (a : Addr) → filed_at (filed_under q d) a ≡ is_beside q d a
+beside-filed profile.Own d a = refl
+beside-filed profile.OpenBsd74 d a = refl
+
+-- the pairs of the set for a direction are those of the states that are filed
+pub set-pairs : (q own : Profile) (d : Dir) (f : Filing) (pairs : BTreeSet (Source × ℕ)) (xs : List State) → pairs ≡ pairs_on q d f → q ≡ own
+    → ArePairs (filed_under own d) (pairs_on own d f) xs → ArePairs (filed_under own d) pairs xs
+set-pairs q own d f pairs xs e k h = subst (λ (ps : BTreeSet (Source × ℕ)). ArePairs (filed_under own d) ps xs) (sym (e ∙ ap (λ x. pairs_on x d f) k)) h

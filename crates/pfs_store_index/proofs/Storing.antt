@@ -5,16 +5,20 @@ use Rattle.std.proofs.lemmas.Bool.Decides.{nat_tests}
 use Rattle.std.proofs.lemmas.Option.{slice_get_past}
 use Rattle.pfs_addr_values.specs.Packets.{PacketView, run_limit}
 use Rattle.pfs_addr_values.specs.declared.addresses.Addr.{Addr}
+use Rattle.pfs_addr_values.specs.declared.packets.Dir.{Dir}
 use Rattle.pfs_conf_values.specs.Configs.{Conf}
 use Rattle.pfs_conf_values.specs.declared.actions.Rate.{Rate}
 use Rattle.pfs_conf_values.specs.declared.items.RuleNo.{RuleNo}
+use Rattle.pfs_conf_values.specs.Profiles.{effective}
+use Rattle.pfs_conf_values.specs.declared.profiles.Profile.{Profile}
+use Rattle.pfs_conf_values.specs.declared.profiles.Profile.TheVariants as profile
 use Rattle.pfs_track.specs.Lifetimes.{is_expired, scaled_lifetime}
 use Rattle.pfs_track.specs.Scores.{score_after}
 use Rattle.pfs_store_contract.specs.Admission.{new_node, nodes_with}
 use Rattle.pfs_store_contract.proofs.SliceLaws.{lifetime-unread}
-use Rattle.pfs_store_contract.specs.Counts.{has_node, is_node, is_of_source, node_scope_of, node_states, rule_states}
+use Rattle.pfs_store_contract.specs.Counts.{has_node, is_node, node_scope_of, node_states, rule_states}
 use Rattle.pfs_store_contract.specs.Calls.{source_states, stays_unflushed}
-use Rattle.pfs_store_contract.specs.Leaving.{node_after_leaving, is_flushed, world_without}
+use Rattle.pfs_store_contract.specs.Leaving.{is_beside, is_flushed, node_after_leaving, node_retention, world_without}
 use Rattle.pfs_store_contract.specs.Plain.{AreCounts}
 use Rattle.pfs_store_contract.specs.Purging.{has_expired, is_among, node_numbers, node_share, node_slice, node_stays, round, state_numbers, state_share, state_slice, stays}
 use Rattle.pfs_store_contract.specs.Touching.{completes_at, nodes_scored, nodes_touched, numbered_state_after, node_after_handshake, world_after_touch}
@@ -52,11 +56,14 @@ numbered-later : (made : ℕ) (numbers : List ℕ) → IsNumbered made numbers �
 numbered-later made [] h = tt
 numbered-later made (n ∷ ns) (h, hs) = ((h.0, omega (arith, h.1)), numbered-later made ns hs)
 
-numbers-idled : (conf : Conf) (before after : List State) (now : ℕ) (ns : List Node) → node_numbers (map (node_after_leaving conf before after now) ns) ≡ node_numbers ns
-numbers-idled conf before after now [] = refl
-numbers-idled conf before after now (n ∷ ns) = (λ i. go (nat_lt 0 (node_states conf n.scope n.source before) && (node_states conf n.scope n.source after == 0)) i ∷ numbers-idled conf before after now ns i)
+numbered-grown : (made : ℕ) (numbers : List ℕ) → IsNumbered made numbers → IsNumbered (made + 1) (numbers ++ (made + 1) ∷ [])
+numbered-grown made numbers k = all-push (λ k. (1 ≤ k) × (k ≤ made + 1)) (made + 1) numbers (numbered-later made numbers k) (omega arith, omega arith)
+
+numbers-kept : (conf : Conf) (before after : List State) (now : ℕ) (ns : List Node) → node_numbers (map (node_after_leaving conf before after now) ns) ≡ node_numbers ns
+numbers-kept conf before after now [] = refl
+numbers-kept conf before after now (n ∷ ns) = (λ i. go (nat_lt 0 (node_states conf n.scope n.source before) && (node_states conf n.scope n.source after == 0)) i ∷ numbers-kept conf before after now ns i)
   where
-    go : (b : Bool) → (if b then record n { idle = now } else n).number ≡ n.number
+    go : (b : Bool) → (if b then record n { expires = now + node_retention conf n.scope } else n).number ≡ n.number
     go true = refl
     go false = refl
 
@@ -152,7 +159,7 @@ world-without p now h h' c m c' m' made r e f =
     let ps : waiting c m (state_numbers h'.states) ≡ filter (holds_number (filter p h.states)) (waiting c m (state_numbers h.states)) =
     ap (λ xs. waiting c m (state_numbers xs)) e ∙ waiting-without c m p h.states r in
     let qs : waiting c' m' (node_numbers h'.nodes) ≡ waiting c' m' (node_numbers h.nodes) =
-    ap (waiting c' m') (ap node_numbers ns ∙ numbers-idled h.config h.states (filter p h.states) now h.nodes) in
+    ap (waiting c' m') (ap node_numbers ns ∙ numbers-kept h.config h.states (filter p h.states) now h.nodes) in
     (λ i. lists (e i) (ns i) (ps i) (qs i) made)
 
 pub stored-without : (p : State → Bool) (now : ℕ) (h h' : Holding) (c m c' m' c2 m2 made places : ℕ) → h'.config ≡ h.config → h'.states ≡ filter p h.states
@@ -164,7 +171,7 @@ stored-without p now h h' c m c' m' c2 m2 made places g e f i l k = record {
   node_mark_made = i.node_mark_made;
   few = i.few;
   numbered = subst (λ xs. IsNumbered made (state_numbers xs)) (sym e) (numbered-filter (λ (s : State). s.number) p made h.states i.numbered);
-  node_numbered = subst (IsNumbered made) (sym (ap node_numbers f ∙ numbers-idled h.config h.states h'.states now h.nodes)) i.node_numbered;
+  node_numbered = subst (IsNumbered made) (sym (ap node_numbers f ∙ numbers-kept h.config h.states h'.states now h.nodes)) i.node_numbered;
   places = subst (λ (conf : Conf). places ≤ length conf.items) (sym g) i.places;
   unread = subst (λ (conf : Conf). AreUnread conf places) (sym g) i.unread;
 }
@@ -181,7 +188,7 @@ world-slice now share h h' b k c m c' m' made rs s r e f w =
     let ns : h'.nodes ≡ map (node_after_leaving h.config h.states (filter (stays h.config h.states now (take (state_share h.config) (round (state_numbers h.states) (waiting b k (state_numbers h.states))))) h.states) now) h.nodes =
     f ∙ ap (λ ys. map (node_after_leaving h.config h.states ys now) h.nodes) xs in
     let qs : waiting c' m' (node_numbers h'.nodes) ≡ waiting c' m' (node_numbers h.nodes) =
-    ap (waiting c' m') (ap node_numbers f ∙ numbers-idled h.config h.states h'.states now h.nodes) in
+    ap (waiting c' m') (ap node_numbers f ∙ numbers-kept h.config h.states h'.states now h.nodes) in
     (λ i. lists (xs i) (ns i) ((w ∙ (λ j. drop (s j) (r j))) i) (qs i) made)
 
 -- ---- a slice of the nodes
@@ -253,42 +260,65 @@ waiting-came c m made (n ∷ ns) l = go (between c m n) (waiting-came c m made n
     go true e = ap (λ ys. n ∷ ys) e
     go false e = e
 
-numbers-with : (ns : List Node) (number : ℕ) (a : Addr) (sc : Option NodeScope) (P : List ℕ → Type 0) → P (node_numbers ns) → P (node_numbers ns ++ number ∷ []) → P (node_numbers (nodes_with ns number a sc))
-numbers-with ns number a None P h k = h
-numbers-with ns number a (Some sc) P h k = go (has_node sc a ns)
+numbers-with : (ns : List Node) (number : ℕ) (a : Addr) (at : ℕ) (sc : Option NodeScope) (P : List ℕ → Type 0) → P (node_numbers ns) → P (node_numbers ns ++ number ∷ []) → P (node_numbers (nodes_with ns number a at sc))
+numbers-with ns number a at None P h k = h
+numbers-with ns number a at (Some sc) P h k = go (has_node sc a ns)
   where
-    go : (b : Bool) → P (node_numbers (if b then ns else ns ++ new_node number sc a ∷ []))
+    go : (b : Bool) → P (node_numbers (if b then ns else ns ++ new_node number sc a at ∷ []))
     go true = h
-    go false = subst P (sym (map-push (λ (n : Node). n.number) (new_node number sc a) ns)) k
+    go false = subst P (sym (map-push (λ (n : Node). n.number) (new_node number sc a at) ns)) k
 
 pub world-came : (s : State) (h h' : Holding) (c m c' m' made places : ℕ) → IsStored h c m c' m' made places → s.number ≡ made + 1 → h'.states ≡ h.states ++ s ∷ []
-    → h'.nodes ≡ nodes_with h.nodes (made + 1) s.source (node_scope_of h.config s.rule.0)
-    → world_of h' c m c' m' (made + 1) ≡ lists (h.states ++ s ∷ []) (nodes_with h.nodes (made + 1) s.source (node_scope_of h.config s.rule.0))
+    → h'.nodes ≡ nodes_with h.nodes (made + 1) s.source s.last (node_scope_of h.config s.rule.0)
+    → world_of h' c m c' m' (made + 1) ≡ lists (h.states ++ s ∷ []) (nodes_with h.nodes (made + 1) s.source s.last (node_scope_of h.config s.rule.0))
     (waiting c m (state_numbers h.states)) (waiting c' m' (node_numbers h.nodes)) (made + 1)
 world-came s h h' c m c' m' made places i n e f =
     (λ j. lists (e j) (f j)
     ((ap (λ xs. waiting c m (state_numbers xs)) e ∙ ap (waiting c m) (map-push (λ (x : State). x.number) s h.states ∙ ap (λ k. state_numbers h.states ++ k ∷ []) n) ∙ waiting-came c m made (state_numbers h.states) i.mark_made) j)
     ((ap (λ ns. waiting c' m' (node_numbers ns)) f
-    ∙ numbers-with h.nodes (made + 1) s.source (node_scope_of h.config s.rule.0) (λ ks. waiting c' m' ks ≡ waiting c' m' (node_numbers h.nodes)) refl (waiting-came c' m' made (node_numbers h.nodes) i.node_mark_made)) j)
+    ∙ numbers-with h.nodes (made + 1) s.source s.last (node_scope_of h.config s.rule.0) (λ ks. waiting c' m' ks ≡ waiting c' m' (node_numbers h.nodes)) refl (waiting-came c' m' made (node_numbers h.nodes) i.node_mark_made)) j)
     (made + 1))
 
 pub stored-came : (s : State) (h h' : Holding) (c m c' m' made places : ℕ) → made < run_limit → IsStored h c m c' m' made places → s.number ≡ made + 1 → h'.config ≡ h.config
-    → h'.states ≡ h.states ++ s ∷ [] → h'.nodes ≡ nodes_with h.nodes (made + 1) s.source (node_scope_of h.config s.rule.0) → IsStored h' c m c' m' (made + 1) places
+    → h'.states ≡ h.states ++ s ∷ [] → h'.nodes ≡ nodes_with h.nodes (made + 1) s.source s.last (node_scope_of h.config s.rule.0) → IsStored h' c m c' m' (made + 1) places
 stored-came s h h' c m c' m' made places l i n g e f = record {
   order = i.order;
   mark_made = omega (arith, i.mark_made);
   node_order = i.node_order;
   node_mark_made = omega (arith, i.node_mark_made);
   few = omega arith;
-  numbered = subst (IsNumbered (made + 1)) (sym (ap state_numbers e ∙ map-push (λ (x : State). x.number) s h.states ∙ ap (λ k. state_numbers h.states ++ k ∷ []) n)) (grown (state_numbers h.states) i.numbered);
+  numbered = subst (IsNumbered (made + 1)) (sym (ap state_numbers e ∙ map-push (λ (x : State). x.number) s h.states ∙ ap (λ k. state_numbers h.states ++ k ∷ []) n)) (numbered-grown made (state_numbers h.states) i.numbered);
   node_numbered = subst (λ ns. IsNumbered (made + 1) (node_numbers ns)) (sym f)
-      (numbers-with h.nodes (made + 1) s.source (node_scope_of h.config s.rule.0) (IsNumbered (made + 1)) (numbered-later made (node_numbers h.nodes) i.node_numbered) (grown (node_numbers h.nodes) i.node_numbered));
+      (numbers-with h.nodes (made + 1) s.source s.last (node_scope_of h.config s.rule.0) (IsNumbered (made + 1)) (numbered-later made (node_numbers h.nodes) i.node_numbered) (numbered-grown made (node_numbers h.nodes) i.node_numbered));
   places = subst (λ (conf : Conf). places ≤ length conf.items) (sym g) i.places;
   unread = subst (λ (conf : Conf). AreUnread conf places) (sym g) i.unread;
 }
-  where
-    grown : (numbers : List ℕ) → IsNumbered made numbers → IsNumbered (made + 1) (numbers ++ (made + 1) ∷ [])
-    grown numbers k = all-push (λ k. (1 ≤ k) × (k ≤ made + 1)) (made + 1) numbers (numbered-later made numbers k) (omega arith, omega arith)
+
+-- ---- a node comes without a state
+
+pub world-left : (a : Addr) (now : ℕ) (o : Option NodeScope) (h h' : Holding) (c m c' m' made places : ℕ) → IsStored h c m c' m' made places → h'.states ≡ h.states
+    → h'.nodes ≡ nodes_with h.nodes (made + 1) a now o
+    → world_of h' c m c' m' (made + 1) ≡ lists h.states (nodes_with h.nodes (made + 1) a now o) (waiting c m (state_numbers h.states)) (waiting c' m' (node_numbers h.nodes)) (made + 1)
+world-left a now o h h' c m c' m' made places i e f =
+    (λ j. lists (e j) (f j) (waiting c m (state_numbers (e j)))
+    ((ap (λ ns. waiting c' m' (node_numbers ns)) f
+    ∙ numbers-with h.nodes (made + 1) a now o (λ ks. waiting c' m' ks ≡ waiting c' m' (node_numbers h.nodes)) refl (waiting-came c' m' made (node_numbers h.nodes) i.node_mark_made)) j)
+    (made + 1))
+
+pub stored-left : (a : Addr) (now : ℕ) (o : Option NodeScope) (h h' : Holding) (c m c' m' made places : ℕ) → made < run_limit → IsStored h c m c' m' made places → h'.config ≡ h.config
+    → h'.states ≡ h.states → h'.nodes ≡ nodes_with h.nodes (made + 1) a now o → IsStored h' c m c' m' (made + 1) places
+stored-left a now o h h' c m c' m' made places l i g e f = record {
+  order = i.order;
+  mark_made = omega (arith, i.mark_made);
+  node_order = i.node_order;
+  node_mark_made = omega (arith, i.node_mark_made);
+  few = omega arith;
+  numbered = subst (λ xs. IsNumbered (made + 1) (state_numbers xs)) (sym e) (numbered-later made (state_numbers h.states) i.numbered);
+  node_numbered = subst (λ ns. IsNumbered (made + 1) (node_numbers ns)) (sym f)
+      (numbers-with h.nodes (made + 1) a now o (IsNumbered (made + 1)) (numbered-later made (node_numbers h.nodes) i.node_numbered) (numbered-grown made (node_numbers h.nodes) i.node_numbered));
+  places = subst (λ (conf : Conf). places ≤ length conf.items) (sym g) i.places;
+  unread = subst (λ (conf : Conf). AreUnread conf places) (sym g) i.unread;
+}
 
 -- ---- a slice under the counts before it
 
@@ -361,63 +391,67 @@ read-more has rule read u r l m = go (has rule) refl l
 pub read-all : (conf : Conf) (read : ℕ) → ((r : ℕ) → read ≤ r → r < length conf.items → has_pair conf r ≡ false) → AreUnread conf read
 read-all conf read u r l = go (nat_lt r (length conf.items)) refl
   where
+    ungiven : (q : Profile) → is_some (effective q None) ≡ false
+    ungiven profile.Own = refl
+    ungiven profile.OpenBsd74 = refl
+
     go : (b : Bool) → nat_lt r (length conf.items) ≡ b → has_pair conf r ≡ false
     go true t = u r l (is_less r (length conf.items) t)
-    go false t = rw (slice_get_past conf.items r (is_not_less r (length conf.items) t)) refl
+    go false t = rw (slice_get_past conf.items r (is_not_less r (length conf.items) t)) (ungiven conf.profile)
 
 -- ---- the states of a source
 
-pub flushed-source : (a : Addr) (rule : Option RuleNo) (s : State) → is_flushed a rule s ≡ true → is_of_source a s ≡ true
-flushed-source a None s h = h
-flushed-source a (Some r) s h = second (s.rule.0 == r.0) (is_of_source a s) h
+pub flushed-source : (p : Profile) (d : Dir) (a : Addr) (rule : Option RuleNo) (s : State) → is_flushed p d a rule s ≡ true → is_beside p d a s ≡ true
+flushed-source p d a None s h = h
+flushed-source p d a (Some r) s h = second (s.rule.0 == r.0) (is_beside p d a s) h
   where
     second : (x y : Bool) → (x && y) ≡ true → y ≡ true
     second true y e = e
     second false y e = absurd cc
 
-abbrev from : Addr → ℕ → State → Bool
-from a made s = is_of_source a s && between 0 made s.number
+abbrev from : Profile → Dir → Addr → ℕ → State → Bool
+from p d a made s = is_beside p d a s && between 0 made s.number
 
-from-source : (a : Addr) (made : ℕ) (xs : List State) → IsNumbered made (state_numbers xs) → filter (from a made) xs ≡ filter (is_of_source a) xs
-from-source a made xs h = filter-agree (from a made) (is_of_source a) xs (each xs h)
+from-source : (p : Profile) (d : Dir) (a : Addr) (made : ℕ) (xs : List State) → IsNumbered made (state_numbers xs) → filter (from p d a made) xs ≡ filter (is_beside p d a) xs
+from-source p d a made xs h = filter-agree (from p d a made) (is_beside p d a) xs (each xs h)
   where
     and_true : (b c : Bool) → c ≡ true → (b && c) ≡ b
     and_true true c e = e
     and_true false c e = refl
 
-    each : (ys : List State) → IsNumbered made (state_numbers ys) → AllByRecursion (λ (y : State). from a made y ≡ is_of_source a y) ys
+    each : (ys : List State) → IsNumbered made (state_numbers ys) → AllByRecursion (λ (y : State). from p d a made y ≡ is_beside p d a y) ys
     each [] k = tt
-    each (y ∷ ys) (k, ks) = (and_true (is_of_source a y) (between 0 made y.number) (in_range made y.number k.0 k.1), each ys ks)
+    each (y ∷ ys) (k, ks) = (and_true (is_beside p d a y) (between 0 made y.number) (in_range made y.number k.0 k.1), each ys ks)
 
 numbers-length : {X : Type 0} (number : X → ℕ) (xs : List X) → length (map number xs) ≡ length xs
 numbers-length number [] = refl
 numbers-length number (x ∷ xs) = omega (arith, numbers-length number xs)
 
-pub source-count : (a : Addr) (made : ℕ) (xs : List State) → IsNumbered made (state_numbers xs) → length (map (λ (s : State). s.number) (filter (from a made) xs)) ≡ source_states a xs
-source-count a made xs h = numbers-length (λ (s : State). s.number) (filter (from a made) xs) ∙ ap length (from-source a made xs h)
+pub source-count : (p : Profile) (d : Dir) (a : Addr) (made : ℕ) (xs : List State) → IsNumbered made (state_numbers xs) → length (map (λ (s : State). s.number) (filter (from p d a made) xs)) ≡ source_states p d a xs
+source-count p d a made xs h = numbers-length (λ (s : State). s.number) (filter (from p d a made) xs) ∙ ap length (from-source p d a made xs h)
 
 or_true : (b : Bool) → (b || true) ≡ true
 or_true true = refl
 or_true false = refl
 
 -- every state of the source is among those examined in the end
-pub flushed-stays : (a : Addr) (rule : Option RuleNo) (made : ℕ) (xs : List State) → IsNumbered made (state_numbers xs)
-    → filter (stays_by state_number (is_flushed a rule) (map (λ (s : State). s.number) (filter (from a made) xs))) xs ≡ filter (stays_unflushed a rule) xs
-flushed-stays a rule made xs h =
-    filter-agree (stays_by state_number (is_flushed a rule) (map (λ (s : State). s.number) (filter (from a made) xs))) (stays_unflushed a rule) xs (each xs h (members xs))
+pub flushed-stays : (p : Profile) (d : Dir) (a : Addr) (rule : Option RuleNo) (made : ℕ) (xs : List State) → IsNumbered made (state_numbers xs)
+    → filter (stays_by state_number (is_flushed p d a rule) (map (λ (s : State). s.number) (filter (from p d a made) xs))) xs ≡ filter (stays_unflushed p d a rule) xs
+flushed-stays p d a rule made xs h =
+    filter-agree (stays_by state_number (is_flushed p d a rule) (map (λ (s : State). s.number) (filter (from p d a made) xs))) (stays_unflushed p d a rule) xs (each xs h (members xs))
   where
     ns : List ℕ
-    ns = map (λ (s : State). s.number) (filter (from a made) xs)
+    ns = map (λ (s : State). s.number) (filter (from p d a made) xs)
 
     among : List State → State → Type 0
-    among ys y = from a made y ≡ true → is_among (map (λ (s : State). s.number) (filter (from a made) ys)) y.number ≡ true
+    among ys y = from p d a made y ≡ true → is_among (map (λ (s : State). s.number) (filter (from p d a made) ys)) y.number ≡ true
 
     later : (y : State) (ys zs : List State) → AllByRecursion (among ys) zs → AllByRecursion (among (y ∷ ys)) zs
     later y ys [] k = tt
-    later y ys (z ∷ zs) (k, ks) = ((λ f. go (from a made y) (k f)), later y ys zs ks)
+    later y ys (z ∷ zs) (k, ks) = ((λ f. go (from p d a made y) (k f)), later y ys zs ks)
       where
-        go : (b : Bool) → is_among (map (λ (s : State). s.number) (filter (from a made) ys)) z.number ≡ true
-            → is_among (map (λ (s : State). s.number) (if b then y ∷ filter (from a made) ys else filter (from a made) ys)) z.number ≡ true
+        go : (b : Bool) → is_among (map (λ (s : State). s.number) (filter (from p d a made) ys)) z.number ≡ true
+            → is_among (map (λ (s : State). s.number) (if b then y ∷ filter (from p d a made) ys else filter (from p d a made) ys)) z.number ≡ true
         go true e = ap (λ b. (y.number == z.number) || b) e ∙ or_true (y.number == z.number)
         go false e = e
 
@@ -426,42 +460,42 @@ flushed-stays a rule made xs h =
     members (y ∷ ys) = ((λ f. rw (f, same_self y.number) refl), later y ys ys (members ys))
 
     each : (ys : List State) → IsNumbered made (state_numbers ys) → AllByRecursion (among xs) ys
-        → AllByRecursion (λ (y : State). stays_by state_number (is_flushed a rule) (map (λ (s : State). s.number) (filter (from a made) xs)) y ≡ stays_unflushed a rule y) ys
+        → AllByRecursion (λ (y : State). stays_by state_number (is_flushed p d a rule) (map (λ (s : State). s.number) (filter (from p d a made) xs)) y ≡ stays_unflushed p d a rule y) ys
     each [] k m = tt
-    each (y ∷ ys) (k, ks) (m, ms) = (go (is_flushed a rule y) refl, each ys ks ms)
+    each (y ∷ ys) (k, ks) (m, ms) = (go (is_flushed p d a rule y) refl, each ys ks ms)
       where
-        go : (b : Bool) → is_flushed a rule y ≡ b → stays_by state_number (is_flushed a rule) (map (λ (s : State). s.number) (filter (from a made) xs)) y ≡ stays_unflushed a rule y
+        go : (b : Bool) → is_flushed p d a rule y ≡ b → stays_by state_number (is_flushed p d a rule) (map (λ (s : State). s.number) (filter (from p d a made) xs)) y ≡ stays_unflushed p d a rule y
         go true e =
-            let s = flushed-source a rule y e in
-            let f : from a made y ≡ true = (λ i. s i && in_range made y.number k.0 k.1 i) in
+            let s = flushed-source p d a rule y e in
+            let f : from p d a made y ≡ true = (λ i. s i && in_range made y.number k.0 k.1 i) in
             rw (m f, e) refl
-        go false e = rw e (no (is_among (map (λ (s : State). s.number) (filter (from a made) xs)) y.number))
+        go false e = rw e (no (is_among (map (λ (s : State). s.number) (filter (from p d a made) xs)) y.number))
           where
             no : (b : Bool) → not (b && false) ≡ true
             no true = refl
             no false = refl
 
 -- how many are flushed
-pub flushed-count : (a : Addr) (rule : Option RuleNo) (xs : List State) → length xs - length (filter (stays_unflushed a rule) xs) ≡ length (filter (is_flushed a rule) xs)
-flushed-count a rule xs = omega (arith, both xs)
+pub flushed-count : (p : Profile) (d : Dir) (a : Addr) (rule : Option RuleNo) (xs : List State) → length xs - length (filter (stays_unflushed p d a rule) xs) ≡ length (filter (is_flushed p d a rule) xs)
+flushed-count p d a rule xs = omega (arith, both xs)
   where
-    both : (ys : List State) → length (filter (is_flushed a rule) ys) + length (filter (stays_unflushed a rule) ys) ≡ length ys
+    both : (ys : List State) → length (filter (is_flushed p d a rule) ys) + length (filter (stays_unflushed p d a rule) ys) ≡ length ys
     both [] = refl
-    both (y ∷ ys) = go (is_flushed a rule y) (both ys)
+    both (y ∷ ys) = go (is_flushed p d a rule y) (both ys)
       where
-        go : (b : Bool) → length (filter (is_flushed a rule) ys) + length (filter (stays_unflushed a rule) ys) ≡ length ys
-            → length (if b then y ∷ filter (is_flushed a rule) ys else filter (is_flushed a rule) ys) + length (if not b then y ∷ filter (stays_unflushed a rule) ys else filter (stays_unflushed a rule) ys) ≡ length (y ∷ ys)
+        go : (b : Bool) → length (filter (is_flushed p d a rule) ys) + length (filter (stays_unflushed p d a rule) ys) ≡ length ys
+            → length (if b then y ∷ filter (is_flushed p d a rule) ys else filter (is_flushed p d a rule) ys) + length (if not b then y ∷ filter (stays_unflushed p d a rule) ys else filter (stays_unflushed p d a rule) ys) ≡ length (y ∷ ys)
         go true e = omega (arith, e)
         go false e = omega (arith, e)
 
-pub flushed-le : (a : Addr) (rule : Option RuleNo) (xs : List State) → length (filter (is_flushed a rule) xs) ≤ source_states a xs
-flushed-le a rule [] = omega arith
-flushed-le a rule (x ∷ xs) = go (flushed-le a rule xs) (is_flushed a rule x) refl (is_of_source a x) refl
+pub flushed-le : (p : Profile) (d : Dir) (a : Addr) (rule : Option RuleNo) (xs : List State) → length (filter (is_flushed p d a rule) xs) ≤ source_states p d a xs
+flushed-le p d a rule [] = omega arith
+flushed-le p d a rule (x ∷ xs) = go (flushed-le p d a rule xs) (is_flushed p d a rule x) refl (is_beside p d a x) refl
   where
-    go : length (filter (is_flushed a rule) xs) ≤ source_states a xs → (b : Bool) → is_flushed a rule x ≡ b → (c : Bool) → is_of_source a x ≡ c
-        → length (filter (is_flushed a rule) (x ∷ xs)) ≤ source_states a (x ∷ xs)
+    go : length (filter (is_flushed p d a rule) xs) ≤ source_states p d a xs → (b : Bool) → is_flushed p d a rule x ≡ b → (c : Bool) → is_beside p d a x ≡ c
+        → length (filter (is_flushed p d a rule) (x ∷ xs)) ≤ source_states p d a (x ∷ xs)
     go m true t true u = rw (t, u) (omega (arith, m))
-    go m true t false u = absurd (cc (flushed-source a rule x t, u))
+    go m true t false u = absurd (cc (flushed-source p d a rule x t, u))
     go m false t true u = rw (t, u) (omega (arith, m))
     go m false t false u = rw (t, u) m
 

@@ -1,52 +1,62 @@
 -- Every index and count stays tied to the records: when a state leaves, when one comes, and when a packet of one comes.
-use Rattle.std.proofs.Common.{◌≡◌, ◌∙◌, ◌+◌, ◌-◌, ◌<◌, ◌==◌, ℕ, true, false, cond, Option, Some, None, List, [], ◌∷◌, ◌++◌, length, map, filter, option_map, slice_index, slice_set, length-set, replicate, zero, suc, refl, ap, sym, subst}
-use Rattle.std.specs.BTreeMap.{is_at as is_found}
+use Rattle.std.proofs.Common.{◌≡◌, ◌∙◌, ◌+◌, ◌-◌, ◌<◌, ◌==◌, ◌&&◌, ℕ, true, false, cond, Option, Some, None, List, [], ◌∷◌, ◌++◌, length, map, filter, option_map, slice_index, slice_set, length-set, replicate, zero, suc, refl, ap, sym, subst, arith}
 use Rattle.std.specs.BTreeSet as tree
-use Rattle.std.specs.BTreeSet.{BTreeSet}
 use Rattle.std.specs.HashMap as hash
 use Rattle.std.specs.HashMap.{HashMap}
 use Rattle.std.specs.List.{find, list_any, AllByRecursion, IsDistinct}
 use Rattle.pfs_addr_values.specs.Packets.{PacketView}
-use Rattle.pfs_addr_values.specs.Sameness.{same_key}
+use Rattle.pfs_addr_values.specs.Sameness.{same_addr, same_key}
 use Rattle.pfs_addr_values.specs.Addresses.{IsAddr}
+use Rattle.pfs_addr_values.specs.declared.addresses.Addr.{Addr}
+use Rattle.pfs_addr_values.specs.declared.packets.Dir.{Dir}
 use Rattle.pfs_addr_values.specs.declared.packets.FlowKey.{FlowKey}
 use Rattle.pfs_conf_values.specs.Configs.{Conf, options_of}
+use Rattle.pfs_conf_values.specs.declared.profiles.Profile.{Profile}
+use Rattle.pfs_conf_values.specs.declared.profiles.Profile.TheVariants as profile
 use Rattle.pfs_track.specs.StatePhases.{is_done}
+use Rattle.pfs_store_contract.specs.Admission.{new_node}
 use Rattle.pfs_store_contract.specs.Counts.{node_scope_of, rule_states}
 use Rattle.pfs_store_contract.specs.Calls.{other_than}
 use Rattle.pfs_store_contract.specs.Plain.{AreCounts}
 use Rattle.pfs_store_contract.specs.Purging.{state_numbers}
-use Rattle.pfs_store_contract.specs.Touching.{completes_at, numbered_state_after}
+use Rattle.pfs_store_contract.specs.Touching.{completes_at, numbered_state_after, state_after_packet}
 use Rattle.pfs_store_contract.specs.declared.records.NodeScope.{NodeScope}
 use Rattle.pfs_store_contract.specs.declared.records.State.{State}
 use Rattle.pfs_store_records.specs.Records.{IsRising, Placed, leaves_number, placed_at, states_of}
+use Rattle.pfs_store_records.specs.Tallies.{is_tally}
 use Rattle.pfs_store_records.specs.declared.nodes.Tally.{Tally}
 use Rattle.pfs_store_index.specs.declared.indexes.Entry.{Entry}
-use Rattle.pfs_store_index.specs.declared.sources.Source.{Source}
-use Rattle.pfs_store_index.specs.Ties.{HasPair, HasRule, IsCounted, IsTied, SamePairs, entry_of, has_key, is_pair, key_in, left_at, pair_cmp, ordered_source}
-use Rattle.pfs_store_records.specs.Changes.{HasTally, at_node, tallies_with_state, left_of, met_by}
-use Rattle.pfs_store_index.proofs.Comings.{counted-came, distinct-came, key-came, noded-came, pair-came, rule-came, ruled-came, scoped-came, scored-came}
+use Rattle.pfs_store_index.specs.declared.filing.Filing.{Filing}
+use Rattle.pfs_store_index.specs.Filed.{HasFiled, LosesFiled, SameFiled, filed_under, is_pair, ordered_source, pair_cmp, pairs_on}
+use Rattle.pfs_store_index.specs.Ties.{HasRule, IsCounted, IsTied, entry_of, has_key, key_in, left_at}
+use Rattle.pfs_store_records.specs.Changes.{HasTally, IsScope, IsScored, IsScoped, at_node, tallies_with_state, left_of, met_by}
+use Rattle.pfs_store_index.proofs.Comings.{any-more, counted-came, distinct-came, key-came, noded-came, pair-came, rule-came, ruled-came, scoped-came, scored-came, stateless-counted}
 use Rattle.pfs_store_index.proofs.Leavings.{counted-left, key-left, noded-left, pair-left, record_number, rule-left, ruled-set, scored-left, state_number}
 use Rattle.pfs_store_records.proofs.TallyLaws.{left-faithful, met-faithful}
 use Rattle.pfs_store_index.proofs.Meetings.{CountsDone, all-blind, all-met, any-blind, blind, count-blind, key-renewed, keys-renewed, noded-met, renewed_record, scored-met, states-renewed}
 use Rattle.pfs_store_records.proofs.OneNode.{scoped-at}
 use Rattle.pfs_store_index.proofs.Removals.{all-filter, all-found, distinct-filter}
-use Rattle.pfs_store_records.proofs.Searches.{map-push, part-found}
+use Rattle.pfs_store_records.proofs.Searches.{all-push, all-weaker, map-push, part-found}
 use Rattle.pfs_store_index.proofs.SourcePairs.{pair_test}
 use Rattle.pfs_store_index.proofs.Stands.{rising-records, states-left}
 use Rattle.pfs_store_records.proofs.Rising.{has_number}
 
-module _ {S : Type 0} (conf : Conf) (rs : List Placed) (keys : HashMap FlowKey Entry S) (counts : List ℕ) (ts : List Tally) (pairs : BTreeSet (Source × ℕ)) where
+-- a packet leaves what a state is filed under
+filed-blind : (q : Profile) (d : Dir) (p : PacketView) (now : ℕ) (s : State) → filed_under q d (state_after_packet p now s) ≡ filed_under q d s
+filed-blind profile.Own d p now s = refl
+filed-blind profile.OpenBsd74 d p now s = refl
+
+module _ {S : Type 0} (conf : Conf) (rs : List Placed) (keys : HashMap FlowKey Entry S) (counts : List ℕ) (ts : List Tally) (filing : Filing) where
   -- the rule of a state that is held has a count
-  pub rule-within : (s : State) → IsTied conf rs keys counts ts pairs → find (has_number state_number s.number) (states_of rs) ≡ Some s → s.rule.0 < length counts
+  pub rule-within : (s : State) → IsTied conf rs keys counts ts filing → find (has_number state_number s.number) (states_of rs) ≡ Some s → s.rule.0 < length counts
   rule-within s i f = all-found state_number (HasRule (length counts)) s.number s (states_of rs) i.ruled f
 
-  pub tied-left : (keys' : HashMap FlowKey Entry S) (pairs' : BTreeSet (Source × ℕ)) (s : State) (now v : ℕ) → IsAddr s.source → IsTied conf rs keys counts ts pairs → IsRising (state_numbers (states_of rs))
+  pub tied-left : (keys' : HashMap FlowKey Entry S) (filing' : Filing) (s : State) (now v : ℕ) → ((d : Dir) → IsAddr (filed_under conf.profile d s)) → IsTied conf rs keys counts ts filing → IsRising (state_numbers (states_of rs))
       → find (has_number state_number s.number) (states_of rs) ≡ Some s → v ≡ slice_index counts s.rule.0
       → ((k : FlowKey) → hash.get same_key keys' k ≡ cond (same_key s.key k) None (hash.get same_key keys k))
-      → ((q : Source × ℕ) → tree.contains pair_cmp pairs' q ≡ cond (is_found (pair_cmp (ordered_source s.source, s.number)) q) false (tree.contains pair_cmp pairs q))
-      → IsTied conf (filter (leaves_number s.number) rs) keys' (slice_set counts s.rule.0 (v - 1)) (map (left_at conf s now) ts) pairs'
-  tied-left keys' pairs' s now v u i r f e hk hp =
+      → LosesFiled conf.profile s filing filing'
+      → IsTied conf (filter (leaves_number s.number) rs) keys' (slice_set counts s.rule.0 (v - 1)) (map (left_at conf s now) ts) filing'
+  tied-left keys' filing' s now v u i r f e hk hp =
       let xs = states_of rs in
       let p = part-found (λ (q : Placed). q.state) (has_number state_number s.number) s rs f in
       let own : find (has_number record_number p.whole.state.number) rs ≡ Some p.whole = ap (λ (z : State). find (has_number record_number z.number) rs) p.same ∙ p.found in
@@ -62,21 +72,22 @@ module _ {S : Type 0} (conf : Conf) (rs : List Placed) (keys : HashMap FlowKey E
         ruled = subst (AllByRecursion (HasRule (length (slice_set counts s.rule.0 (v - 1))))) (sym at)
             (ruled-set counts s.rule.0 (v - 1) (filter (other_than s.number) xs) (all-filter (other_than s.number) (HasRule (length counts)) xs i.ruled));
         counted = subst (λ ys. AllByRecursion (IsCounted conf ys) (map (left_at conf s now) ts)) (sym at) (counted-left conf s now xs ts r f i.scoped i.counted);
-        scoped = scoped-at conf (node_scope_of conf s.rule.0) s.source (left_of s now) (left-faithful s now) ts i.scoped;
+        scoped = scoped-at conf (node_scope_of conf s.rule.0) s.source (left_of conf s now) (left-faithful conf s now) ts i.scoped;
         scored = scored-left conf s now ts i.scored;
         noded = subst (AllByRecursion (HasTally conf (map (left_at conf s now) ts))) (sym at)
             (noded-left conf s now ts (filter (other_than s.number) xs) (all-filter (other_than s.number) (HasTally conf ts) xs i.noded));
-        paired = λ a n at'.
-            pair-left s xs a n _ _ r f (i.paired a n at') (hp (ordered_source a, n) ∙ ap (λ b. cond b false (tree.contains pair_cmp pairs (ordered_source a, n))) (pair_test s a n u at'))
-            ∙ ap (list_any (is_pair a n)) (sym at);
+        paired = λ d a n at'.
+            pair-left (filed_under conf.profile d) s xs a n _ _ r f (i.paired d a n at')
+            (hp d (ordered_source a, n) ∙ ap (λ b. cond b false (tree.contains pair_cmp (pairs_on conf.profile d filing) (ordered_source a, n))) (pair_test (filed_under conf.profile d) s a n (u d) at'))
+            ∙ ap (list_any (is_pair (filed_under conf.profile d) a n)) (sym at);
       }
 
-  pub tied-came : (keys' : HashMap FlowKey Entry S) (pairs' : BTreeSet (Source × ℕ)) (s : State) (place v : ℕ) (o : Option NodeScope) → IsAddr s.source → IsTied conf rs keys counts ts pairs
+  pub tied-came : (keys' : HashMap FlowKey Entry S) (filing' : Filing) (s : State) (place v : ℕ) (o : Option NodeScope) → ((d : Dir) → IsAddr (filed_under conf.profile d s)) → IsTied conf rs keys counts ts filing
       → find (has_key s.key) rs ≡ None → s.rule.0 < length counts → v ≡ slice_index counts s.rule.0 → is_done s.phase ≡ false → node_scope_of conf s.rule.0 ≡ o
       → ((k : FlowKey) → hash.get same_key keys' k ≡ cond (same_key s.key k) (Some (entry_of (placed_at place s))) (hash.get same_key keys k))
-      → HasPair (ordered_source s.source, s.number) pairs pairs'
-      → IsTied conf (rs ++ placed_at place s ∷ []) keys' (slice_set counts s.rule.0 (v + 1)) (tallies_with_state o s ts) pairs'
-  tied-came keys' pairs' s place v o u i f w e d so hk hp =
+      → HasFiled conf.profile s filing filing'
+      → IsTied conf (rs ++ placed_at place s ∷ []) keys' (slice_set counts s.rule.0 (v + 1)) (tallies_with_state o s ts) filing'
+  tied-came keys' filing' s place v o u i f w e d so hk hp =
       let xs = states_of rs in
       let at : states_of (rs ++ placed_at place s ∷ []) ≡ states_of rs ++ s ∷ [] = map-push (λ (p : Placed). p.state) (placed_at place s) rs in
       record {
@@ -89,15 +100,16 @@ module _ {S : Type 0} (conf : Conf) (rs : List Placed) (keys : HashMap FlowKey E
         scoped = scoped-came conf o s ts so i.scoped;
         scored = scored-came o s ts i.scored;
         noded = subst (AllByRecursion (HasTally conf (tallies_with_state o s ts))) (sym at) (noded-came conf o s xs ts so i.noded);
-        paired = λ a n at'.
-            pair-came s xs a n _ _ (i.paired a n at') (hp (ordered_source a, n) ∙ ap (λ b. cond b true (tree.contains pair_cmp pairs (ordered_source a, n))) (pair_test s a n u at'))
-            ∙ ap (list_any (is_pair a n)) (sym at);
+        paired = λ d a n at'.
+            pair-came (filed_under conf.profile d) s xs a n _ _ (i.paired d a n at')
+            (hp d (ordered_source a, n) ∙ ap (λ b. cond b true (tree.contains pair_cmp (pairs_on conf.profile d filing) (ordered_source a, n))) (pair_test (filed_under conf.profile d) s a n (u d) at'))
+            ∙ ap (list_any (is_pair (filed_under conf.profile d) a n)) (sym at);
       }
 
-  pub tied-met : (n : ℕ) (p : PacketView) (now : ℕ) (s : State) → IsTied conf rs keys counts ts pairs → IsRising (state_numbers (states_of rs))
+  pub tied-met : (n : ℕ) (p : PacketView) (now : ℕ) (s : State) → IsTied conf rs keys counts ts filing → IsRising (state_numbers (states_of rs))
       → find (has_number state_number n) (states_of rs) ≡ Some s → CountsDone s p
       → IsTied conf (map (renewed_record n p now) rs) keys counts
-      (map (at_node (node_scope_of conf s.rule.0) s.source (met_by (options_of conf s.rule.0).max_src_conn_rate now (completes_at p s))) ts) pairs
+      (map (at_node (node_scope_of conf s.rule.0) s.source (met_by (options_of conf s.rule.0).max_src_conn_rate now (completes_at p s))) ts) filing
   tied-met n p now s i r f d =
       let xs = states_of rs in
       let rate = (options_of conf s.rule.0).max_src_conn_rate in
@@ -115,13 +127,33 @@ module _ {S : Type 0} (conf : Conf) (rs : List Placed) (keys : HashMap FlowKey E
         scored = scored-met sc s.source rate now (completes_at p s) ts i.scored;
         noded = subst (AllByRecursion (HasTally conf (map (at_node (node_scope_of conf s.rule.0) s.source (met_by (options_of conf s.rule.0).max_src_conn_rate now (completes_at p s))) ts))) (sym at)
             (noded-met conf n p now sc s.source rate (completes_at p s) xs ts i.noded);
-        paired = λ a m u. i.paired a m u ∙ sym (any-blind n p now (is_pair a m) xs (blind n p now (is_pair a m) (λ y. refl))) ∙ ap (list_any (is_pair a m)) (sym at);
+        paired = λ d a m u.
+            (let under = filed_under conf.profile d in
+            i.paired d a m u ∙ sym (any-blind n p now (is_pair under a m) xs (blind n p now (is_pair under a m) (λ y j. same_addr (filed-blind conf.profile d p now y j) a && (y.number == m))))
+            ∙ ap (list_any (is_pair under a m)) (sym at));
       }
 
+  -- a node comes without a state
+  pub tied-left_node : (t : Tally) (number : ℕ) (sc : NodeScope) (a : Addr) (now : ℕ) → t ≡ record { node = new_node number sc a now; states = 0; connections = 0 } → IsScope conf sc
+      → list_any (is_tally sc a) ts ≡ false → IsTied conf rs keys counts ts filing → IsTied conf rs keys counts (ts ++ t ∷ []) filing
+  tied-left_node t number sc a now e k f i = rw e (record {
+    by_key = i.by_key;
+    distinct = i.distinct;
+    by_rule = i.by_rule;
+    size = i.size;
+    ruled = i.ruled;
+    counted = all-push (IsCounted conf (states_of rs)) (record { node = new_node number sc a now; states = 0; connections = 0 }) ts i.counted (stateless-counted conf number sc a now (states_of rs) ts k f i.noded);
+    scoped = all-push (IsScoped conf) (record { node = new_node number sc a now; states = 0; connections = 0 }) ts i.scoped k;
+    scored = all-push IsScored (record { node = new_node number sc a now; states = 0; connections = 0 }) ts i.scored (omega arith);
+    noded = all-weaker (HasTally conf ts) (HasTally conf (ts ++ record { node = new_node number sc a now; states = 0; connections = 0 } ∷ []))
+        (λ x h s' g. any-more (is_tally s' x.source) (record { node = new_node number sc a now; states = 0; connections = 0 }) ts (h s' g)) (states_of rs) i.noded;
+    paired = i.paired;
+  })
+
   -- the same where the indexes find the same
-  pub tied-same : (keys' : HashMap FlowKey Entry S) (pairs' : BTreeSet (Source × ℕ)) → IsTied conf rs keys counts ts pairs
-      → ((k : FlowKey) → hash.get same_key keys' k ≡ hash.get same_key keys k) → SamePairs pairs pairs' → IsTied conf rs keys' counts ts pairs'
-  tied-same keys' pairs' i hk hp = record {
+  pub tied-same : (keys' : HashMap FlowKey Entry S) (filing' : Filing) → IsTied conf rs keys counts ts filing
+      → ((k : FlowKey) → hash.get same_key keys' k ≡ hash.get same_key keys k) → SameFiled conf.profile filing filing' → IsTied conf rs keys' counts ts filing'
+  tied-same keys' filing' i hk hp = record {
     by_key = λ k. hk k ∙ i.by_key k;
     distinct = i.distinct;
     by_rule = i.by_rule;
@@ -131,7 +163,7 @@ module _ {S : Type 0} (conf : Conf) (rs : List Placed) (keys : HashMap FlowKey E
     scoped = i.scoped;
     scored = i.scored;
     noded = i.noded;
-    paired = λ a n u. hp (ordered_source a, n) ∙ i.paired a n u;
+    paired = λ d a n u. hp d (ordered_source a, n) ∙ i.paired d a n u;
   }
 
 -- ---- nothing is held

@@ -11,7 +11,7 @@ use Rattle.pfs_store_records.specs.Records.{between}
 use Rattle.pfs_store_records.specs.Walks.{IsLeaver, IsNext, IsPassing, IsWalk, StayUntil}
 use Rattle.pfs_store_index.specs.Rounds.{waiting}
 use Rattle.pfs_store_index.specs.Staying.{NodeHolds, NodesHold, StatesHold}
-use Rattle.pfs_store_index.proofs.Idling.{node_number}
+use Rattle.pfs_store_index.proofs.Retained.{node_number}
 use Rattle.pfs_store_index.proofs.Leavings.{state_number}
 use Rattle.pfs_store_index.proofs.Stretches.{among-append, among-between}
 use Rattle.pfs_store_records.proofs.Rising.{Apart, IsRisingBy, flip_eq, has_number, head-apart, head-is, rest-rising, same_number}

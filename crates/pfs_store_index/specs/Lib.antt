@@ -1,3 +1,4 @@
+pub mod Filed
 pub mod Holdings
 pub mod Rounds
 pub mod Staying

@@ -1,7 +1,5 @@
 -- Rounds of the purge as two numbers: those above the cursor and up to the mark are still to be examined.
 use Rattle.std.specs.Prelude.{ℕ, ◌≡◌, ◌+◌, ◌<◌, ◌≤◌, ◌==◌, ◌&&◌, not, Bool, List, drop, filter, length, map, take}
-use Rattle.pfs_addr_values.specs.declared.addresses.Addr.{Addr}
-use Rattle.pfs_store_contract.specs.Counts.{is_of_source}
 use Rattle.pfs_store_contract.specs.Purging.{is_among}
 use Rattle.pfs_store_contract.specs.declared.records.Node.{Node}
 use Rattle.pfs_store_contract.specs.declared.records.State.{State}
@@ -20,9 +18,9 @@ pub record IsExamined (share examined left : ℕ) (before after : List ℕ) : Ty
   pub goes : 0 < left → examined + left ≡ share
   pub ends : left ≡ 0 → examined ≡ length (take share before)
 
--- the numbers above one, and up to another, of the states of a source
-abbrev pub waiting_of : Addr → ℕ → ℕ → List State → List ℕ
-waiting_of source above most states = map (λ (s : State). s.number) (filter (λ (s : State). is_of_source source s && between above most s.number) states)
+-- the numbers above one, and up to another, of the states that pass a test
+abbrev pub waiting_of : (State → Bool) → ℕ → ℕ → List State → List ℕ
+waiting_of test above most states = map (λ (s : State). s.number) (filter (λ (s : State). test s && between above most s.number) states)
 
 -- a state, or a node, stays when one number is examined: it has another, or does not leave
 abbrev pub state_survives : (State → Bool) → ℕ → State → Bool

@@ -1,29 +1,23 @@
 -- How the indexes and the counts are tied to the states and the source nodes that are held. (own)
-use Rattle.std.specs.Prelude.{ℕ, ◌≡◌, ◌<◌, ◌==◌, ◌&&◌, Bool, true, cond, List, length, map, option_map, reverse}
-use Rattle.std.specs.BTreeMap.{is_at as is_found}
+use Rattle.std.specs.Prelude.{ℕ, ◌≡◌, ◌<◌, Bool, List, length, map, option_map}
 use Rattle.std.specs.BTreeSet as tree
-use Rattle.std.specs.BTreeSet.{BTreeSet}
 use Rattle.std.specs.HashMap as hash
 use Rattle.std.specs.HashMap.{HashMap}
-use Rattle.std.specs.Int.{w32, from_le_bytes}
 use Rattle.std.specs.List.{find, list_any, AllByRecursion, IsDistinct}
-use Rattle.std.specs.Ordering.{nat_cmp, ordering_then}
-use Rattle.std.specs.declared.cmp.Ordering.{Ordering}
 use Rattle.pfs_addr_values.specs.Addresses.{IsAddr}
 use Rattle.pfs_addr_values.specs.Sameness.{same_key}
 use Rattle.pfs_addr_values.specs.declared.addresses.Addr.{Addr}
-use Rattle.pfs_addr_values.specs.declared.addresses.Addr.TheVariants.{V4 as Addr-V4, V6 as Addr-V6}
+use Rattle.pfs_addr_values.specs.declared.packets.Dir.{Dir}
 use Rattle.pfs_addr_values.specs.declared.packets.FlowKey.{FlowKey}
 use Rattle.pfs_conf_values.specs.Configs.{Conf}
-use Rattle.pfs_store_contract.specs.Counts.{is_of_source, node_connections, node_scope_of, node_states}
+use Rattle.pfs_store_contract.specs.Counts.{node_connections, node_scope_of, node_states}
 use Rattle.pfs_store_contract.specs.Plain.{AreCounts}
 use Rattle.pfs_store_contract.specs.declared.records.State.{State}
 use Rattle.pfs_store_records.specs.Records.{Placed, states_of}
 use Rattle.pfs_store_records.specs.declared.nodes.Tally.{Tally}
-use Rattle.pfs_store_index.specs.contracts.sources.SourceOrd.TheImpl as source_ord
+use Rattle.pfs_store_index.specs.Filed.{filed_under, is_pair, ordered_source, pair_cmp, pairs_on}
+use Rattle.pfs_store_index.specs.declared.filing.Filing.{Filing}
 use Rattle.pfs_store_index.specs.declared.indexes.Entry.{Entry}
-use Rattle.pfs_store_index.specs.declared.sources.Source.{Source}
-use Rattle.pfs_store_index.specs.declared.sources.Source.TheVariants.{V4 as Source-V4, V6 as Source-V6}
 use Rattle.pfs_store_records.specs.Changes.{HasTally, IsScoped, IsScored, at_node, left_of}
 
 -- ---- the index by key
@@ -38,24 +32,6 @@ key_in p = p.state.key
 -- what the index by key has of a record
 abbrev pub entry_of : Placed → Entry
 entry_of p = record { number = p.state.number; rule = p.state.rule; place = p.place }
-
--- ---- the index by source
-
--- an address, its last byte the highest
-abbrev pub ordered_source : Addr → Source
-ordered_source (Addr-V4 bytes) = Source-V4 (from_le_bytes w32 bytes)
-ordered_source (Addr-V6 bytes) = Source-V6 (reverse bytes)
-
--- how `cmp` orders two sources, and two pairs of source and number
-abbrev pub source_cmp : Source → Source → Ordering
-source_cmp = (source_ord.ghosts).cmp
-
-abbrev pub pair_cmp : Source × ℕ → Source × ℕ → Ordering
-pair_cmp a b = ordering_then (source_cmp a.0 b.0) (nat_cmp a.1 b.1)
-
--- the pair is that of a state
-abbrev pub is_pair : Addr → ℕ → State → Bool
-is_pair source n s = is_of_source source s && (s.number == n)
 
 -- ---- the counts of nodes
 
@@ -76,7 +52,7 @@ abbrev pub HasRule : ℕ → State → Type 0
 HasRule count s = s.rule.0 < count
 
 -- each index and each count is that of the records
-pub record IsTied {S : Type 0} (conf : Conf) (records : List Placed) (keys : HashMap FlowKey Entry S) (counts : List ℕ) (tallies : List Tally) (pairs : BTreeSet (Source × ℕ)) : Type 0 where
+pub record IsTied {S : Type 0} (conf : Conf) (records : List Placed) (keys : HashMap FlowKey Entry S) (counts : List ℕ) (tallies : List Tally) (filing : Filing) : Type 0 where
   pub by_key : (key : FlowKey) → hash.get same_key keys key ≡ option_map entry_of (find (has_key key) records)
   pub distinct : IsDistinct same_key (map key_in records)
   pub by_rule : AreCounts counts (states_of records)
@@ -86,18 +62,10 @@ pub record IsTied {S : Type 0} (conf : Conf) (records : List Placed) (keys : Has
   pub scoped : AllByRecursion (IsScoped conf) tallies
   pub scored : AllByRecursion IsScored tallies
   pub noded : AllByRecursion (HasTally conf tallies) (states_of records)
-  pub paired : (source : Addr) (n : ℕ) → IsAddr source → tree.contains pair_cmp pairs (ordered_source source, n) ≡ list_any (is_pair source n) (states_of records)
+  pub paired : (dir : Dir) (source : Addr) (n : ℕ) → IsAddr source
+      → tree.contains pair_cmp (pairs_on conf.profile dir filing) (ordered_source source, n) ≡ list_any (is_pair (filed_under conf.profile dir) source n) (states_of records)
 
 -- ---- a state leaves
 
 abbrev pub left_at : Conf → State → ℕ → Tally → Tally
-left_at conf s now = at_node (node_scope_of conf s.rule.0) s.source (left_of s now)
-
--- ---- the pairs of source and number
-
--- the set has this pair and those that it had, or only those
-abbrev pub HasPair : Source × ℕ → BTreeSet (Source × ℕ) → BTreeSet (Source × ℕ) → Type 0
-HasPair p old new = (q : Source × ℕ) → tree.contains pair_cmp new q ≡ cond (is_found (pair_cmp p) q) true (tree.contains pair_cmp old q)
-
-abbrev pub SamePairs : BTreeSet (Source × ℕ) → BTreeSet (Source × ℕ) → Type 0
-SamePairs old new = (q : Source × ℕ) → tree.contains pair_cmp new q ≡ tree.contains pair_cmp old q
+left_at conf s now = at_node (node_scope_of conf s.rule.0) s.source (left_of conf s now)

@@ -1,21 +1,22 @@
 //! What is held, and what finds it: each index and each count is tied to the records.
 
-ghost use Rattle.std.specs.Prelude.{◌≡◌, ◌+◌, ◌-◌, ◌<◌, ◌≤◌, ◌^◌, ◌==◌, ◌||◌, ◌++◌, ◌∷◌, [], IfOk, IfSome, IsSome, None, OnErr, OnOk, Some, filter, is_some, length, map, not, option_map, slice_get, true, ℕ};
+ghost use Rattle.std.specs.Prelude.{◌≡◌, ◌+◌, ◌-◌, ◌<◌, ◌≤◌, ◌^◌, ◌==◌, ◌||◌, ◌++◌, ◌∷◌, [], IfOk, IfSome, IsSome, None, OnErr, OnOk, Some, false, filter, is_some, length, map, not, option_map, slice_get, true, ℕ};
 ghost use Rattle.std.specs.List.{AllByRecursion, find};
 ghost use Rattle.indexmap.specs.IndexMap.{get};
 ghost use Rattle.pfs_addr_values.specs.Keys.{key_of};
 ghost use Rattle.pfs_addr_values.specs.Packets.{run_limit};
 ghost use Rattle.pfs_addr_values.specs.Sameness.{same_key};
 ghost use Rattle.pfs_conf_values.specs.Configs.{options_at};
-ghost use Rattle.pfs_store_contract.specs.Admission.{nodes_with};
+ghost use Rattle.pfs_store_contract.specs.Admission.{new_node, nodes_with};
 ghost use Rattle.pfs_store_contract.specs.Counts.{has_node, node_scope_of, node_states, rule_states, scope_nodes};
-ghost use Rattle.pfs_store_contract.specs.Leaving.{node_after_leaving};
+ghost use Rattle.pfs_store_contract.specs.Leaving.{is_beside, node_after_leaving};
 ghost use Rattle.pfs_store_contract.specs.Calls.{other_than, told_at, touch_of, state_number, state_rule};
 ghost use Rattle.pfs_store_contract.specs.Plain.{AreCounts};
 ghost use Rattle.pfs_store_contract.specs.Purging.{is_over, node_numbers, state_numbers};
 ghost use Rattle.pfs_store_contract.specs.Quiet.{NodeStays};
 ghost use Rattle.pfs_store_contract.specs.Touching.{completes_at, nodes_touched, numbered_state_after};
 ghost use Rattle.pfs_store_contract.specs.Worlds.{IsUpToNow, holds_number, lists, state_with};
+ghost use Rattle.pfs_store_records.specs.Changes.{IsScope};
 ghost use Rattle.pfs_store_records.specs.Records.{IsAbove, IsRising, between, placed_at, states_of};
 ghost use Rattle.pfs_store_records.specs.Sourced.{IsSourced};
 ghost use Rattle.pfs_store_records.specs.Tallies.{nodes_of};
@@ -24,17 +25,18 @@ ghost use Rattle.pfs_store_index.specs.Holdings.{IsUncompleted, is_reached};
 ghost use Rattle.pfs_store_index.specs.Rounds.{waiting, waiting_of};
 ghost use Rattle.pfs_store_index.specs.Ties.{HasRule, entry_of};
 
+use crate::filing::Filing;
 use crate::placing::place;
 use crate::sources::Source;
 use crate::stepping::stepped;
 use indexmap::IndexMap;
-use pfs_addr_values::{Addr, FlowKey, Meter, NoMemory, Packet};
-use pfs_conf_values::{Config, RuleNo};
+use pfs_addr_values::{Addr, Dir, FlowKey, Meter, NoMemory, Packet};
+use pfs_conf_values::{Config, Profile, RuleNo};
 use pfs_store_contract::{Found, Node, NodeScope, State, StateNo, Touched};
 use pfs_store_records::{Nodes, Passed, Records, Round, Sought, Tally, leave, meet};
 use pfs_store_rules::node_scope;
+use pfs_track::Score;
 use std::alloc::{AllocError, Global};
-use std::collections::BTreeSet;
 use std::hash::BuildHasher;
 use std::marker::Model;
 use std::ops::Bound;
@@ -63,7 +65,7 @@ pub(crate) struct Indexes<S: BuildHasher> {
     keys: IndexMap<Sought, Entry, S>,
     counts: Vec<u64>,
     nodes: Nodes<S>,
-    pairs: BTreeSet<(Source, u32)>,
+    filing: Filing,
 }
 
 impl<S: BuildHasher> Model for Indexes<S> {
@@ -76,7 +78,7 @@ impl<S: BuildHasher> Model for Indexes<S> {
 
     ghost view = { λ x. record { config = x.config; states = states_of x.records; nodes = nodes_of x.nodes; records = x.records } };
 
-    ghost invariant = { λ x. IsTied x.config x.records x.keys x.counts.items x.nodes x.pairs };
+    ghost invariant = { λ x. IsTied x.config x.records x.keys x.counts.items x.nodes x.filing };
 }
 
 impl<S: BuildHasher> Indexes<S> {
@@ -98,7 +100,7 @@ impl<S: BuildHasher> Indexes<S> {
             keys: IndexMap::with_hasher(alloc, by_key),
             counts,
             nodes: Nodes::new(alloc, by_source),
-            pairs: BTreeSet::new(alloc),
+            filing: Filing::new(alloc),
         })
     }
 
@@ -107,6 +109,13 @@ impl<S: BuildHasher> Indexes<S> {
         ensures { result.now ≡ self.now.config }
     {
         &self.config
+    }
+
+    /// Whose machine the configuration asks for.
+    pub(crate) fn profile(&self) -> Profile
+        ensures { result ≡ self.now.config.profile }
+    {
+        self.config.profile()
     }
 
     /// How many states are held.
@@ -209,16 +218,18 @@ impl<S: BuildHasher> Indexes<S> {
         }
     }
 
-    /// The least number above one, and up to another, of the states of a source.
-    pub(crate) fn next_of_source(&self, source: Addr, above: u64, most: u64) -> Option<u64>
+    /// The least number above one, and up to another, of the states that a flush takes for those of a source, at a limit that a
+    /// state met which was made in a direction.
+    pub(crate) fn next_beside(&self, dir: Dir, source: Addr, above: u64, most: u64) -> Option<u64>
         requires range { above ≤ most }
         requires small { most < 2 ^ 32 }
-        ensures { result ≡ slice_get (waiting_of source above most self.now.states) 0 }
+        ensures { result ≡ slice_get (waiting_of (is_beside self.now.config.profile dir source) above most self.now.states) 0 }
     {
         self.records.numbers_rise();
         let source = Source::of(source);
         match self
-            .pairs
+            .filing
+            .pairs_on(self.config.profile(), dir)
             .range((
                 Bound::Excluded((source, above as u32)),
                 Bound::Included((source, most as u32)),
@@ -248,7 +259,7 @@ impl<S: BuildHasher> Indexes<S> {
         ensures until { AllByRecursion (λ n. between round.cursor result.last n.number ≡ true →
             NodeStays self.now.config self.now.states result.until n) self.now.nodes }
     {
-        self.nodes.pass(&self.config, round, share, now)
+        self.nodes.pass(round, share, now)
     }
 
     /// The record of a number: one look.
@@ -288,20 +299,22 @@ impl<S: BuildHasher> Indexes<S> {
         ensures config { self.new.config ≡ self.old.config }
         ensures states { OnOk result (self.new.states ≡ self.old.states ++ state ∷ []) }
         ensures nodes { OnOk result (self.new.nodes
-            ≡ nodes_with self.old.nodes state.number state.source (node_scope_of self.old.config state.rule.0)) }
+            ≡ nodes_with self.old.nodes state.number state.source state.last (node_scope_of self.old.config state.rule.0)) }
         ensures err { OnErr result (self.new ≡ self.old) }
     {
         let rule = state.rule.0 as usize;
         let scope = node_scope(&self.config, state.rule);
+        let profile = self.config.profile();
         if self.keys.reserve(1).is_err() {
             return Err(NoMemory);
         }
         let spot = place(
             &mut self.records,
-            &mut self.pairs,
+            &mut self.filing,
             &mut self.nodes,
             state,
             scope,
+            profile,
         )?;
         self.counts[rule] += 1;
         let key = Sought { key: state.key };
@@ -310,6 +323,36 @@ impl<S: BuildHasher> Indexes<S> {
             Ok(_) => Ok(()),
             Err(_) => unreachable!(),
         }
+    }
+
+    /// A node of a source comes in a scope in which it has none, without a state; it may leave from `now` on. `NoMemory` where memory
+    /// for it is refused; nothing changes then.
+    pub(crate) fn put_node(
+        &mut self,
+        number: u64,
+        scope: NodeScope,
+        source: Addr,
+        now: u64,
+    ) -> Result<(), NoMemory>
+        requires above { IsAbove number (node_numbers self.old.nodes) }
+        requires scoped { IsScope self.old.config scope }
+        requires absent { has_node scope source self.old.nodes ≡ false }
+        ensures config { self.new.config ≡ self.old.config }
+        ensures states { self.new.states ≡ self.old.states }
+        ensures nodes { OnOk result (self.new.nodes ≡ self.old.nodes ++ new_node number scope source now ∷ []) }
+        ensures err { OnErr result (self.new ≡ self.old) }
+    {
+        self.nodes.push(Tally {
+            node: Node {
+                number,
+                scope,
+                source,
+                score: Score::default(),
+                expires: now,
+            },
+            states: 0,
+            connections: 0,
+        })
     }
 
     /// Takes a packet of the state that was found by its key: one look, and no search by key. What the source's node has is told
@@ -347,6 +390,7 @@ impl<S: BuildHasher> Indexes<S> {
             touched: Touched {
                 rule: state.rule,
                 source: state.source,
+                dir: state.dir,
                 completed,
                 connections: met.connections,
                 score: met.score,
@@ -354,8 +398,9 @@ impl<S: BuildHasher> Indexes<S> {
         }
     }
 
-    /// A state leaves. Its node, where it was the last, has been idle since now.
+    /// A state leaves. Its node, where it was the last, is kept for its retention from now on.
     pub(crate) fn take_out(&mut self, state: State, now: u64)
+        requires moment { now ≤ 2 ^ 63 }
         requires held { find (λ s. s.number == state.number) self.old.states ≡ Some state }
         requires small { state.number < 2 ^ 32 }
         ensures config { self.new.config ≡ self.old.config }
@@ -367,10 +412,9 @@ impl<S: BuildHasher> Indexes<S> {
         let rule = state.rule.0 as usize;
         let scope = node_scope(&self.config, state.rule);
         self.keys.swap_remove(&Sought { key: state.key });
-        self.pairs
-            .remove(&(Source::of(state.source), state.number as u32));
+        self.filing.remove(self.config.profile(), &state);
         self.counts[rule] -= 1;
-        leave(&mut self.nodes, scope, &state, now);
+        leave(&self.config, &mut self.nodes, scope, &state, now);
         self.records.remove(state.number);
     }
 

@@ -2,6 +2,7 @@
 #![tactic(auto)]
 
 mod expiring;
+mod filing;
 mod flushing;
 mod indexes;
 mod laws;

@@ -8,7 +8,7 @@ ghost use Rattle.pfs_conf_values.specs.declared.timeouts.TimeoutName.TheVariants
 ghost use Rattle.pfs_store_contract.specs.Counts.{node_states};
 ghost use Rattle.pfs_store_contract.specs.Leaving.{node_after_leaving};
 ghost use Rattle.pfs_store_contract.specs.Plain.{AreCounts};
-ghost use Rattle.pfs_store_contract.specs.Purging.{is_among, is_over, node_numbers, node_retention, node_stays, share, state_numbers, stays};
+ghost use Rattle.pfs_store_contract.specs.Purging.{is_among, is_over, node_numbers, node_stays, share, state_numbers, stays};
 ghost use Rattle.pfs_store_contract.specs.Quiet.{IsTold, StateStays};
 ghost use Rattle.pfs_store_records.specs.Records.{IsRising, between};
 ghost use Rattle.pfs_store_records.specs.Walks.{IsWalk, StayUntil, looks_of};
@@ -143,6 +143,7 @@ pub(crate) fn walk_states<S: BuildHasher>(
     now: u64,
     meter: &mut Meter,
 ) -> Steps
+    requires moment { now ≤ 2 ^ 63 }
     requires order { round.cursor ≤ round.mark }
     requires share { share ≤ 2 ^ 32 }
     requires room { meter.old ≤ 2 ^ 63 }
@@ -185,6 +186,7 @@ fn examine<S: BuildHasher>(
     now: u64,
     meter: &mut Meter,
 ) -> Stretch
+    requires moment { now ≤ 2 ^ 63 }
     requires order { round.cursor ≤ round.mark }
     requires some { 0 < share }
     requires room { meter.old + share < 2 ^ 64 }
@@ -333,7 +335,7 @@ fn examine_nodes<S: BuildHasher>(
     }
 }
 
-/// Examines a node: it leaves where it has no state, and its retention is over. It returns up to when it stays otherwise.
+/// Examines a node: it leaves where it has no state, and the moment has come from which it may. It returns up to when it stays otherwise.
 fn examine_node<S: BuildHasher>(indexes: &mut Indexes<S>, tally: &Tally, now: u64) -> u64
     requires held { find (λ n. n.number == tally.now.node.number) indexes.old.nodes ≡ Some tally.now.node }
     requires states { tally.now.states ≡ node_states indexes.old.config tally.now.node.scope tally.now.node.source indexes.old.states }
@@ -345,11 +347,10 @@ fn examine_node<S: BuildHasher>(indexes: &mut Indexes<S>, tally: &Tally, now: u6
     ensures rising { IsRising (node_numbers indexes.old.nodes) }
 {
     indexes.node_numbers_rise();
-    let config = indexes.config();
-    if is_over(config, tally, now) {
+    if is_over(tally, now) {
         indexes.drop_node(tally.node);
         u64::MAX
     } else {
-        kept_until(config, tally)
+        kept_until(tally)
     }
 }

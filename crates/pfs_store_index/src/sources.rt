@@ -2,7 +2,7 @@
 
 ghost use Rattle.std.specs.Prelude.{◌≡◌};
 ghost use Rattle.pfs_addr_values.specs.Addresses.{IsAddr};
-ghost use Rattle.pfs_store_index.specs.Ties.{ordered_source};
+ghost use Rattle.pfs_store_index.specs.Filed.{ordered_source};
 
 use pfs_addr_values::Addr;
 

@@ -1,22 +1,22 @@
 //! A store by indexes.
 
-ghost use Rattle.std.specs.Prelude.{◌≡◌, ◌+◌, ◌<◌, ◌≤◌, ◌^◌, ◌||◌, [], IfOk, IsSome, None, Some, OnErr, OnOk, option_map, true};
+ghost use Rattle.std.specs.Prelude.{◌≡◌, ◌+◌, ◌<◌, ◌≤◌, ◌^◌, ◌||◌, [], IfOk, IsOk, IsSome, None, Some, OnErr, OnOk, false, option_map, true};
 ghost use Rattle.pfs_addr_values.specs.Keys.{key_of};
 ghost use Rattle.pfs_addr_values.specs.Packets.{run_limit};
 ghost use Rattle.pfs_conf_values.specs.Configs.{options_at};
-ghost use Rattle.pfs_store_contract.specs.Admission.{world_after_admission};
+ghost use Rattle.pfs_store_contract.specs.Admission.{leaves_node, world_after_admission, world_after_refusal};
 ghost use Rattle.pfs_store_contract.specs.Calls.{state_number, told_at, touch_of, world_touched};
 ghost use Rattle.pfs_store_contract.specs.Touching.{completes_at};
 ghost use Rattle.pfs_store_contract.specs.Worlds.{IsUpToNow, empty_world, state_with};
 ghost use Rattle.pfs_store_index.specs.Holdings.{is_reached};
 
 use crate::expiring::counted_rules;
-use crate::flushing::flush;
+use crate::flushing::{Flushed, flush};
 use crate::indexes::Indexes;
-use crate::limits::limit_met;
+use crate::limits::{limit_met, scope_left};
 use crate::purging::{share_of, walk_nodes, walk_states};
 use crate::rounds::{next_between, turned, under_way};
-use pfs_addr_values::{Addr, FlowKey, Meter, NoMemory, Packet};
+use pfs_addr_values::{Addr, Dir, FlowKey, Meter, NoMemory, Packet};
 use pfs_conf_values::{Config, LimitName, RuleNo, RulesHasher};
 use pfs_store_contract::{Found, Limit, Slice, State, StateNo, Staying, Store, Touched, Watched};
 use pfs_store_records::Round;
@@ -106,19 +106,43 @@ impl<S: BuildHasher> IndexStore<S> {
         let source = packet.src();
         self.indexes.state_numbers_rise();
         let number = self.made + 1;
+        let full = self.indexes.config().tracks_fully(rule);
         let state = State {
             number,
             key: FlowKey::of(packet),
             dir: packet.dir(),
             source,
             rule,
-            phase: StatePhase::first(packet.proto()),
+            phase: StatePhase::first(full, packet.proto()),
             last: now,
         };
         match self.indexes.put(state) {
             Ok(()) => {
                 self.made = number;
                 Ok(StateNo(number))
+            }
+            Err(_) => Err(NoMemory),
+        }
+    }
+}
+
+impl<S: BuildHasher> IndexStore<S> {
+    /// Refuses a state of a source at a rule, by this limit: under the profile of OpenBSD 7.4 it may leave a node of the source.
+    fn refuse(&mut self, limit: Limit, source: Addr, rule: RuleNo, now: u64) -> Result<(), NoMemory>
+        requires room { self.old.world.made < run_limit }
+        ensures ok { OnOk result (self.new.world ≡ world_after_refusal self.old.config self.old.world source rule.0 now limit) }
+        ensures err { OnErr result (self.new.world ≡ self.old.world) }
+        ensures free { leaves_node self.old.config self.old.world source rule.0 limit ≡ false → IsOk result }
+        ensures config { self.new.config ≡ self.old.config }
+    {
+        let Some(scope) = scope_left(&self.indexes, limit, rule, source) else {
+            return Ok(());
+        };
+        let left = self.made + 1;
+        match self.indexes.put_node(left, scope, source, now) {
+            Ok(()) => {
+                self.made = left;
+                Ok(())
             }
             Err(_) => Err(NoMemory),
         }
@@ -193,7 +217,10 @@ impl<S: BuildHasher> Store for IndexStore<S> {
         now: u64,
     ) -> Result<Result<StateNo, Limit>, NoMemory> {
         match limit_met(&self.indexes, rule, packet.src()) {
-            Some(limit) => Ok(Err(limit)),
+            Some(limit) => match self.refuse(limit, packet.src(), rule, now) {
+                Ok(()) => Ok(Err(limit)),
+                Err(refused) => Err(refused),
+            },
             None => match self.make(packet, rule, now) {
                 Ok(number) => Ok(Ok(number)),
                 Err(refused) => Err(refused),
@@ -209,16 +236,29 @@ impl<S: BuildHasher> Store for IndexStore<S> {
         self.take(found, packet, false, now, meter)
     }
 
+    fn has_closed(&self, found: Found, _key: &FlowKey, meter: &mut Meter) -> bool {
+        self.indexes.state_numbers_rise();
+        self.indexes.read_found(found, meter).phase.has_closed()
+    }
+
     fn kill(&mut self, found: Found, now: u64, meter: &mut Meter) {
         self.indexes.state_numbers_rise();
         let state = self.indexes.read_found(found, meter);
         self.indexes.take_out(state, now);
     }
 
-    fn flush(&mut self, source: Addr, rule: Option<RuleNo>, now: u64, meter: &mut Meter) -> u64 {
+    fn flush(
+        &mut self,
+        dir: Dir,
+        source: Addr,
+        rule: Option<RuleNo>,
+        now: u64,
+        meter: &mut Meter,
+    ) -> u64 {
         self.indexes.state_numbers_rise();
         let held = self.indexes.state_count();
-        flush(&mut self.indexes, source, rule, self.made, now, meter);
+        let what = Flushed { dir, source, rule };
+        flush(&mut self.indexes, what, self.made, now, meter);
         held.saturating_sub(self.indexes.state_count())
     }
 

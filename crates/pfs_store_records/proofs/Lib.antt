@@ -3,6 +3,7 @@ pub mod OneNode
 mod Ordered
 mod Passing
 mod RecordLaws
+mod Retentions
 mod Reversed
 pub mod Rising
 pub mod Searches

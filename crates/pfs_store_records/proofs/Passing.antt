@@ -1,15 +1,12 @@
 -- A walk by nodes that stay: of the entries in a range, and of their tallies.
-use Rattle.std.proofs.Common.{◌≡◌, ◌∙◌, ◌≤◌, ◌+◌, ◌==◌, ◌&&◌, nat_le, ℕ, zero, suc, Bool, true, false, Option, Some, List, [], ◌∷◌, ◌++◌, length, map, filter, refl, ap, sym, subst, arith}
+use Rattle.std.proofs.Common.{◌≡◌, ◌∙◌, ◌≤◌, ℕ, Bool, true, false, Option, Some, List, [], ◌∷◌, ◌++◌, length, map, filter, ap, sym, subst, arith}
 use Rattle.std.specs.List.{AllByRecursion}
 use Rattle.std.specs.List.Sorted.{IsStrictlySortedBy}
 use Rattle.std.specs.Map.{keys_of}
-use Rattle.std.proofs.lemmas.Bool.Decides.{nat_tests}
 use Rattle.std.specs.Ordering.{nat_cmp}
-use Rattle.pfs_conf_values.specs.Configs.{Conf}
-use Rattle.pfs_store_contract.specs.Purging.{node_retention}
 use Rattle.pfs_store_records.specs.Keeping.{AreInPlace, IsPlaced, values_at}
 use Rattle.pfs_store_records.specs.Records.{between}
-use Rattle.pfs_store_records.specs.Retaining.{IsKeptUntil, is_past}
+use Rattle.pfs_store_records.specs.Retaining.{IsKeptUntil}
 use Rattle.pfs_store_records.specs.Walks.{IsPassing}
 use Rattle.pfs_store_records.specs.declared.nodes.Tally.{Tally}
 use Rattle.pfs_store_records.proofs.Ordered.{numbers-held}
@@ -69,13 +66,5 @@ module _ {P V : Type 0} (number : V → ℕ) (At : V → P → Type 0) where
 
 -- ---- tallies
 
--- a node that has states stays
-pub held-stays : (conf : Conf) (now : ℕ) (t : Tally) → (t.states ≡ 0 → ⊥) → is_past conf now t ≡ false
-held-stays conf now t h = ap (λ b. b && nat_le (t.node.idle + node_retention conf t.node.scope) now) (go t.states h)
-  where
-    go : (n : ℕ) → (n ≡ 0 → ⊥) → (n == 0) ≡ false
-    go zero f = absurd (f refl)
-    go (suc n) f = grind (arith, nat_tests)
-
-pub kept-less : (conf : Conf) (u v : ℕ) (t : Tally) → v ≤ u → IsKeptUntil conf u t → IsKeptUntil conf v t
-kept-less conf u v t h k = λ z. let l = k z in omega (arith, h, l)
+pub kept-less : (u v : ℕ) (t : Tally) → v ≤ u → IsKeptUntil u t → IsKeptUntil v t
+kept-less u v t h k = λ z. let l = k z in omega (arith, h, l)

@@ -11,6 +11,7 @@ use Rattle.pfs_track.specs.StatePhases.{is_done}
 use Rattle.pfs_track.specs.declared.scores.Score.{Score}
 use Rattle.pfs_store_contract.specs.Admission.{new_node}
 use Rattle.pfs_store_contract.specs.Counts.{node_scope_of}
+use Rattle.pfs_store_contract.specs.Leaving.{node_retention}
 use Rattle.pfs_store_contract.specs.declared.records.Node.{Node}
 use Rattle.pfs_store_contract.specs.declared.records.NodeScope.{NodeScope}
 use Rattle.pfs_store_contract.specs.declared.records.NodeScope.TheVariants as node_scope
@@ -49,16 +50,18 @@ HasTally conf tallies s = (scope : NodeScope) → node_scope_of conf s.rule.0 �
 
 -- ---- a state leaves
 
--- the counts of a node after one of its states left: a connection, or one whose handshake had not completed
+-- the counts of a node after one of its states left: a connection, or one whose handshake had not completed; if it was the last,
+-- the node may leave from a moment on
 abbrev pub left_by : Bool → ℕ → Tally → Tally
-left_by connection now t = record {
-  node = if t.states - 1 == 0 then record t.node { idle = now } else t.node;
+left_by connection expires t = record {
+  node = if t.states - 1 == 0 then record t.node { expires = expires } else t.node;
   states = t.states - 1;
   connections = t.connections - (if connection then 1 else 0);
 }
 
-abbrev pub left_of : State → ℕ → Tally → Tally
-left_of s now t = left_by (is_done s.phase) now t
+-- it is kept for its retention from then on
+abbrev pub left_of : Conf → State → ℕ → Tally → Tally
+left_of conf s now t = left_by (is_done s.phase) (now + node_retention conf t.node.scope) t
 
 -- ---- a state comes
 
@@ -68,7 +71,7 @@ joined_of t = record { node = t.node; states = t.states + 1; connections = t.con
 
 -- the tally of the node that is made with a state
 abbrev pub new_tally : NodeScope → State → Tally
-new_tally scope s = record { node = new_node s.number scope s.source; states = 1; connections = 0 }
+new_tally scope s = record { node = new_node s.number scope s.source s.last; states = 1; connections = 0 }
 
 -- the tallies after a state came
 abbrev pub tallies_with_state : Option NodeScope → State → List Tally → List Tally
@@ -111,11 +114,11 @@ IsFew t = (t.states < 2 ^ 63) × (t.connections < 2 ^ 63)
 -- the tally of a node after a change
 abbrev pub changed_by : Change → Tally → Tally
 changed_by change.Joined t = joined_of t
-changed_by (change.Left connection now) t = left_by connection now t
+changed_by (change.Left connection expires) t = left_by connection expires t
 changed_by (change.Completed rate now) t = met_by rate now true t
 
 -- no number of the tally passes its bound by a change, and no handshake came after it
 abbrev pub CanChange : Change → Tally → Type 0
 CanChange change.Joined t = IsFew t
-CanChange (change.Left connection now) t = Unit {0}
+CanChange (change.Left connection expires) t = Unit {0}
 CanChange (change.Completed rate now) t = IsFew t × IsScored t × (t.node.score.last ≤ now) × IfSome rate IsRate

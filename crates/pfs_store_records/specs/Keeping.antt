@@ -80,7 +80,7 @@ pub record IsNoted (table : NodeScope × Addr → Option ℕ) (at : ℕ → Opti
 -- and so many of them have no state
 pub record AreNoted (table : NodeScope × Addr → Option ℕ) (at : ℕ → Option Tally) (es : List (ℕ × ℕ)) (rules : List ℕ) (global count : ℕ) : Type 0 where
   pub noted : IsNoted table at es rules global
-  pub idle : count ≡ stateless (values_at at es)
+  pub unused : count ≡ stateless (values_at at es)
 
 -- ---- counts of scopes
 

@@ -13,8 +13,9 @@ use pfs_store_contract::Node;
 pub(crate) enum Change {
     /// A state comes.
     Joined,
-    /// A state leaves: a connection, or one whose handshake has not completed.
-    Left { connection: bool, now: u64 },
+    /// A state leaves: a connection, or one whose handshake has not completed. If it was the last, the node may leave from a
+    /// moment on.
+    Left { connection: bool, expires: u64 },
     /// The handshake of a state completes, whose rule may have a rate.
     Completed { rate: Option<Rate>, now: u64 },
 }
@@ -29,7 +30,10 @@ pub(crate) fn changed(tally: Tally, change: Change) -> Tally
             states: tally.states + 1,
             ..tally
         },
-        Change::Left { connection, now } => left(tally, connection, now),
+        Change::Left {
+            connection,
+            expires,
+        } => left(tally, connection, expires),
         Change::Completed { rate, now } => Tally {
             node: scored(tally.node, rate, now),
             states: tally.states,
@@ -38,14 +42,14 @@ pub(crate) fn changed(tally: Tally, change: Change) -> Tally
     }
 }
 
-fn left(tally: Tally, connection: bool, now: u64) -> Tally
-    ensures { result ≡ left_by connection now tally }
+fn left(tally: Tally, connection: bool, expires: u64) -> Tally
+    ensures { result ≡ left_by connection expires tally }
 {
     let states = tally.states.saturating_sub(1);
     Tally {
         node: if states == 0 {
             Node {
-                idle: now,
+                expires,
                 ..tally.node
             }
         } else {

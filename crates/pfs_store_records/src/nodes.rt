@@ -16,13 +16,12 @@ ghost use Rattle.pfs_store_records.specs.Walks.{IsPassing};
 use crate::changes::{Change, changed};
 use crate::places::Places;
 use crate::records::short;
-use crate::retaining::stays_until;
+use crate::retaining::{is_over, kept_until};
 use crate::scope_counts::ScopeCounts;
 use crate::sought::Tracked;
 use crate::walks::Round;
 use indexmap::IndexMap;
 use pfs_addr_values::{Addr, NoMemory};
-use pfs_conf_values::Config;
 use pfs_store_contract::{Node, NodeScope};
 use slab::Slab;
 use std::alloc::Global;
@@ -151,12 +150,12 @@ impl<S: BuildHasher> Nodes<S> {
 
     /// Passes by the nodes that are still to be examined in a round, from the least number on, as long as none of them leaves
     /// at the second `now`, and by at most `share`. All are found by one search by number. It takes no memory.
-    pub fn pass(&self, config: &Config, round: Round, share: u64, now: u64) -> Passed
+    pub fn pass(&self, round: Round, share: u64, now: u64) -> Passed
         requires range { round.cursor ≤ round.mark }
-        ensures passing { IsPassing number_of_node (is_past config.now now) self.now round.cursor round.mark share result.stayed result.last }
-        ensures until { AllByRecursion (λ t. between round.cursor result.last (number_of_node t) ≡ true → IsKeptUntil config.now result.until t) self.now }
+        ensures passing { IsPassing number_of_node (is_past now) self.now round.cursor round.mark share result.stayed result.last }
+        ensures until { AllByRecursion (λ t. between round.cursor result.last (number_of_node t) ≡ true → IsKeptUntil result.until t) self.now }
     {
-        pass_range(&self.slab, &self.order, config, round, share, now)
+        pass_range(&self.slab, &self.order, round, share, now)
     }
 
     /// Adds a node, whose number is above all others and whose scope and source no other has, with its counts. It
@@ -259,18 +258,11 @@ fn uncounted(stateless: u64, tally: &Tally) -> u64
 }
 
 #[inline(never)]
-fn pass_range(
-    slab: &Slab<Tally>,
-    order: &Places,
-    config: &Config,
-    round: Round,
-    share: u64,
-    now: u64,
-) -> Passed
+fn pass_range(slab: &Slab<Tally>, order: &Places, round: Round, share: u64, now: u64) -> Passed
     requires kept { AreInPlace number_of_node Anywhere (tally_in slab.now) order.now.entries }
     requires range { round.cursor ≤ round.mark }
-    ensures passing { IsPassing number_of_node (is_past config.now now) (values_at (tally_in slab.now) order.now.entries) round.cursor round.mark share result.stayed result.last }
-    ensures until { AllByRecursion (λ t. between round.cursor result.last (number_of_node t) ≡ true → IsKeptUntil config.now result.until t) (values_at (tally_in slab.now) order.now.entries) }
+    ensures passing { IsPassing number_of_node (is_past now) (values_at (tally_in slab.now) order.now.entries) round.cursor round.mark share result.stayed result.last }
+    ensures until { AllByRecursion (λ t. between round.cursor result.last (number_of_node t) ≡ true → IsKeptUntil result.until t) (values_at (tally_in slab.now) order.now.entries) }
 {
     let mut rest = order.between(round.cursor, round.mark);
     let mut stayed = 0;
@@ -283,12 +275,10 @@ fn pass_range(
         let Some(tally) = slab.get(place as usize) else {
             break;
         };
-        if tally.states == 0 {
-            let Some(moment) = stays_until(config, tally, now) else {
-                break;
-            };
-            until = until.min(moment);
+        if is_over(tally, now) {
+            break;
         }
+        until = until.min(kept_until(tally));
         stayed += 1;
         last = number;
     }

@@ -1,42 +1,37 @@
 //! How long source nodes are kept.
 
-ghost use Rattle.std.specs.Prelude.{◌≡◌, false, true, IfSome, None};
+ghost use Rattle.std.specs.Prelude.{◌≡◌, ◌+◌, ◌≤◌, ◌^◌};
+ghost use Rattle.pfs_store_contract.specs.Leaving.{node_retention};
 ghost use Rattle.pfs_store_records.specs.Retaining.{IsKeptUntil, is_past};
 
 use crate::nodes::Tally;
 use pfs_conf_values::Config;
+use pfs_store_contract::NodeScope;
 use pfs_store_rules::node_retention;
 
 /// Up to when a node stays, as long as it gets no state and loses none.
-pub fn kept_until(config: &Config, tally: &Tally) -> u64
-    ensures { IsKeptUntil config.now result tally.now }
+pub fn kept_until(tally: &Tally) -> u64
+    ensures { IsKeptUntil result tally.now }
 {
     if tally.states == 0 {
-        let retention = node_retention(config, tally.node.scope);
-        tally.node.idle.saturating_add(retention)
+        tally.node.expires
     } else {
         u64::MAX
     }
 }
 
-/// Up to when a node stays, as long as it gets no state and loses none; none where it leaves at a second.
-pub(crate) fn stays_until(config: &Config, tally: &Tally, now: u64) -> Option<u64>
-    ensures none { result ≡ None → is_past config.now now tally.now ≡ true }
-    ensures some { IfSome result (λ until. is_past config.now now tally.now ≡ false) }
-    ensures until { IfSome result (λ until. IsKeptUntil config.now until tally.now) }
+/// Whether a node has no state, and the moment has come from which it may leave.
+pub fn is_over(tally: &Tally, now: u64) -> bool
+    ensures { result ≡ is_past now tally.now }
 {
-    let until = kept_until(config, tally);
-    if until <= now && is_over(config, tally, now) {
-        None
-    } else {
-        Some(until)
-    }
+    tally.states == 0 && tally.node.expires <= now
 }
 
-/// Whether a node has no state, and its retention is over.
-pub fn is_over(config: &Config, tally: &Tally, now: u64) -> bool
-    ensures { result ≡ is_past config.now now tally.now }
+/// The moment from which on a node of a scope may leave that loses its last state at `now`.
+pub(crate) fn end_of_retention(config: &Config, scope: NodeScope, now: u64) -> u64
+    requires { now ≤ 2 ^ 63 }
+    ensures { result ≡ now + node_retention config.now scope }
 {
-    let retention = node_retention(config, tally.node.scope);
-    tally.states == 0 && retention <= now && tally.node.idle <= now - retention
+    config.keeps_load_rules();
+    now + node_retention(config, scope)
 }

@@ -1,6 +1,6 @@
 //! What a state does to the tally of its node: when it comes, when a packet of it comes, and when it leaves.
 
-ghost use Rattle.std.specs.Prelude.{◌≡◌, ◌||◌, [], IfSome, OnErr, OnOk, Some, if◌then◌else◌, map, true};
+ghost use Rattle.std.specs.Prelude.{◌≡◌, ◌≤◌, ◌^◌, ◌||◌, [], IfSome, OnErr, OnOk, Some, if◌then◌else◌, map, true};
 ghost use Rattle.std.specs.List.{AllByRecursion, find, list_any};
 ghost use Rattle.pfs_conf_values.specs.Configs.{options_of};
 ghost use Rattle.pfs_conf_values.specs.Bounds.{IsRate};
@@ -14,6 +14,7 @@ ghost use Rattle.pfs_store_records.specs.Changes.{HasTally, IsFew, IsScored, at_
 
 use crate::changes::Change;
 use crate::nodes::{Nodes, Tally};
+use crate::retaining::end_of_retention;
 use pfs_addr_values::{Addr, NoMemory};
 use pfs_conf_values::{Config, Rate, RuleNo};
 use pfs_store_contract::{Node, NodeScope, State};
@@ -60,7 +61,7 @@ pub fn join<S: BuildHasher>(
                     scope,
                     source: state.source,
                     score: Score::default(),
-                    idle: 0,
+                    expires: state.last,
                 },
                 states: 1,
                 connections: 0,
@@ -69,20 +70,30 @@ pub fn join<S: BuildHasher>(
     }
 }
 
-/// A state leaves: its node has one less, and where that was the last, it has been idle since now.
+/// A state leaves: its node has one less, and where that was the last, it is kept for its retention from now on.
 pub fn leave<S: BuildHasher>(
+    config: &Config,
     nodes: &mut Nodes<S>,
     scope: Option<NodeScope>,
     state: &State,
     now: u64,
 )
-    ensures { nodes.new ≡ map (at_node scope state.now.source (left_of state.now now)) nodes.old }
+    requires { now ≤ 2 ^ 63 }
+    ensures { nodes.new ≡ map (at_node scope state.now.source (left_of config.now state.now now)) nodes.old }
 {
     match scope {
         None => {}
         Some(scope) => {
             let connection = state.phase.done();
-            nodes.change(scope, state.source, Change::Left { connection, now });
+            let expires = end_of_retention(config, scope, now);
+            nodes.change(
+                scope,
+                state.source,
+                Change::Left {
+                    connection,
+                    expires,
+                },
+            );
         }
     }
 }

@@ -5,7 +5,7 @@ use Rattle.pfs_store_contract.specs.Purging.{state_numbers}
 use Rattle.pfs_store_contract.specs.declared.records.State.{State}
 use Rattle.pfs_store_index.specs.Rounds.{IsExamined, waiting}
 use Rattle.pfs_store_index.specs.Stored.{due_at, is_due}
-use Rattle.pfs_store_index.proofs.Idling.{idled-same}
+use Rattle.pfs_store_index.proofs.Retained.{retained-same}
 use Rattle.pfs_store_index.proofs.Stretches.{IsStretch, stretch-leaves, stretch-stays}
 use Rattle.pfs_store_index.proofs.Untils.{hold-leaves, hold-stays}
 use Rattle.pfs_store_index.proofs.purging.examine.Goals as goal
@@ -46,7 +46,7 @@ pub returns-in-None-clause-examined : goal.returns-in-None-clause-examined
 returns-in-None-clause-examined g c = (passed g c).part
 
 pub returns-in-None-clause-nodes : goal.returns-in-None-clause-nodes
-returns-in-None-clause-nodes g c = idled-same c.args.indexes.now.config c.args.indexes.now.states c.args.now c.args.indexes.now.nodes
+returns-in-None-clause-nodes g c = retained-same c.args.indexes.now.config c.args.indexes.now.states c.args.now c.args.indexes.now.nodes
 
 pub returns-in-Some-clause-until : goal.returns-in-Some-clause-until
 returns-in-Some-clause-until g c =

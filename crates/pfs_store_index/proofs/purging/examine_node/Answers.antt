@@ -1,8 +1,8 @@
--- Answers of examine_node: the node leaves if it has no state and its retention is over; all others stay.
-use Rattle.std.proofs.Common.{◌≡◌, ◌∙◌, ◌+◌, ◌-◌, ◌^◌, ◌==◌, ◌&&◌, true, false, nat_le, sym, arith, ℕ, ◌≤◌, List, subst}
+-- Answers of examine_node: the node leaves if it has no state and may leave by now; all others stay.
+use Rattle.std.proofs.Common.{◌≡◌, ◌∙◌, ◌-◌, ◌^◌, ◌==◌, ◌&&◌, true, false, nat_le, sym, arith, ℕ, ◌≤◌, List, subst}
 use Rattle.std.proofs.lemmas.Bool.Decides.{nat_tests}
-use Rattle.pfs_store_contract.specs.Purging.{is_over, node_retention}
-use Rattle.pfs_store_index.proofs.Idling.{node_number}
+use Rattle.pfs_store_contract.specs.Purging.{is_over}
+use Rattle.pfs_store_index.proofs.Retained.{node_number}
 use Rattle.pfs_store_index.proofs.RisingWalks.{survive-kept, survive-removed}
 use Rattle.pfs_conf_values.specs.Configs.{Conf}
 use Rattle.pfs_store_contract.specs.Counts.{node_states}
@@ -25,19 +25,19 @@ pub returns-then-is_over-clause-nodes : goal.returns-then-is_over-clause-nodes
 returns-then-is_over-clause-nodes g c =
     let n = c.args.tally.now.node in
     let e : is_over c.args.indexes.now.config c.args.indexes.now.states c.args.now n ≡ true =
-    (λ j. (sym c.requires.states j == 0) && nat_le (n.idle + node_retention (sym c.config-config.ensures j) n.scope) c.args.now) ∙ sym c.if-is_over.ensures in
+    (λ j. (sym c.requires.states j == 0) && nat_le n.expires c.args.now) ∙ sym c.if-is_over.ensures in
     c.drop_node.ensures.nodes ∙ survive-removed node_number (is_over c.args.indexes.now.config c.args.indexes.now.states c.args.now) n.number n c.args.indexes.now.nodes c.node_numbers_rise.ensures c.requires.held e
 
 pub returns-else-is_over-clause-nodes : goal.returns-else-is_over-clause-nodes
 returns-else-is_over-clause-nodes g c =
     let n = c.args.tally.now.node in
     let e : is_over c.args.indexes.now.config c.args.indexes.now.states c.args.now n ≡ false =
-    (λ j. (sym c.requires.states j == 0) && nat_le (n.idle + node_retention (sym c.config-config.ensures j) n.scope) c.args.now) ∙ sym c.if-is_over.ensures in
+    (λ j. (sym c.requires.states j == 0) && nat_le n.expires c.args.now) ∙ sym c.if-is_over.ensures in
     survive-kept node_number (is_over c.args.indexes.now.config c.args.indexes.now.states c.args.now) n.number n c.args.indexes.now.nodes c.node_numbers_rise.ensures c.requires.held e
 
-stays : (conf k : Conf) (states : List State) (n : Node) (count until : ℕ) → k ≡ conf → count ≡ node_states conf n.scope n.source states
-    → (count ≡ 0 → until ≤ n.idle + node_retention k n.scope) → NodeStays conf states until n
-stays conf k states n count until e c h = λ none. subst (λ (k : Conf). until ≤ n.idle + node_retention k n.scope) e (h (c ∙ none))
+stays : (conf : Conf) (states : List State) (n : Node) (count until : ℕ) → count ≡ node_states conf n.scope n.source states
+    → (count ≡ 0 → until ≤ n.expires) → NodeStays conf states until n
+stays conf states n count until c h = λ none. h (c ∙ none)
 
 pub returns-then-is_over-clause-until : goal.returns-then-is_over-clause-until
 returns-then-is_over-clause-until g c =
@@ -53,4 +53,4 @@ returns-else-is_over-clause-until g c =
     let conf = c.args.indexes.now.config in
     let xs = c.args.indexes.now.states in
     one-found node_number (NodeStays conf xs) n.number c.kept_until.result n c.args.indexes.now.nodes c.node_numbers_rise.ensures c.requires.held
-    (stays conf c.config-config.result.now xs n c.args.tally.now.states c.kept_until.result c.config-config.ensures c.requires.states c.kept_until.ensures)
+    (stays conf xs n c.args.tally.now.states c.kept_until.result c.requires.states c.kept_until.ensures)

@@ -2,7 +2,7 @@
 use Rattle.std.proofs.Common.{◌∙◌, ◌+◌, sym, ap, take, arith}
 use Rattle.pfs_store_contract.specs.Purging.{is_over, node_numbers}
 use Rattle.pfs_store_index.specs.Rounds.{waiting}
-use Rattle.pfs_store_index.proofs.Idling.{node_number}
+use Rattle.pfs_store_index.proofs.Retained.{node_number}
 use Rattle.pfs_store_index.proofs.RisingWalks.{all-in, all-next, at_next, step-stays}
 use Rattle.pfs_store_index.proofs.Stretches.{examined-next, passing-examined, passing-stays}
 use Rattle.pfs_store_index.proofs.Untils.{node-more, nodes-passed, over-none}

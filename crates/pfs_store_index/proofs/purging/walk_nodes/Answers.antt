@@ -6,7 +6,7 @@ use Rattle.pfs_store_contract.specs.Quiet.{NodeStays}
 use Rattle.pfs_store_contract.specs.declared.records.State.{State}
 use Rattle.pfs_store_index.specs.Rounds.{nodes_survive, waiting}
 use Rattle.pfs_store_index.specs.Staying.{NodesHold}
-use Rattle.pfs_store_index.proofs.Idling.{node_number}
+use Rattle.pfs_store_index.proofs.Retained.{node_number}
 use Rattle.pfs_store_index.proofs.RisingWalks.{examined-dropped, examined-taken, stays-none}
 use Rattle.pfs_store_index.proofs.Stretches.{examined-more, examined-none, stretch-more}
 use Rattle.pfs_store_index.proofs.Untils.{hold-none, nodes-more}

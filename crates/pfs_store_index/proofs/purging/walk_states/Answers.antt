@@ -7,7 +7,7 @@ use Rattle.pfs_store_index.specs.Stored.{due_at, is_due}
 use Rattle.pfs_store_index.specs.Staying.{StatesHold}
 use Rattle.pfs_conf_values.specs.Configs.{Conf}
 use Rattle.pfs_store_contract.specs.declared.records.State.{State}
-use Rattle.pfs_store_index.proofs.Idling.{idled-same, step-nodes}
+use Rattle.pfs_store_index.proofs.Retained.{retained-same, step-nodes}
 use Rattle.pfs_store_index.proofs.Leavings.{state_number}
 use Rattle.pfs_store_index.proofs.Storing.{due-hold, due-stays}
 use Rattle.pfs_store_index.proofs.Untils.{hold-more, hold-none}
@@ -25,7 +25,7 @@ loop-done-init g c = rw c.none-done.ensures (record {
   order = c.requires.order;
   examined = examined-none c.args.share (waiting c.args.round.cursor c.args.round.mark (state_numbers c.args.indexes.now.states));
   states = stays-none state_number (is_due c.args.indexes.now.config c.args.counts.now (length c.args.indexes.now.states) c.args.now) c.args.indexes.now.states;
-  nodes = idled-same c.args.indexes.now.config c.args.indexes.now.states c.args.now c.args.indexes.now.nodes;
+  nodes = retained-same c.args.indexes.now.config c.args.indexes.now.states c.args.now c.args.indexes.now.nodes;
   until = hold-none state_number (IsStaying c.args.indexes.now.config c.args.counts.now (length c.args.indexes.now.states)) _ c.args.indexes.now.states;
   looks = omega arith;
 })

@@ -9,8 +9,8 @@ use Rattle.pfs_store_records.proofs.nodes.pass_range.Given as goal
 
 abbrev pub invariant-loop-stayed : goal.invariant-loop-stayed
 invariant-loop-stayed l = record {
-  walking : Walking (OfValue (λ (t : Tally). is_past l.config l.now t ≡ false) (tally_in l.slab)) l.order.entries l.rest l.fn.round.cursor l.last l.fn.round.mark l.stayed;
-  until : Each (OfValue (IsKeptUntil l.config l.until) (tally_in l.slab)) l.fn.round.cursor l.last l.order.entries;
+  walking : Walking (OfValue (λ (t : Tally). is_past l.now t ≡ false) (tally_in l.slab)) l.order.entries l.rest l.fn.round.cursor l.last l.fn.round.mark l.stayed;
+  until : Each (OfValue (IsKeptUntil l.until) (tally_in l.slab)) l.fn.round.cursor l.last l.order.entries;
   share : l.stayed ≤ l.share;
 }
 

@@ -41,7 +41,7 @@ pub returns-in-None-change-clause-ok : goal.returns-in-None-change-clause-ok
 returns-in-None-change-clause-ok g c =
     let n = c.change.ensures.absent c.in-None-change.is in
     let z : c.default.result ≡ zero_score = (λ i. record { value = c.default.ensures.0 i; last = c.default.ensures.1 i }) in
-    let made : Score → Tally = λ x. record { node = record { number = c.args.state.now.number; scope = c.in-Some.scope; source = c.args.state.now.source; score = x; idle = 0 }; states = 1; connections = 0 } in
+    let made : Score → Tally = λ x. record { node = record { number = c.args.state.now.number; scope = c.in-Some.scope; source = c.args.state.now.source; score = x; expires = c.args.state.now.last }; states = 1; connections = 0 } in
     let w : tallies_with_state c.args.scope c.args.state.now c.args.nodes.now ≡ c.args.nodes.now ++ new_tally c.in-Some.scope c.args.state.now ∷ [] =
     ap (λ (o : Option NodeScope). tallies_with_state o c.args.state.now c.args.nodes.now) c.in-Some.is
     ∙ ap (λ (o : Option Tally). if is_some o then map (at_node (Some c.in-Some.scope) c.args.state.now.source joined_of) c.args.nodes.now else c.args.nodes.now ++ new_tally c.in-Some.scope c.args.state.now ∷ []) n.1 in

@@ -1,10 +1,11 @@
 -- Answer of Indexes::new: with nothing held, each index and each count is that of the records.
 use Rattle.std.proofs.Common.{◌∙◌, ap, map, option_map, rules, subst, sym}
-use Rattle.std.specs.List.{IsDistinct, find}
+use Rattle.std.specs.List.{IsDistinct, find, list_any}
 use Rattle.std.specs.Map.{lookup}
 use Rattle.pfs_addr_values.specs.Sameness.{same_key}
 use Rattle.pfs_store_contract.specs.Plain.{AreCounts}
 use Rattle.pfs_store_records.specs.Records.{states_of}
+use Rattle.pfs_store_index.specs.Filed.{filed_under, is_pair}
 use Rattle.pfs_store_index.specs.Ties.{entry_of, has_key, key_in}
 use Rattle.pfs_store_index.proofs.Tying.{counts-none, distinct-none}
 use Rattle.pfs_store_index.proofs.indexes.Indexes.new.Goals as goal
@@ -21,5 +22,5 @@ invariant_of-result g c =
       scoped = search rules;
       scored = search rules;
       noded = search rules;
-      paired = search rules;
+      paired = λ d a n u. c.new-3.ensures _ d _ ∙ ap (λ rs. list_any (is_pair (filed_under c.args.config.profile d) a n) (states_of rs)) (sym c.new.ensures);
     }

@@ -7,7 +7,7 @@ use Rattle.pfs_store_contract.specs.declared.records.Node.{Node}
 use Rattle.pfs_store_index.specs.Holdings.{Holding}
 use Rattle.pfs_store_records.specs.Records.{between, states_of}
 use Rattle.pfs_store_records.specs.Walks.{IsPassing}
-use Rattle.pfs_store_index.proofs.Idling.{node_number}
+use Rattle.pfs_store_index.proofs.Retained.{node_number}
 use Rattle.pfs_store_index.proofs.PassingNodes.{kept-nodes, passing-nodes}
 use Rattle.pfs_store_index.proofs.indexes.Indexes.pass_nodes.Goals as goal
 

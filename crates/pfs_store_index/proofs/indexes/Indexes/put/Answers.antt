@@ -1,10 +1,15 @@
 -- Answers of Indexes::put: a state and its node have come (`nodes`), or neither has, and all stays tied.
 use Rattle.std.proofs.Common.{◌≡◌, ◌∙◌, ◌<◌, ◌≤◌, Option, None, Some, cond, length, ap, refl, subst, sym, arith, rules}
+use Rattle.std.specs.BTreeSet.{contains}
 use Rattle.std.specs.List.{find}
 use Rattle.std.specs.Map.{lookup}
 use Rattle.std.proofs.lemmas.List.{get_or_read}
 use Rattle.pfs_addr_values.specs.Packets.{run_limit}
+use Rattle.pfs_addr_values.specs.Addresses.{IsAddr}
 use Rattle.pfs_addr_values.specs.Sameness.{same_key}
+use Rattle.pfs_addr_values.specs.declared.addresses.Addr.{Addr}
+use Rattle.pfs_addr_values.specs.declared.packets.Dir.{Dir}
+use Rattle.pfs_conf_values.specs.declared.profiles.Profile.{Profile}
 use Rattle.pfs_store_contract.specs.Admission.{nodes_with}
 use Rattle.pfs_store_contract.specs.Counts.{is_of_rule, node_scope_of}
 use Rattle.pfs_store_contract.specs.Purging.{node_numbers, state_numbers}
@@ -13,6 +18,7 @@ use Rattle.pfs_store_contract.specs.declared.records.State.{State}
 use Rattle.pfs_store_records.specs.Records.{IsAbove, states_of}
 use Rattle.pfs_store_records.specs.Tallies.{nodes_of}
 use Rattle.pfs_store_index.specs.Holdings.{Holding}
+use Rattle.pfs_store_index.specs.Filed.{HasFiled, SameFiled, filed_under, ordered_source, pair_cmp, pairs_on}
 use Rattle.pfs_store_index.specs.Ties.{IsCounted}
 use Rattle.pfs_store_records.specs.Changes.{IsFew}
 use Rattle.pfs_store_index.proofs.Comings.{few-counted, nodes-came, pair-fresh}
@@ -23,8 +29,8 @@ use Rattle.pfs_store_index.proofs.indexes.Indexes.put.Goals as goal
 
 pub invariant_of-self : goal.invariant_of-self
 invariant_of-self g c =
-    tied-same c.self.inside.config c.self.inside.records c.self.inside.keys c.self.inside.counts.items c.self.inside.nodes c.self.inside.pairs c.reserve.new.self c.self.inside.pairs
-    c.self.invariant (λ k. ap (lookup (same_key k)) c.reserve.ensures.entries) (λ q. refl)
+    tied-same c.self.inside.config c.self.inside.records c.self.inside.keys c.self.inside.counts.items c.self.inside.nodes c.self.inside.filing c.reserve.new.self c.self.inside.filing
+    c.self.invariant (λ k. ap (lookup (same_key k)) c.reserve.ensures.entries) (λ d q. refl)
 
 pub place-requires-clause-few : goal.place-requires-clause-few
 place-requires-clause-few g c =
@@ -38,15 +44,20 @@ pub place-requires-clause-nodes_above : goal.place-requires-clause-nodes_above
 place-requires-clause-nodes_above g c = subst (λ (h : Holding). IsAbove c.args.state.number (node_numbers h.nodes)) (sym c.self.view_is) c.requires.nodes_above
 
 pub place-requires-clause-absent : goal.place-requires-clause-absent
-place-requires-clause-absent g c u =
+place-requires-clause-absent g c d u =
+    let s = c.args.state in
     let a : IsAbove c.args.state.number (state_numbers (states_of c.self.inside.records)) = subst (λ (h : Holding). IsAbove c.args.state.number (state_numbers h.states)) (sym c.self.view_is) c.requires.above in
-    c.self.invariant.paired c.args.state.source c.args.state.number u ∙ pair-fresh c.args.state.source c.args.state.number (states_of c.self.inside.records) a
+    let own : Profile → Addr = λ q. filed_under q d s in
+    let e = c.profile-profile.ensures in
+    (λ i. contains pair_cmp (pairs_on (e i) d c.self.inside.filing) (ordered_source (own (e i)), s.number))
+    ∙ c.self.invariant.paired d (filed_under c.self.inside.config.profile d s) s.number (subst (λ q. IsAddr (own q)) e u)
+    ∙ pair-fresh (filed_under c.self.inside.config.profile d) (filed_under c.self.inside.config.profile d s) s.number (states_of c.self.inside.records) a
 
 pub invariant_of-self-in_err-spot : goal.invariant_of-self-in_err-spot
 invariant_of-self-in_err-spot g c =
     rw (c.in_err-spot.ensures.same_records, c.in_err-spot.ensures.same_nodes)
-    (tied-same c.self.inside.config c.self.inside.records c.self.inside.keys c.self.inside.counts.items c.self.inside.nodes c.self.inside.pairs c.reserve.new.self c.place.new.pairs
-    c.self.invariant (λ k. ap (lookup (same_key k)) c.reserve.ensures.entries) c.in_err-spot.ensures.same_pairs)
+    (tied-same c.self.inside.config c.self.inside.records c.self.inside.keys c.self.inside.counts.items c.self.inside.nodes c.self.inside.filing c.reserve.new.self c.place.new.filing
+    c.self.invariant (λ k. ap (lookup (same_key k)) c.reserve.ensures.entries) (subst (λ q. SameFiled q c.self.inside.filing c.place.new.filing) c.profile-profile.ensures c.in_err-spot.ensures.same_filed))
 
 pub index_mut-requires : goal.index_mut-requires
 index_mut-requires g c =
@@ -68,14 +79,14 @@ invariant_of-self-2 g c =
     omega (arith, c.self.invariant.size, ap (λ (h : Holding). length h.config.items) c.self.view_is, rule-known c.args.self.now.config c.args.state.rule.0 c.requires.rule) in
     let f : find (λ (x : State). same_key x.key c.args.state.key) (states_of c.self.inside.records) ≡ None = ap (λ (h : Holding). find (λ (x : State). same_key x.key c.args.state.key) h.states) c.self.view_is ∙ c.requires.fresh in
     rw (c.in_ok-spot.ensures.records, c.in_ok-spot.ensures.nodes)
-    (tied-came c.self.inside.config c.self.inside.records c.self.inside.keys c.self.inside.counts.items c.self.inside.nodes c.self.inside.pairs c.insert.new.self c.place.new.pairs
-    s c.in_ok-spot.spot _ c.node_scope-scope.result c.place.ensures.addr c.self.invariant (none-found (λ (x : State). same_key x.key c.args.state.key) c.self.inside.records f) w
+    (tied-came c.self.inside.config c.self.inside.records c.self.inside.keys c.self.inside.counts.items c.self.inside.nodes c.self.inside.filing c.insert.new.self c.place.new.filing
+    s c.in_ok-spot.spot _ c.node_scope-scope.result (subst (λ q. (d : Dir) → IsAddr (filed_under q d s)) c.profile-profile.ensures c.place.ensures.addr) c.self.invariant (none-found (λ (x : State). same_key x.key c.args.state.key) c.self.inside.records f) w
     (get_or_read c.self.inside.counts.items _ _ w c.index_mut.ensures.value 0) c.requires.phase (sym c.node_scope-scope.ensures)
     (λ k. c.in-Ok.ensures.updates.0 k ∙ (λ j. cond (same_key s.key k) (Some (c.entry_of-entry.ensures j)) (ap (lookup (same_key k)) c.reserve.ensures.entries j)))
-    c.in_ok-spot.ensures.pairs)
+    (subst (λ q. HasFiled q s c.self.inside.filing c.place.new.filing) c.profile-profile.ensures c.in_ok-spot.ensures.filed))
 
 pub returns-clause-nodes : goal.returns-clause-nodes
 returns-clause-nodes g c =
     ap nodes_of c.in_ok-spot.ensures.nodes ∙ nodes-came c.node_scope-scope.result c.args.state c.self.inside.nodes
-    ∙ ap (λ (o : Option NodeScope). nodes_with (nodes_of c.self.inside.nodes) c.args.state.number c.args.state.source o) c.node_scope-scope.ensures
-    ∙ ap (λ (h : Holding). nodes_with h.nodes c.args.state.number c.args.state.source (node_scope_of h.config c.args.state.rule.0)) c.self.view_is
+    ∙ ap (λ (o : Option NodeScope). nodes_with (nodes_of c.self.inside.nodes) c.args.state.number c.args.state.source c.args.state.last o) c.node_scope-scope.ensures
+    ∙ ap (λ (h : Holding). nodes_with h.nodes c.args.state.number c.args.state.source c.args.state.last (node_scope_of h.config c.args.state.rule.0)) c.self.view_is

@@ -77,7 +77,7 @@ invariant_of-self g c =
     let m : c.meet-met.new.nodes ≡ map (at_node (node_scope_of c.self.inside.config s.rule.0) s.source (met_by (options_of c.self.inside.config s.rule.0).max_src_conn_rate c.args.now (completes_at c.args.packet.now s))) c.self.inside.nodes =
     c.meet-met.ensures.nodes ∙ ap (λ b. map (at_node (node_scope_of c.self.inside.config s.rule.0) s.source (met_by (options_of c.self.inside.config s.rule.0).max_src_conn_rate c.args.now b)) c.self.inside.nodes) c.stepped-completed.ensures.completes in
     rw (w, m)
-    (tied-met c.self.inside.config rs c.self.inside.keys c.self.inside.counts.items c.self.inside.nodes c.self.inside.pairs s.number c.args.packet.now c.args.now s c.self.invariant c.numbers_rise.ensures f (counts-done s c.args.packet.now))
+    (tied-met c.self.inside.config rs c.self.inside.keys c.self.inside.counts.items c.self.inside.nodes c.self.inside.filing s.number c.args.packet.now c.args.now s c.self.invariant c.numbers_rise.ensures f (counts-done s c.args.packet.now))
 
 pub returns-clause-before : goal.returns-clause-before
 returns-clause-before g c =
@@ -135,7 +135,7 @@ returns-clause-told g c =
     ∙ ap (λ ns. score_in s.source ns sc) (returns-clause-nodes g c)
     ∙ ap (λ (x : Conf). score_in s.source (nodes_touched c.args.self.now.config c.args.self.now.nodes s c.args.now (completes_at c.args.packet.now s)) (node_scope_of x s.rule.0)) (ap (λ (x : Holding). x.config) c.self.view_is))
     ∙ ap (λ b. if c.args.asked || b then score_in s.source (nodes_touched c.args.self.now.config c.args.self.now.nodes s c.args.now (completes_at c.args.packet.now s)) (node_scope_of c.args.self.now.config s.rule.0) else zero_score) c.stepped-completed.ensures.completes in
-    (λ j. record { rule = s.rule; source = s.source; completed = c.stepped-completed.ensures.completes j; connections = n j; score = z j })
+    (λ j. record { rule = s.rule; source = s.source; dir = s.dir; completed = c.stepped-completed.ensures.completes j; connections = n j; score = z j })
 
 pub returns-clause-reached : goal.returns-clause-reached
 returns-clause-reached g c =

@@ -1,6 +1,7 @@
 -- Answers of IndexStore's make: a new number is above all others, and the world then is as defined (`ok`).
 use Rattle.std.proofs.Common.{◌≡◌, ◌∙◌, ◌+◌, ◌<◌, ◌++◌, ◌∷◌, [], ap, refl, sym, arith}
 use Rattle.pfs_addr_values.specs.Packets.{run_limit}
+use Rattle.pfs_conf_values.specs.Configs.{Conf, tracks_fully}
 use Rattle.pfs_store_contract.specs.Admission.{world_after_admission, new_state, nodes_with}
 use Rattle.pfs_store_contract.specs.Counts.{node_scope_of}
 use Rattle.pfs_store_index.specs.Holdings.{Indexed}
@@ -42,8 +43,10 @@ returns-in-Ok-clause-ok g c =
     let m = c.self.inside.made in
     let w : World = world_of c.self.inside.indexes c.self.inside.states_round.cursor c.self.inside.states_round.mark c.self.inside.nodes_round.cursor c.self.inside.nodes_round.mark c.self.inside.made in
     let s : State = record { number = c.self.inside.made + 1; key = c.of.result; dir = c.dir.result; source = c.src-source.result; rule = c.args.rule; phase = c.first.result; last = c.args.now } in
-    let q : s ≡ new_state (c.self.inside.made + 1) c.args.packet.now c.args.rule.0 c.args.now =
-    (λ j. record { number = c.self.inside.made + 1; key = c.of.ensures j; dir = c.dir.ensures j; source = c.src-source.ensures j; rule = c.args.rule; phase = (c.first.ensures ∙ ap first_phase c.proto.ensures) j; last = c.args.now }) in
+    let full : c.tracks_fully-full.result ≡ tracks_fully c.self.inside.indexes.config c.args.rule.0 =
+    c.tracks_fully-full.ensures ∙ ap (λ (k : Conf). tracks_fully k c.args.rule.0) c.config.ensures in
+    let q : s ≡ new_state c.self.inside.indexes.config (c.self.inside.made + 1) c.args.packet.now c.args.rule.0 c.args.now =
+    (λ j. record { number = c.self.inside.made + 1; key = c.of.ensures j; dir = c.dir.ensures j; source = c.src-source.ensures j; rule = c.args.rule; phase = (c.first.ensures ∙ (λ i. first_phase (full i) (c.proto.ensures i))) j; last = c.args.now }) in
     world-came s h c.put.new.self c.self.inside.states_round.cursor c.self.inside.states_round.mark c.self.inside.nodes_round.cursor c.self.inside.nodes_round.mark m _ c.self.invariant refl c.in-Ok.ensures.states c.in-Ok.ensures.nodes
-    ∙ ap (λ (x : State). lists (h.states ++ x ∷ []) (nodes_with h.nodes (m + 1) x.source (node_scope_of h.config x.rule.0)) (waiting c.self.inside.states_round.cursor c.self.inside.states_round.mark (state_numbers h.states)) (waiting c.self.inside.nodes_round.cursor c.self.inside.nodes_round.mark (node_numbers h.nodes)) (m + 1)) q
+    ∙ ap (λ (x : State). lists (h.states ++ x ∷ []) (nodes_with h.nodes (m + 1) x.source x.last (node_scope_of h.config x.rule.0)) (waiting c.self.inside.states_round.cursor c.self.inside.states_round.mark (state_numbers h.states)) (waiting c.self.inside.nodes_round.cursor c.self.inside.nodes_round.mark (node_numbers h.nodes)) (m + 1)) q
     ∙ ap (λ (p : Indexed). world_after_admission p.config p.world c.args.packet.now c.args.rule.0 c.args.now) c.self.view_is

@@ -12,7 +12,7 @@ use Rattle.pfs_store_records.specs.Records.{between}
 use Rattle.pfs_store_index.specs.Holdings.{Indexed}
 use Rattle.pfs_store_index.specs.Rounds.{waiting}
 use Rattle.pfs_store_index.specs.Stored.{IsNumbered}
-use Rattle.pfs_store_index.proofs.Idling.{node_number}
+use Rattle.pfs_store_index.proofs.Retained.{node_number}
 use Rattle.pfs_store_index.proofs.RisingWalks.{all-fewer}
 use Rattle.pfs_store_index.proofs.Storing.{numbered-filter, stored-nodes}
 use Rattle.pfs_store_index.proofs.Told.{told-all, told-stay}

@@ -56,12 +56,12 @@ changed-tally-requires g c =
 
 pub counted-self-inside-requires : goal.counted-self-inside-requires
 counted-self-inside-requires g c =
-    let few = few-stateless (NodeIsAt (get same_source c.self.inside.table)) (tally_in c.self.inside.slab) c.self.inside.order.entries c.self.inside.stateless c.self.invariant.noted.kept.placed c.self.invariant.idle in
+    let few = few-stateless (NodeIsAt (get same_source c.self.inside.table)) (tally_in c.self.inside.slab) c.self.inside.order.entries c.self.inside.stateless c.self.invariant.noted.kept.placed c.self.invariant.unused in
     omega (arith, few, c.uncounted.ensures, c.len-count.ensures.len, c.len-count.ensures.small)
 
 pub uncounted-requires : goal.uncounted-requires
 uncounted-requires g c =
-    omega (arith, stateless-found c.args.scope c.args.source c.index.result.now c.args.self.now (found g c), ap stateless c.self.view_is, c.self.invariant.idle)
+    omega (arith, stateless-found c.args.scope c.args.source c.index.result.now c.args.self.now (found g c), ap stateless c.self.view_is, c.self.invariant.unused)
 
 -- the tallies after it
 listed : (g : _) (c : goal.After-self-in-Some-1 g) → values_at (tally_in (with_value c.self.inside.slab c.in-Some.place.now c.changed-tally.result)) c.self.inside.order.entries
@@ -96,7 +96,7 @@ invariant_of-self g c =
     let same = ap (λ (x : Tally). one_if (x.states == 0)) c.changed-tally.ensures in
     record {
       noted = noted-written (get same_source c.self.inside.table) (tally_in c.self.inside.slab) (tally_in (with_value c.self.inside.slab c.in-Some.place.now v)) v c.in-Some.place.now c.self.inside.order.entries c.self.inside.counts.rules.items c.self.inside.counts.global a l u c.self.invariant.noted;
-      idle = omega (arith, c.counted-self-inside.ensures, c.uncounted.ensures, c.self.invariant.idle, ap stateless c.self.view_is, ap stateless (listed g c), recount g c.before.before.before.before, same);
+      unused = omega (arith, c.counted-self-inside.ensures, c.uncounted.ensures, c.self.invariant.unused, ap stateless c.self.view_is, ap stateless (listed g c), recount g c.before.before.before.before, same);
     }
 
 pub returns-in-Some-clause-nodes : goal.returns-in-Some-clause-nodes

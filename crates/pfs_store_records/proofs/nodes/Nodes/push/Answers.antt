@@ -17,7 +17,7 @@ invariant_of-self-in_err-reserve g c =
     record {
       noted = noted-reserved c.self.inside.table c.reserve.new.self (tally_in c.self.inside.slab) (tally_in c.self.inside.slab) c.self.inside.order.entries c.self.inside.counts.rules.items c.make_room.new.self.rules.items c.self.inside.counts.global c.make_room.new.self.global
           c.reserve.ensures.entries (λ p. refl) c.make_room.ensures.counts c.self.invariant.noted;
-      idle = c.self.invariant.idle;
+      unused = c.self.invariant.unused;
     }
 
 pub returns-in_err-reserve-clause-orderly : goal.returns-in_err-reserve-clause-orderly
@@ -29,7 +29,7 @@ invariant_of-self-in_err-reserve-2 g c =
     record {
       noted = noted-reserved c.self.inside.table c.reserve.new.self (tally_in c.self.inside.slab) (tally_in c.reserve-2.new.self) c.self.inside.order.entries c.self.inside.counts.rules.items c.make_room.new.self.rules.items c.self.inside.counts.global c.make_room.new.self.global
           c.reserve.ensures.entries (grown-slab c.self.inside.slab c.reserve-2.new.self _ c.reserve-2.ensures.rest_kept) c.make_room.ensures.counts c.self.invariant.noted;
-      idle = c.self.invariant.idle ∙ sym (ap stateless (held-all number_of_node (NodeIsAt (get same_source c.reserve.new.self)) (tally_in c.self.inside.slab) (tally_in c.reserve-2.new.self) c.self.inside.order.entries (grown-slab c.self.inside.slab c.reserve-2.new.self _ c.reserve-2.ensures.rest_kept)));
+      unused = c.self.invariant.unused ∙ sym (ap stateless (held-all number_of_node (NodeIsAt (get same_source c.reserve.new.self)) (tally_in c.self.inside.slab) (tally_in c.reserve-2.new.self) c.self.inside.order.entries (grown-slab c.self.inside.slab c.reserve-2.new.self _ c.reserve-2.ensures.rest_kept)));
     }
 
 pub returns-in_err-reserve-2-clause-orderly : goal.returns-in_err-reserve-2-clause-orderly
@@ -41,7 +41,7 @@ invariant_of-self-in_err-place g c =
     record {
       noted = noted-reserved c.self.inside.table c.reserve.new.self (tally_in c.self.inside.slab) (tally_in c.reserve-2.new.self) c.self.inside.order.entries c.self.inside.counts.rules.items c.make_room.new.self.rules.items c.self.inside.counts.global c.make_room.new.self.global
           c.reserve.ensures.entries (grown-slab c.self.inside.slab c.reserve-2.new.self _ c.reserve-2.ensures.rest_kept) c.make_room.ensures.counts c.self.invariant.noted;
-      idle = c.self.invariant.idle ∙ sym (ap stateless (held-all number_of_node (NodeIsAt (get same_source c.reserve.new.self)) (tally_in c.self.inside.slab) (tally_in c.reserve-2.new.self) c.self.inside.order.entries (grown-slab c.self.inside.slab c.reserve-2.new.self _ c.reserve-2.ensures.rest_kept)));
+      unused = c.self.invariant.unused ∙ sym (ap stateless (held-all number_of_node (NodeIsAt (get same_source c.reserve.new.self)) (tally_in c.self.inside.slab) (tally_in c.reserve-2.new.self) c.self.inside.order.entries (grown-slab c.self.inside.slab c.reserve-2.new.self _ c.reserve-2.ensures.rest_kept)));
     }
 
 pub returns-in_err-place-clause-orderly : goal.returns-in_err-place-clause-orderly
@@ -52,8 +52,8 @@ pub invariant_of-self-in_err-push : goal.invariant_of-self-in_err-push
 invariant_of-self-in_err-push g c =
     let k = noted-reserved c.self.inside.table c.reserve.new.self (tally_in c.self.inside.slab) (tally_in c.reserve-2.new.self) c.self.inside.order.entries c.self.inside.counts.rules.items c.make_room.new.self.rules.items c.self.inside.counts.global c.make_room.new.self.global
     c.reserve.ensures.entries (grown-slab c.self.inside.slab c.reserve-2.new.self _ c.reserve-2.ensures.rest_kept) c.make_room.ensures.counts c.self.invariant.noted in
-    let idle = c.self.invariant.idle ∙ sym (ap stateless (held-all number_of_node (NodeIsAt (get same_source c.reserve.new.self)) (tally_in c.self.inside.slab) (tally_in c.reserve-2.new.self) c.self.inside.order.entries (grown-slab c.self.inside.slab c.reserve-2.new.self _ c.reserve-2.ensures.rest_kept))) in
-    rw c.in_err-push.ensures.err (record { noted = k; idle = idle })
+    let unused = c.self.invariant.unused ∙ sym (ap stateless (held-all number_of_node (NodeIsAt (get same_source c.reserve.new.self)) (tally_in c.self.inside.slab) (tally_in c.reserve-2.new.self) c.self.inside.order.entries (grown-slab c.self.inside.slab c.reserve-2.new.self _ c.reserve-2.ensures.rest_kept))) in
+    rw c.in_err-push.ensures.err (record { noted = k; unused = unused })
 
 pub returns-in_err-push-clause-orderly : goal.returns-in_err-push-clause-orderly
 returns-in_err-push-clause-orderly g c =
@@ -67,7 +67,7 @@ push-requires g c = record {
 
 pub counted-self-inside-requires : goal.counted-self-inside-requires
 counted-self-inside-requires g c =
-    let few = few-stateless (NodeIsAt (get same_source c.self.inside.table)) (tally_in c.self.inside.slab) c.self.inside.order.entries c.self.inside.stateless c.self.invariant.noted.kept.placed c.self.invariant.idle in
+    let few = few-stateless (NodeIsAt (get same_source c.self.inside.table)) (tally_in c.self.inside.slab) c.self.inside.order.entries c.self.inside.stateless c.self.invariant.noted.kept.placed c.self.invariant.unused in
     omega (arith, few, c.len-count.ensures.len, c.len-count.ensures.small)
 
 pub add-requires-clause-few : goal.add-requires-clause-few
@@ -119,7 +119,7 @@ invariant_of-self-in-Ok g c =
       noted = noted-pushed (get same_source c.reserve.new.self) (get same_source c.insert.new.self) (tally_in c.reserve-2.new.self) (tally_in c.insert_reserved.new.self) t p es c.push.new.self.entries
           c.make_room.new.self.rules.items c.add.new.self.rules.items c.make_room.new.self.global c.add.new.self.global
           n m (vacant g c) (written g c) (rw (held g c) c.requires.above) c.in_ok-push.ensures.entries c.push.ensures.ordered c.in_ok-push.ensures.updates c.add.ensures (kept g c);
-      idle = omega (arith, c.counted-self-inside.ensures, c.self.invariant.idle, ap stateless c.self.view_is, ap stateless (listed g c) ∙ stateless-pushed t c.args.self.now);
+      unused = omega (arith, c.counted-self-inside.ensures, c.self.invariant.unused, ap stateless c.self.view_is, ap stateless (listed g c) ∙ stateless-pushed t c.args.self.now);
     }
 
 pub returns-clause-ok : goal.returns-clause-ok

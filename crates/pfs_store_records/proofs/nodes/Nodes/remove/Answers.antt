@@ -23,7 +23,7 @@ removed g c =
     (sym c.in-Some.ensures.value) c.remove-tally.ensures.value c.self.invariant.noted.kept.placed
 
 pub uncounted-self-inside-requires : goal.uncounted-self-inside-requires
-uncounted-self-inside-requires g c = omega (arith, removed g c, c.self.invariant.idle)
+uncounted-self-inside-requires g c = omega (arith, removed g c, c.self.invariant.unused)
 
 pub take-requires : goal.take-requires
 take-requires g c =
@@ -46,7 +46,7 @@ invariant_of-self g c =
           (updated-table (get same_source c.self.inside.table) (get same_source c.swap_remove.new.self) (source_of_node c.remove-tally.result) _ c.swap_remove.ensures.updates.0)
           (updated-slab c.self.inside.slab c.remove-tally.new.self c.in-Some.place _ c.remove-tally.ensures.updates)
           c.remove.ensures.entries c.remove.ensures.ordered c.remove.ensures.updates c.take.ensures c.self.invariant.noted;
-      idle = omega (arith, c.uncounted-self-inside.ensures, c.self.invariant.idle, removed g c.before.before, ap stateless (kept g c));
+      unused = omega (arith, c.uncounted-self-inside.ensures, c.self.invariant.unused, removed g c.before.before, ap stateless (kept g c));
     }
 
 pub unreachable-requires : goal.unreachable-requires
