@@ -12,10 +12,11 @@ use Rattle.pfs_conf_values.specs.Entries.{TextEntry, sign_of}
 use Rattle.pfs_conf_values.specs.declared.limits.LimitName.{LimitName}
 use Rattle.pfs_conf_values.specs.declared.limits.LimitName.TheVariants as limit
 use Rattle.pfs_conf_values.specs.declared.timeouts.TimeoutName.{TimeoutName}
-use Rattle.pfs_conf_settings.specs.Drafts.{Drafted, with_limit, with_timeout, is_defined}
+use Rattle.pfs_conf_settings.specs.Drafts.{Drafted, with_limit, with_profile, with_timeout, is_defined}
+use Rattle.pfs_conf_values.specs.declared.profiles.Profile.TheVariants as profile
 use Rattle.pfs_conf_settings.specs.declared.settings.Setting.{Setting}
 use Rattle.pfs_conf_settings.specs.declared.settings.Setting.TheVariants as variant
-use Rattle.pfs_conf_settings.specs.Settings.{timeout_named, bounded_at, limit_statement, limit_by, limit_at, least_value, greatest_value, unkept, timeout_statement, time_by, time_at, setting_at, lined_setting_at, some_settings_by, some_settings_at, settings_by, settings_at}
+use Rattle.pfs_conf_settings.specs.Settings.{timeout_named, bounded_at, limit_statement, limit_by, limit_at, least_value, greatest_value, unkept, timeout_statement, time_by, time_at, setting_at, lined_setting_at, some_settings_by, some_settings_at, profile_by, profile_at, settings_by, settings_at}
 use Rattle.pfs_conf_settings.specs.Tables.{sign_by, sign_at, again, entry_joined, entries_with, entry_by, entry_at, lined_entry_at, entries_by, braced_entries_at, unless, part_by, part_at, parts_at}
 use Rattle.pfs_conf_settings.specs.TableGrammar.{no_parts}
 use Rattle.pfs_conf_settings.specs.declared.tables.Parts.{Parts}
@@ -98,7 +99,16 @@ keeps_some_settings : (s : Setting) (d : Drafted) → Keeps false false (some_se
 unfolding some_settings_at
 keeps_some_settings s d = keeps_front (λ t. some_settings_by s d t.key) (λ t. some_settings_acts s d t.key)
 
+profile_acts : (d : Drafted) (k : Key) → KeepsAct false false k (profile_by d k)
+profile_acts d key.OpenBsd74 = keeps_word false false key.OpenBsd74 _ refl (keeps_done (with_profile profile.OpenBsd74 d))
+profile_acts d _ = tt
+
+keeps_profile : (d : Drafted) → Keeps false false (profile_at d)
+unfolding profile_at
+keeps_profile d = keeps_front (λ t. profile_by d t.key) (λ t. profile_acts d t.key)
+
 settings_acts : (d : Drafted) (k : Key) → KeepsAct false false k (settings_by d k)
+settings_acts d key.Profile = (refl, keeps_profile d)
 settings_acts d key.Limit = (refl, keeps_some_settings variant.Limit d)
 settings_acts d key.Timeout = (refl, keeps_some_settings variant.Timeout d)
 settings_acts d _ = tt

@@ -12,7 +12,7 @@ use Rattle.pfs_addr_values.specs.Protocols.{proto_in}
 use Rattle.pfs_addr.specs.Texts.{prefix_of}
 use Rattle.pfs_addr_values.specs.declared.packets.Dir.TheVariants as dir
 use Rattle.pfs_conf_values.specs.Entries.{TextEntry, sign_of}
-use Rattle.pfs_conf_settings.specs.Drafts.{Drafted, with_limit, with_timeout}
+use Rattle.pfs_conf_settings.specs.Drafts.{Drafted, with_limit, with_profile, with_timeout}
 use Rattle.pfs_conf_values.specs.Bounds.{greatest_timeout}
 use Rattle.pfs_conf_values.specs.declared.actions.Rate.{Rate}
 use Rattle.pfs_conf_values.specs.declared.actions.Scope.TheVariants as scope
@@ -21,6 +21,7 @@ use Rattle.pfs_conf_values.specs.declared.filters.Host.{Host}
 use Rattle.pfs_conf_values.specs.declared.filters.Host.TheVariants as host
 use Rattle.pfs_conf_values.specs.declared.limits.LimitName.{LimitName}
 use Rattle.pfs_conf_values.specs.declared.limits.LimitName.TheVariants as limit
+use Rattle.pfs_conf_values.specs.declared.profiles.Profile.TheVariants as profile
 use Rattle.pfs_conf_values.specs.declared.timeouts.TimeoutName.{TimeoutName}
 use Rattle.pfs_conf_filters.specs.declared.phrases.Statement.{Statement}
 use Rattle.pfs_conf_filters.specs.declared.phrases.Statement.TheVariants as statement
@@ -37,7 +38,7 @@ use Rattle.pfs_conf_options.specs.declared.clauses.StateClause.TheVariants as st
 use Rattle.pfs_conf_settings.specs.Settings as setting
 use Rattle.pfs_conf_settings.specs.declared.settings.Setting.{Setting}
 use Rattle.pfs_conf_settings.specs.declared.settings.Setting.TheVariants as variant
-use Rattle.pfs_conf_settings.specs.Settings.{timeout_named, limit_statement, limit_by, limit_at, least_value, greatest_value, unkept, timeout_statement, time_by, time_at, setting_at, lined_setting_at, some_settings_by, some_settings_at, settings_by, settings_at}
+use Rattle.pfs_conf_settings.specs.Settings.{timeout_named, limit_statement, limit_by, limit_at, least_value, greatest_value, unkept, timeout_statement, time_by, time_at, setting_at, lined_setting_at, some_settings_by, some_settings_at, profile_by, profile_at, settings_by, settings_at}
 use Rattle.pfs_conf_settings.specs.Tables as tables
 use Rattle.pfs_conf_settings.specs.Tables.{again, entry_joined, entries_with, entry_by, entry_at, lined_entry_at, entries_by, braced_entries_at, unless, part_by, part_at, parts_at}
 use Rattle.pfs_conf_settings.specs.TableGrammar.{no_parts}
@@ -445,7 +446,16 @@ unbroken_some_settings : (s : Setting) (d : Drafted) → Unbroken (some_settings
 unfolding some_settings_at
 unbroken_some_settings s d = unbroken_front (λ t. some_settings_by s d t.key) (λ t. some_settings_acts s d t.key)
 
+profile_acts : (d : Drafted) (k : Key) → UnbrokenAct (profile_by d k)
+profile_acts d key.OpenBsd74 = unbroken_done (with_profile profile.OpenBsd74 d)
+profile_acts d _ = tt
+
+unbroken_profile : (d : Drafted) → Unbroken (profile_at d)
+unfolding profile_at
+unbroken_profile d = unbroken_front (λ t. profile_by d t.key) (λ t. profile_acts d t.key)
+
 settings_acts : (d : Drafted) (k : Key) → UnbrokenAct (settings_by d k)
+settings_acts d key.Profile = unbroken_profile d
 settings_acts d key.Limit = unbroken_some_settings variant.Limit d
 settings_acts d key.Timeout = unbroken_some_settings variant.Timeout d
 settings_acts d _ = tt

@@ -1,5 +1,5 @@
 -- The state clauses of a canonical text are read again.
-use Rattle.std.proofs.Common.{◌≡◌, ◌≤◌, ◌<◌, ◌^◌, ℕ, true, false, All, List, [], ◌∷◌, ◌++◌, length, Option, Some, None, IfSome, refl, sym, subst, arith, append_assoc}
+use Rattle.std.proofs.Common.{◌≡◌, ◌≤◌, ◌<◌, ◌^◌, ℕ, Bool, true, false, All, List, [], ◌∷◌, ◌++◌, length, Option, Some, None, IfSome, refl, sym, subst, arith, append_assoc}
 use Rattle.std.specs.Prelude.{codes, decimal, slice_index_or, slice_set}
 use Rattle.std.specs.List.{flat_map}
 use Rattle.std.specs.Option.{option_map}
@@ -9,7 +9,7 @@ use Rattle.pfs_conf_tokens.specs.Grammar.{Number}
 use Rattle.pfs_conf_tokens.specs.Tokens.{token}
 use Rattle.pfs_conf_tokens.specs.Words.{key_of_text}
 use Rattle.pfs_conf_tokens.proofs.ShownLaws.{breaks, decimal_text, is_word_text, key_of_decimal, number_of-decimal, split_around_append, word_then}
-use Rattle.pfs_conf_tokens.proofs.WordKeys.{key_of_Flush, key_of_Global, key_of_Keep, key_of_Max, key_of_MaxSrcConn, key_of_MaxSrcConnRate, key_of_MaxSrcNodes, key_of_MaxSrcStates, key_of_No, key_of_Overload, key_of_Rule, key_of_SourceTrack, key_of_State, key_of_TcpFirst, key_of_TcpOpening, key_of_TcpEstablished, key_of_TcpClosing, key_of_TcpFinwait, key_of_TcpClosed, key_of_UdpFirst, key_of_UdpSingle, key_of_UdpMultiple, key_of_OtherFirst, key_of_OtherSingle, key_of_OtherMultiple, key_of_SrcTrack, key_of_AdaptiveStart, key_of_AdaptiveEnd}
+use Rattle.pfs_conf_tokens.proofs.WordKeys.{key_of_Flush, key_of_Global, key_of_Keep, key_of_Max, key_of_MaxSrcConn, key_of_MaxSrcConnRate, key_of_MaxSrcNodes, key_of_MaxSrcStates, key_of_No, key_of_Overload, key_of_Rule, key_of_Sloppy, key_of_SourceTrack, key_of_State, key_of_TcpFirst, key_of_TcpOpening, key_of_TcpEstablished, key_of_TcpClosing, key_of_TcpFinwait, key_of_TcpClosed, key_of_UdpFirst, key_of_UdpSingle, key_of_UdpMultiple, key_of_OtherFirst, key_of_OtherSingle, key_of_OtherMultiple, key_of_SrcTrack, key_of_AdaptiveStart, key_of_AdaptiveEnd}
 use Rattle.pfs_addr_values.specs.Names.{is_name}
 use Rattle.pfs_addr.proofs.PieceLaws.{decimal_lacks}
 use Rattle.pfs_conf_values.specs.Invariants.{IsTable}
@@ -22,14 +22,14 @@ use Rattle.pfs_conf_values.specs.declared.actions.Scope.{Scope}
 use Rattle.pfs_conf_values.specs.declared.actions.Scope.TheVariants as scope
 use Rattle.pfs_conf_values.specs.declared.actions.StateOptions.{StateOptions}
 use Rattle.pfs_conf_values.specs.declared.tables.TableDef.{TableDef}
-use Rattle.pfs_conf_options.specs.Grammar.{FlushOf, KeptOf, OptionOf, OverloadOf, RateOf, StateOf, all, global, keep, listed, max, max_src_conn, max_src_conn_rate, max_src_nodes, max_src_states, no, nothing, overload, own, plainly, rule, source_track, timeout}
+use Rattle.pfs_conf_options.specs.Grammar.{FlushOf, KeptOf, OptionOf, OverloadOf, RateOf, StateOf, all, global, keep, listed, max, max_src_conn, max_src_conn_rate, max_src_nodes, max_src_states, no, nothing, overload, own, plainly, rule, sloppy, source_track, timeout}
 use Rattle.pfs_conf_options.specs.Options.{none_given, rule_place}
 use Rattle.pfs_conf_options.specs.declared.clauses.Options.{Options}
 use Rattle.pfs_conf_options.specs.declared.clauses.OverloadText.{OverloadText}
 use Rattle.pfs_conf_options.specs.declared.clauses.StateClause.TheVariants as clause
 use Rattle.pfs_conf_options.specs.declared.clauses.Track.{Track}
 use Rattle.pfs_conf_options.specs.declared.clauses.Track.TheVariants as track
-use Rattle.pfs_conf_show.specs.Options.{flush_text, option_texts, options_text, overload_text, rate_text, rule_timeout_text, scope_text}
+use Rattle.pfs_conf_show.specs.Options.{flush_text, option_texts, options_text, overload_text, rate_text, rule_timeout_text, scope_text, sloppy_texts}
 use Rattle.pfs_conf_show.specs.Pieces.{bracketed_list, text_if_given, word_and_number}
 use Rattle.pfs_conf_show.specs.Tables.{angled_name, table_ref}
 use Rattle.pfs_conf_round_trip.proofs.Said.{options_said, overload_said, table_said, track_said}
@@ -106,8 +106,8 @@ overload_reads tables v line more t h b =
 -- ---- the options that are given
 
 -- options of which the first few are given
-abbrev with_parts : Option ℕ → Option Track → Option ℕ → Option ℕ → Option ℕ → Option Rate → Option OverloadText → List (Option ℕ) → Options
-with_parts m t n s c r v timeouts = record {
+abbrev with_parts : Option ℕ → Option Track → Option ℕ → Option ℕ → Option ℕ → Option Rate → Option OverloadText → Bool → List (Option ℕ) → Options
+with_parts m t n s c r v b timeouts = record {
   max = m;
   track = t;
   max_src_nodes = n;
@@ -115,45 +115,45 @@ with_parts m t n s c r v timeouts = record {
   max_src_conn = c;
   max_src_conn_rate = r;
   overload = v;
-  sloppy = false;
+  sloppy = b;
   floating = false;
   no_sync = false;
   timeouts = timeouts;
 }
 
-give_max : (m : Option ℕ) → IfSome m IsCount → OptionChain (text_if_given (word_and_number (codes "max")) m) none_given (with_parts m None None None None None None no_timeouts)
+give_max : (m : Option ℕ) → IfSome m IsCount → OptionChain (text_if_given (word_and_number (codes "max")) m) none_given (with_parts m None None None None None None false no_timeouts)
 give_max None h = done
 give_max (Some n) h = next (λ line more b. max n (word_number line (codes "max") n more refl key_of_Max) refl (count_number line n more h b)) done
 
 give_track : (m : Option ℕ) (s : Option Scope)
-    → OptionChain (text_if_given scope_text s) (with_parts m None None None None None None no_timeouts) (with_parts m (option_map track_said s) None None None None None no_timeouts)
+    → OptionChain (text_if_given scope_text s) (with_parts m None None None None None None false no_timeouts) (with_parts m (option_map track_said s) None None None None None false no_timeouts)
 give_track m None = done
-give_track m (Some s) = next (λ line more b. track_reads s line more b (with_parts m None None None None None None no_timeouts) refl) done
+give_track m (Some s) = next (λ line more b. track_reads s line more b (with_parts m None None None None None None false no_timeouts) refl) done
 
 give_nodes : (m : Option ℕ) (t : Option Track) (c : Option ℕ) → IfSome c IsCount
-    → OptionChain (text_if_given (word_and_number (codes "max-src-nodes")) c) (with_parts m t None None None None None no_timeouts) (with_parts m t c None None None None no_timeouts)
+    → OptionChain (text_if_given (word_and_number (codes "max-src-nodes")) c) (with_parts m t None None None None None false no_timeouts) (with_parts m t c None None None None false no_timeouts)
 give_nodes m t None h = done
 give_nodes m t (Some n) h = next (λ line more b. max_src_nodes n (word_number line (codes "max-src-nodes") n more refl key_of_MaxSrcNodes) refl (count_number line n more h b)) done
 
 give_states : (m : Option ℕ) (t : Option Track) (n c : Option ℕ) → IfSome c IsCount
-    → OptionChain (text_if_given (word_and_number (codes "max-src-states")) c) (with_parts m t n None None None None no_timeouts) (with_parts m t n c None None None no_timeouts)
+    → OptionChain (text_if_given (word_and_number (codes "max-src-states")) c) (with_parts m t n None None None None false no_timeouts) (with_parts m t n c None None None false no_timeouts)
 give_states m t k None h = done
 give_states m t k (Some n) h = next (λ line more b. max_src_states n (word_number line (codes "max-src-states") n more refl key_of_MaxSrcStates) refl (count_number line n more h b)) done
 
 give_conn : (m : Option ℕ) (t : Option Track) (n s c : Option ℕ) → IfSome c IsCount
-    → OptionChain (text_if_given (word_and_number (codes "max-src-conn")) c) (with_parts m t n s None None None no_timeouts) (with_parts m t n s c None None no_timeouts)
+    → OptionChain (text_if_given (word_and_number (codes "max-src-conn")) c) (with_parts m t n s None None None false no_timeouts) (with_parts m t n s c None None false no_timeouts)
 give_conn m t k s None h = done
 give_conn m t k s (Some n) h = next (λ line more b. max_src_conn n (word_number line (codes "max-src-conn") n more refl key_of_MaxSrcConn) refl (count_number line n more h b)) done
 
 give_rate : (m : Option ℕ) (t : Option Track) (n s c : Option ℕ) (r : Option Rate) → IfSome r IsRate
-    → OptionChain (text_if_given rate_text r) (with_parts m t n s c None None no_timeouts) (with_parts m t n s c r None no_timeouts)
+    → OptionChain (text_if_given rate_text r) (with_parts m t n s c None None false no_timeouts) (with_parts m t n s c r None false no_timeouts)
 give_rate m t n s c None h = done
 give_rate m t n s c (Some r) h =
     next (λ line more b. max_src_conn_rate r (word_space true line (codes "max-src-conn-rate") ((decimal r.limit ++ 47 ∷ decimal r.seconds) ++ more) refl key_of_MaxSrcConnRate) refl (rate_says r line more h b)) done
 
 give_overload : (tables : List TableDef) (m : Option ℕ) (t : Option Track) (n s c : Option ℕ) (r : Option Rate) (v : Option Overload) → All IsTable tables
     → IfSome v (λ x. IsTableNo (length tables) x.table)
-    → OptionChain (text_if_given (overload_text tables) v) (with_parts m t n s c r None no_timeouts) (with_parts m t n s c r (option_map (overload_said tables) v) no_timeouts)
+    → OptionChain (text_if_given (overload_text tables) v) (with_parts m t n s c r None false no_timeouts) (with_parts m t n s c r (option_map (overload_said tables) v) false no_timeouts)
 give_overload tables m t n s c r None g h = done
 give_overload tables m t n s c r (Some v) g h =
     next (λ line more b. overload (overload_said tables v) (word_space true line (codes "overload") ((table_ref tables v.table ++ flush_text v.flush) ++ more) refl key_of_Overload) refl
@@ -177,11 +177,16 @@ give_interval o None same h =
     subst P (sym same) done
 give_interval o (Some n) same h = absurd (cc h)
 
+give_sloppy : (m : Option ℕ) (t : Option Track) (n s c : Option ℕ) (r : Option Rate) (v : Option OverloadText) (b : Bool)
+    → OptionChain (sloppy_texts b) (with_parts m t n s c r v false no_timeouts) (with_parts m t n s c r v b no_timeouts)
+give_sloppy m t n s c r v false = done
+give_sloppy m t n s c r v true = next (λ line more h. sloppy (word_first true line (codes "sloppy") more refl h key_of_Sloppy) refl) done
+
 -- the timeouts that are given, by their places
-give_timeouts : (m : Option ℕ) (t : Option Track) (n s c : Option ℕ) (r : Option Rate) (v : Option OverloadText) (ts : List (Option ℕ)) → length ts ≡ 16
+give_timeouts : (m : Option ℕ) (t : Option Track) (n s c : Option ℕ) (r : Option Rate) (v : Option OverloadText) (b : Bool) (ts : List (Option ℕ)) → length ts ≡ 16
     → ((place : ℕ) → IfSome (slice_index_or ts place None) (IsTimeout place)) → slice_index_or ts 13 None ≡ None
-    → OptionChain (flat_map (rule_timeout_text ts) timeout_names) (with_parts m t n s c r v no_timeouts) (with_parts m t n s c r v ts)
-give_timeouts m t n s c r v (t0 ∷ t1 ∷ t2 ∷ t3 ∷ t4 ∷ t5 ∷ t6 ∷ t7 ∷ t8 ∷ t9 ∷ t10 ∷ t11 ∷ t12 ∷ t13 ∷ t14 ∷ t15 ∷ []) size h no_interval =
+    → OptionChain (flat_map (rule_timeout_text ts) timeout_names) (with_parts m t n s c r v b no_timeouts) (with_parts m t n s c r v b ts)
+give_timeouts m t n s c r v b (t0 ∷ t1 ∷ t2 ∷ t3 ∷ t4 ∷ t5 ∷ t6 ∷ t7 ∷ t8 ∷ t9 ∷ t10 ∷ t11 ∷ t12 ∷ t13 ∷ t14 ∷ t15 ∷ []) size h no_interval =
     (both (give_timeout (codes "tcp.first") key.TcpFirst 0 _ t0 refl key_of_TcpFirst refl refl refl (omega arith) (h 0))
     (both (give_timeout (codes "tcp.opening") key.TcpOpening 1 _ t1 refl key_of_TcpOpening refl refl refl (omega arith) (h 1))
     (both (give_timeout (codes "tcp.established") key.TcpEstablished 2 _ t2 refl key_of_TcpEstablished refl refl refl (omega arith) (h 2))
@@ -199,7 +204,7 @@ give_timeouts m t n s c r v (t0 ∷ t1 ∷ t2 ∷ t3 ∷ t4 ∷ t5 ∷ t6 ∷ t7
     (both (give_timeout (codes "adaptive.start") key.AdaptiveStart 14 _ t14 refl key_of_AdaptiveStart refl refl refl (omega arith) (h 14))
     (both (give_timeout (codes "adaptive.end") key.AdaptiveEnd 15 _ t15 refl key_of_AdaptiveEnd refl refl refl (omega arith) (h 15))
     done))))))))))))))))
-give_timeouts m t n s c r v _ size h no_interval = absurd (omega arith)
+give_timeouts m t n s c r v b _ size h no_interval = absurd (omega arith)
 
 -- ---- the state clause
 
@@ -213,7 +218,8 @@ options_chain tables o g h =
     (both (give_conn o.max _ o.max_src_nodes o.max_src_states o.max_src_conn h.max_src_conn)
     (both (give_rate o.max _ o.max_src_nodes o.max_src_states o.max_src_conn o.max_src_conn_rate h.max_src_conn_rate)
     (both (give_overload tables o.max _ o.max_src_nodes o.max_src_states o.max_src_conn o.max_src_conn_rate o.overload g h.overload)
-    (give_timeouts o.max _ o.max_src_nodes o.max_src_states o.max_src_conn o.max_src_conn_rate _ o.timeouts h.size h.timeouts h.no_interval)))))))
+    (both (give_sloppy o.max _ o.max_src_nodes o.max_src_states o.max_src_conn o.max_src_conn_rate _ o.sloppy)
+    (give_timeouts o.max _ o.max_src_nodes o.max_src_states o.max_src_conn o.max_src_conn_rate _ o.sloppy o.timeouts h.size h.timeouts h.no_interval))))))))
 
 kept_by : (xs : List (List ℕ)) (a : Options) (line : ℕ) (more : List ℕ) → OptionChain xs none_given a → KeptOf (at line (bracketed_list (codes " (") (codes ")") xs ++ more)) a (at line more)
 kept_by [] a line more done = plainly

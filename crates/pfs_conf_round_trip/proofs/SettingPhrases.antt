@@ -1,4 +1,4 @@
--- The lines of `set limit` and `set timeout` are read again.
+-- The lines of `set limit`, `set timeout` and `set profile` are read again.
 use Rattle.std.proofs.Common.{◌≡◌, ◌≤◌, ◌<◌, ◌^◌, ℕ, suc, true, false, List, [], ◌∷◌, ◌++◌, map, Some, refl, sym, ap, subst, ◌∙◌, arith, append_assoc}
 use Rattle.std.specs.Prelude.{codes, decimal, slice_index}
 use Rattle.std.proofs.lemmas.Bool.{cond-false}
@@ -10,17 +10,18 @@ use Rattle.pfs_conf_tokens.specs.Lexis.{tokens}
 use Rattle.pfs_conf_tokens.specs.Tokens.{Tok, token}
 use Rattle.pfs_conf_tokens.specs.Words.{key_of_text}
 use Rattle.pfs_conf_tokens.proofs.ShownLaws.{breaks, is_word_text, mark_then, space_then}
-use Rattle.pfs_conf_tokens.proofs.WordKeys.{key_of_Limit, key_of_Set, key_of_SrcNodes, key_of_States, key_of_TableEntries, key_of_Tables, key_of_Timeout, key_of_TcpFirst, key_of_TcpOpening, key_of_TcpEstablished, key_of_TcpClosing, key_of_TcpFinwait, key_of_TcpClosed, key_of_UdpFirst, key_of_UdpSingle, key_of_UdpMultiple, key_of_OtherFirst, key_of_OtherSingle, key_of_OtherMultiple, key_of_SrcTrack, key_of_Interval, key_of_AdaptiveStart, key_of_AdaptiveEnd}
+use Rattle.pfs_conf_tokens.proofs.WordKeys.{key_of_Limit, key_of_OpenBsd74, key_of_Profile, key_of_Set, key_of_SrcNodes, key_of_States, key_of_TableEntries, key_of_Tables, key_of_Timeout, key_of_TcpFirst, key_of_TcpOpening, key_of_TcpEstablished, key_of_TcpClosing, key_of_TcpFinwait, key_of_TcpClosed, key_of_UdpFirst, key_of_UdpSingle, key_of_UdpMultiple, key_of_OtherFirst, key_of_OtherSingle, key_of_OtherMultiple, key_of_SrcTrack, key_of_Interval, key_of_AdaptiveStart, key_of_AdaptiveEnd}
 use Rattle.pfs_conf_values.specs.Invariants.{AreLimits}
-use Rattle.pfs_conf_settings.specs.Drafts.{Drafted, with_limit, with_timeout}
+use Rattle.pfs_conf_settings.specs.Drafts.{Drafted, with_limit, with_profile, with_timeout}
 use Rattle.pfs_conf_values.specs.LoadRules.{IsCount}
 use Rattle.pfs_conf_values.specs.Timeouts.{place_of, timeout_names}
 use Rattle.pfs_conf_values.specs.declared.limits.LimitName.TheVariants as limit_name
 use Rattle.pfs_conf_values.specs.declared.limits.Limits.{Limits}
+use Rattle.pfs_conf_values.specs.declared.profiles.Profile.TheVariants as profile_name
 use Rattle.pfs_conf_values.specs.declared.timeouts.TimeoutName.{TimeoutName}
 use Rattle.pfs_conf_values.specs.declared.timeouts.TimeoutName.TheVariants as name
 use Rattle.pfs_conf_settings.proofs.TimeoutKeys.{placed}
-use Rattle.pfs_conf_settings.specs.SettingGrammar.{AmongLines, LimitOf, SettingOf, TimeOf, ValueOf, kept, limits, lined, src_nodes, states, table_entries, tables, timeouts}
+use Rattle.pfs_conf_settings.specs.SettingGrammar.{AmongLines, LimitOf, SettingOf, TimeOf, ValueOf, kept, limits, lined, profile, src_nodes, states, table_entries, tables, timeouts}
 use Rattle.pfs_conf_settings.specs.Settings.{greatest_value, least_value, timeout_named}
 use Rattle.pfs_conf_show.specs.Pieces.{begun_after, bracketed_list, word_and_number}
 use Rattle.pfs_conf_show.specs.Settings.{limit_texts, limits_text, timeout_text, timeout_word, timeouts_text}
@@ -222,3 +223,16 @@ timeouts_line d ts line more h = go (map (timeout_text ts) timeout_names) refl (
               (listed_again (AmongLines (TimeOf true)) Lined key.CloseBrace (codes " { ") (codes " }") (braces (AmongLines (TimeOf true))) x xs d e line (10 ∷ more) p);
           ended = line_end true line more;
         })
+
+-- ---- the profile
+
+pub profile_line : (d : Drafted) (line : ℕ) (more : List ℕ)
+    → SettingLine d (tokens 0 false line (codes "set profile openbsd-7.4\n" ++ more)) (with_profile profile_name.OpenBsd74 d) (tokens 0 false (suc line) more)
+profile_line d line more = record {
+  behind_set = at line (codes "profile openbsd-7.4\n" ++ more);
+  before_end = at line (10 ∷ more);
+  set = word_space false line (codes "set") (codes "profile openbsd-7.4\n" ++ more) refl key_of_Set;
+  setting = profile (word_space true line (codes "profile") (codes "openbsd-7.4\n" ++ more) refl key_of_Profile)
+      (word_first true line (codes "openbsd-7.4") (10 ∷ more) refl refl key_of_OpenBsd74);
+  ended = line_end true line more;
+}

@@ -1,5 +1,5 @@
 -- The canonical text of a configuration reads as that configuration.
-use Rattle.std.proofs.Common.{◌≡◌, ◌∙◌, ◌≤◌, ◌+◌, ℕ, Bool, true, false, List, [], ◌∷◌, ◌++◌, length, map, Option, Some, None, refl, sym, ap, subst, arith}
+use Rattle.std.proofs.Common.{◌≡◌, ◌∙◌, ◌≤◌, ◌+◌, ℕ, suc, Bool, true, false, List, [], ◌∷◌, ◌++◌, length, map, Option, Some, None, refl, sym, ap, subst, arith}
 use Rattle.std.specs.Prelude.{◌||◌, not, nat_lt, position}
 use Rattle.std.specs.List.{flat_map, list_any, position_or_len}
 use Rattle.std.specs.Option.{option_map}
@@ -13,7 +13,11 @@ use Rattle.pfs_conf_values.specs.Configs.{Conf, conf_of, entries_in, is_adaptive
 use Rattle.pfs_conf_values.specs.Invariants.{IsConfig}
 use Rattle.pfs_conf_settings.specs.Drafts.{Drafted, const_overload, empty_draft, conf_of_draft, has_broken_pair, has_too_many_entries, has_too_many_tables}
 use Rattle.pfs_conf_values.specs.Timeouts.{resolved_timeouts, timeout_names}
+use Rattle.pfs_conf_values.specs.Settled.{settled_items}
 use Rattle.pfs_conf_values.specs.declared.items.Item.{Item}
+use Rattle.pfs_conf_values.specs.declared.limits.Limits.{Limits}
+use Rattle.pfs_conf_values.specs.declared.profiles.Profile.{Profile}
+use Rattle.pfs_conf_values.specs.declared.profiles.Profile.TheVariants as profile
 use Rattle.pfs_conf_values.specs.declared.timeouts.TimeoutName.{TimeoutName}
 use Rattle.pfs_conf_values.specs.declared.timeouts.TimeoutName.TheVariants as name
 use Rattle.pfs_conf_settings.specs.Settings.{greatest_value, least_value}
@@ -22,12 +26,12 @@ use Rattle.pfs_conf.specs.Reads.{Reads}
 use Rattle.pfs_conf.specs.Statements.{first_broken, nothing, text_breaks, text_breaks_by}
 use Rattle.pfs_conf.specs.declared.progress.Progress.{Progress}
 use Rattle.pfs_conf.proofs.LoadLaws.{one_text}
-use Rattle.pfs_conf_show.specs.Settings.{timeouts_text}
+use Rattle.pfs_conf_show.specs.Settings.{profile_text, timeouts_text}
 use Rattle.pfs_conf_show.specs.Tables.{table_text}
 use Rattle.pfs_conf_show.specs.Texts.{items_text, text_of}
 use Rattle.pfs_conf_round_trip.specs.Again.{CanBeSaid}
 use Rattle.pfs_conf_round_trip.proofs.Numbering.{AreNumbered, drafted}
-use Rattle.pfs_conf_round_trip.proofs.SettingPhrases.{AreGiven, SettingLine, limits_line, set_all, timeouts_line, value_in}
+use Rattle.pfs_conf_round_trip.proofs.SettingPhrases.{AreGiven, SettingLine, limits_line, profile_line, set_all, timeouts_line, value_in}
 use Rattle.pfs_conf_round_trip.proofs.Statements.{Ends, EndsFrom, items_read, reached, stated, tables_read}
 
 -- ---- timeouts
@@ -68,9 +72,9 @@ abbrev all_set : List ℕ → List (Option ℕ)
 all_set ts = map (λ (n : TimeoutName). Some (value_in ts n)) timeout_names
 
 -- what is set stays
-timeouts_again : (states : ℕ) (ts : List ℕ) → length ts ≡ 16 → resolved_timeouts states (all_set ts) ≡ ts
-timeouts_again states (t0 ∷ t1 ∷ t2 ∷ t3 ∷ t4 ∷ t5 ∷ t6 ∷ t7 ∷ t8 ∷ t9 ∷ t10 ∷ t11 ∷ t12 ∷ t13 ∷ t14 ∷ t15 ∷ []) h = refl
-timeouts_again states _ h = absurd (omega arith)
+timeouts_again : (p : Profile) (states : ℕ) (ts : List ℕ) → length ts ≡ 16 → resolved_timeouts p states (all_set ts) ≡ ts
+timeouts_again p states (t0 ∷ t1 ∷ t2 ∷ t3 ∷ t4 ∷ t5 ∷ t6 ∷ t7 ∷ t8 ∷ t9 ∷ t10 ∷ t11 ∷ t12 ∷ t13 ∷ t14 ∷ t15 ∷ []) h = refl
+timeouts_again p states _ h = absurd (omega arith)
 
 -- ---- the load rules of the text as a whole
 
@@ -103,11 +107,13 @@ text_kept p d e overload pair tables entries =
 
 -- what the text says
 abbrev whole : Conf → Drafted
-whole conf = drafted conf.limits (all_set conf.timeouts) conf.tables conf.items
+whole conf = drafted conf.profile conf.limits (all_set conf.timeouts) conf.tables conf.items
 
 -- what it says is the configuration
 whole_again : (conf : Conf) → IsConfig conf → conf_of_draft (whole conf) ≡ conf
-whole_again conf h = ap (λ (ts : List ℕ). conf_of conf.limits ts conf.tables conf.items) (timeouts_again conf.limits.states conf.timeouts h.size)
+whole_again conf h =
+    ap (λ (ts : List ℕ). conf_of conf.profile conf.limits ts conf.tables (settled_items conf.profile conf.items)) (timeouts_again conf.profile conf.limits.states conf.timeouts h.size)
+    ∙ ap (conf_of conf.profile conf.limits conf.timeouts conf.tables) h.settled
 
 setting_read : (d e : Drafted) (lines : List ℕ) (ts left : List Tok) → SettingLine d ts e left → StatementOf (reached d 0 lines) ts (reached e 0 lines) left
 setting_read d e lines ts left s = set refl s.set s.setting s.ended
@@ -116,8 +122,16 @@ setting_read d e lines ts left s = set refl s.set s.setting s.ended
 abbrev limited : Conf → Drafted
 limited conf = record empty_draft { limits = conf.limits }
 
-settings_set : (conf : Conf) → set_all timeout_names (value_in conf.timeouts) (limited conf) ≡ drafted conf.limits (all_set conf.timeouts) [] []
+settings_set : (conf : Conf) → set_all timeout_names (value_in conf.timeouts) (limited conf) ≡ drafted profile.Own conf.limits (all_set conf.timeouts) [] []
 settings_set conf = refl
+
+-- the profile is set, if the text has one
+profile_reads : (whole : Drafted) (p : Profile) (limits : Limits) (timeouts : List (Option ℕ)) (more : List ℕ) → EndsFrom whole (drafted p limits timeouts [] []) 0 more
+    → EndsFrom whole (drafted profile.Own limits timeouts [] []) 0 (profile_text p ++ more)
+profile_reads whole profile.Own limits timeouts more e line lines = e line lines
+profile_reads whole profile.OpenBsd74 limits timeouts more e line lines =
+    stated (setting_read (drafted profile.Own limits timeouts [] []) (drafted profile.OpenBsd74 limits timeouts [] []) lines _ _ (profile_line (drafted profile.Own limits timeouts [] []) line more))
+    (e (suc line) lines)
 
 -- its tables have numbers
 numbered_tables : (conf : Conf) → IsConfig conf → AreNumbered conf.tables
@@ -127,14 +141,16 @@ text_ends : (conf : Conf) → IsConfig conf → timeout_of conf name.AdaptiveEnd
 text_ends conf h end =
     let items = items_text conf.tables 0 conf.items in
     let tables = flat_map table_text conf.tables ++ items in
-    let timeouts = timeouts_text conf.timeouts ++ tables in
-    let d = drafted conf.limits (all_set conf.timeouts) [] [] in
-    let read : EndsFrom (whole conf) d 0 tables =
-    tables_read (whole conf) conf.limits (all_set conf.timeouts) [] conf.tables items h.tables h.names
-    (items_read conf.limits (all_set conf.timeouts) conf.tables [] conf.items 0 h.tables (numbered_tables conf h) h.items h.few_items h.preorder h.anchors) in
-    let E : Drafted → Type 0 = λ z. Ends (whole conf) (reached z 0 []) (tokens 0 false 3 tables) in
+    let behind = profile_text conf.profile ++ tables in
+    let timeouts = timeouts_text conf.timeouts ++ behind in
+    let d = drafted profile.Own conf.limits (all_set conf.timeouts) [] [] in
+    let read : EndsFrom (whole conf) d 0 behind =
+    profile_reads (whole conf) conf.profile conf.limits (all_set conf.timeouts) tables
+    (tables_read (whole conf) conf.profile conf.limits (all_set conf.timeouts) [] conf.tables items h.tables h.names
+    (items_read conf.profile conf.limits (all_set conf.timeouts) conf.tables [] conf.items 0 h.tables (numbered_tables conf h) h.items h.few_items h.preorder h.anchors)) in
+    let E : Drafted → Type 0 = λ z. Ends (whole conf) (reached z 0 []) (tokens 0 false 3 behind) in
     stated (setting_read empty_draft (limited conf) [] _ _ (limits_line empty_draft conf.limits 1 timeouts h.limits))
-    (stated (setting_read (limited conf) (set_all timeout_names (value_in conf.timeouts) (limited conf)) [] _ _ (timeouts_line (limited conf) conf.timeouts 2 tables (are_given conf h end)))
+    (stated (setting_read (limited conf) (set_all timeout_names (value_in conf.timeouts) (limited conf)) [] _ _ (timeouts_line (limited conf) conf.timeouts 2 behind (are_given conf h end)))
     (subst E (sym (settings_set conf)) (read 3 [])))
 
 -- the text of a configuration reads as it

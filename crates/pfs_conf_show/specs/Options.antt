@@ -1,5 +1,5 @@
 -- The state clause of a rule. (pf.conf(5), STATEFUL TRACKING OPTIONS; the order of the options is own)
-use Rattle.std.specs.Prelude.{ℕ, List, [], ◌++◌, Option, Some, None, codes, decimal, slice_index_or}
+use Rattle.std.specs.Prelude.{ℕ, Bool, true, false, List, [], ◌∷◌, ◌++◌, Option, Some, None, codes, decimal, slice_index_or}
 use Rattle.std.specs.List.{flat_map}
 use Rattle.pfs_conf_values.specs.Timeouts.{place_of, timeout_names}
 use Rattle.pfs_conf_values.specs.declared.actions.Action.{Action}
@@ -33,6 +33,11 @@ flush_text (Some scope.Global) = codes " flush global"
 abbrev pub overload_text : List TableDef → Overload → List ℕ
 overload_text tables v = codes "overload " ++ (table_ref tables v.table ++ flush_text v.flush)
 
+-- `sloppy`, if it is given
+abbrev pub sloppy_texts : Bool → List (List ℕ)
+sloppy_texts false = []
+sloppy_texts true = codes "sloppy" ∷ []
+
 -- the rule's own value of a timeout, if it gives one
 abbrev pub rule_timeout_text : List (Option ℕ) → TimeoutName → List (List ℕ)
 rule_timeout_text timeouts name = text_if_given (word_and_number (timeout_word name)) (slice_index_or timeouts (place_of name) None)
@@ -47,7 +52,8 @@ option_texts tables o =
     ++ (text_if_given (word_and_number (codes "max-src-conn")) o.max_src_conn
     ++ (text_if_given rate_text o.max_src_conn_rate
     ++ (text_if_given (overload_text tables) o.overload
-    ++ flat_map (rule_timeout_text o.timeouts) timeout_names))))))
+    ++ (sloppy_texts o.sloppy
+    ++ flat_map (rule_timeout_text o.timeouts) timeout_names)))))))
 
 -- ` (o, o, ..)`, or nothing
 abbrev pub options_text : List TableDef → StateOptions → List ℕ

@@ -1,7 +1,9 @@
--- The lines of `set limit` and `set timeout`. (pf.conf(5), OPTIONS; their form is own)
+-- The lines of `set limit`, `set timeout` and `set profile`. (pf.conf(5), OPTIONS; their form is own)
 use Rattle.std.specs.Prelude.{ℕ, List, [], ◌∷◌, ◌++◌, codes, map, slice_index}
 use Rattle.pfs_conf_values.specs.Timeouts.{place_of, timeout_names}
 use Rattle.pfs_conf_values.specs.declared.limits.Limits.{Limits}
+use Rattle.pfs_conf_values.specs.declared.profiles.Profile.{Profile}
+use Rattle.pfs_conf_values.specs.declared.profiles.Profile.TheVariants as profile
 use Rattle.pfs_conf_values.specs.declared.timeouts.TimeoutName.{TimeoutName}
 use Rattle.pfs_conf_values.specs.declared.timeouts.TimeoutName.TheVariants.{TcpFirst, TcpOpening, TcpEstablished, TcpClosing, TcpFinwait, TcpClosed, UdpFirst, UdpSingle, UdpMultiple, OtherFirst, OtherSingle, OtherMultiple, SrcTrack, Interval, AdaptiveStart, AdaptiveEnd}
 use Rattle.pfs_conf_show.specs.Pieces.{bracketed_list, word_and_number}
@@ -42,3 +44,8 @@ timeout_text timeouts name = word_and_number (timeout_word name) (slice_index ti
 -- `set timeout { tcp.first N, .. }`: all timeouts, by their places
 abbrev pub timeouts_text : List ℕ → List ℕ
 timeouts_text timeouts = codes "set timeout" ++ (bracketed_list (codes " { ") (codes " }") (map (timeout_text timeouts) timeout_names) ++ codes "\n")
+
+-- `set profile openbsd-7.4`; a text without the profile has no line
+abbrev pub profile_text : Profile → List ℕ
+profile_text profile.Own = []
+profile_text profile.OpenBsd74 = codes "set profile openbsd-7.4\n"

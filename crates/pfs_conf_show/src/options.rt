@@ -4,7 +4,7 @@ ghost use Rattle.std.specs.Prelude.{◌≡◌, ◌++◌, IfOk, OnOk, codes, deci
 ghost use Rattle.std.specs.List.{flat_map};
 ghost use Rattle.pfs_conf_values.specs.Timeouts.{timeout_names};
 ghost use Rattle.pfs_conf_show.specs.Pieces.{begun_after, text_if_given, going_on, word_and_number};
-ghost use Rattle.pfs_conf_show.specs.Options.{flush_text, options_text, overload_text, rate_text, rule_timeout_text, scope_text, state_text};
+ghost use Rattle.pfs_conf_show.specs.Options.{flush_text, options_text, overload_text, rate_text, rule_timeout_text, scope_text, sloppy_texts, state_text};
 
 use crate::pieces::{push_closing, push_separator, push_worded};
 use crate::settings::{TIMEOUT_NAMES, timeout_word};
@@ -40,6 +40,7 @@ fn push_options(out: &mut Vec<u8>, config: &Config, options: &StateOptions) -> R
     let begun = push_count(out, begun, b"max-src-conn", options.max_src_conn)?;
     let begun = push_rate(out, begun, options.max_src_conn_rate)?;
     let begun = push_overload(out, begun, config, options.overload)?;
+    let begun = push_sloppy(out, begun, options.sloppy)?;
     let begun = push_rule_timeouts(out, begun, &options.timeouts)?;
     push_closing(out, b")", begun)
 }
@@ -125,6 +126,18 @@ fn push_flush(out: &mut Vec<u8>, flush: Option<Scope>) -> Result<(), NoMemory>
         None => (),
     }
     Ok(())
+}
+
+fn push_sloppy(out: &mut Vec<u8>, begun: bool, sloppy: bool) -> Result<bool, NoMemory>
+    ensures text { OnOk result (out.new.items ≡ out.old.items ++ going_on (codes " (") begun (sloppy_texts sloppy)) }
+    ensures begun { IfOk result (λ b. b ≡ begun_after begun (sloppy_texts sloppy)) }
+{
+    if !sloppy {
+        return Ok(begun);
+    }
+    push_separator(out, b" (", begun)?;
+    out.extend_from_slice(b"sloppy")?;
+    Ok(true)
 }
 
 fn push_rule_timeouts(

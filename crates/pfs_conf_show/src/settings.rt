@@ -1,13 +1,13 @@
-//! The lines of `set limit` and `set timeout`.
+//! The lines of `set limit`, `set timeout` and `set profile`.
 
 ghost use Rattle.std.specs.Prelude.{◌≡◌, ◌++◌, OnOk, codes, false, map};
 ghost use Rattle.pfs_conf_values.specs.Timeouts.{timeout_names};
 ghost use Rattle.pfs_conf_show.specs.Pieces.{going_on, separator, word_and_number};
-ghost use Rattle.pfs_conf_show.specs.Settings.{limit_texts, limits_text, timeout_text, timeout_word, timeouts_text};
+ghost use Rattle.pfs_conf_show.specs.Settings.{limit_texts, limits_text, profile_text, timeout_text, timeout_word, timeouts_text};
 
 use crate::pieces::{push_separator, push_worded};
 use pfs_addr_values::NoMemory;
-use pfs_conf_values::{Config, LimitName, TimeoutName};
+use pfs_conf_values::{Config, LimitName, Profile, TimeoutName};
 
 /// The timeouts in the order in which they are shown, which is that of their places.
 pub const TIMEOUT_NAMES: [TimeoutName; 16] = [
@@ -95,6 +95,18 @@ fn push_timeout_list(out: &mut Vec<u8>, config: &Config) -> Result<(), NoMemory>
         begun = true;
     }
     Ok(())
+}
+
+pub fn push_profile(out: &mut Vec<u8>, profile: Profile) -> Result<(), NoMemory>
+    ensures { OnOk result (out.new.items ≡ out.old.items ++ profile_text profile) }
+{
+    match profile {
+        Profile::Own => Ok(()),
+        Profile::OpenBsd74 => {
+            out.extend_from_slice(b"set profile openbsd-7.4\n")?;
+            Ok(())
+        }
+    }
 }
 
 /// An item of a list in braces, which has begun or not.

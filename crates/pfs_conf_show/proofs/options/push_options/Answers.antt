@@ -1,7 +1,7 @@
 -- Each option goes on with the list where the one before it left it.
 use Rattle.std.proofs.Common.{◌≡◌, ℕ, List, Bool, false, ◌++◌, ap, ◌∙◌}
 use Rattle.std.specs.Prelude.{codes}
-use Rattle.pfs_conf_show.specs.Options.{option_texts, overload_text, rate_text, scope_text}
+use Rattle.pfs_conf_show.specs.Options.{option_texts, overload_text, rate_text, scope_text, sloppy_texts}
 use Rattle.pfs_conf_show.specs.Pieces.{begun_after, closed_by, text_if_given, going_on, word_and_number}
 use Rattle.pfs_conf_show.proofs.ListLaws.{behind, begun_then, goes_on, on_ok}
 use Rattle.pfs_conf_show.proofs.options.push_options.Goals as goal
@@ -26,7 +26,7 @@ pub returns : goal.returns
 returns c =
     let o = c.args.options.now in
     let tables = c.args.config.now.tables in
-    let all : Written c.args.out.now.items c.push_rule_timeouts.new.out.items false c.in_ok-begun-8.begun (option_texts tables o) =
+    let all : Written c.args.out.now.items c.push_rule_timeouts.new.out.items false c.in_ok-begun-9.begun (option_texts tables o) =
     and_then _ _ _ _ _ _ (text_if_given (word_and_number (codes "max")) o.max) _ (record { text = c.in_ok-begun.ensures.text; begun = c.in_ok-begun.ensures.begun })
     (and_then _ _ _ _ _ _ (text_if_given scope_text o.scope) _ (record { text = c.in_ok-begun-2.ensures.text; begun = c.in_ok-begun-2.ensures.begun })
     (and_then _ _ _ _ _ _ (text_if_given (word_and_number (codes "max-src-nodes")) o.max_src_nodes) _ (record { text = c.in_ok-begun-3.ensures.text; begun = c.in_ok-begun-3.ensures.begun })
@@ -34,5 +34,6 @@ returns c =
     (and_then _ _ _ _ _ _ (text_if_given (word_and_number (codes "max-src-conn")) o.max_src_conn) _ (record { text = c.in_ok-begun-5.ensures.text; begun = c.in_ok-begun-5.ensures.begun })
     (and_then _ _ _ _ _ _ (text_if_given rate_text o.max_src_conn_rate) _ (record { text = c.in_ok-begun-6.ensures.text; begun = c.in_ok-begun-6.ensures.begun })
     (and_then _ _ _ _ _ _ (text_if_given (overload_text tables) o.overload) _ (record { text = c.in_ok-begun-7.ensures.text; begun = c.in_ok-begun-7.ensures.begun })
-    (record { text = c.in_ok-begun-8.ensures.text; begun = c.in_ok-begun-8.ensures.begun }))))))) in
-    on_ok _ _ c.push_closing.result (closed c.args.out.now.items c.push_rule_timeouts.new.out.items c.push_closing.new.out.items c.in_ok-begun-8.begun (option_texts tables o) all) c.push_closing.ensures
+    (and_then _ _ _ _ _ _ (sloppy_texts o.sloppy) _ (record { text = c.in_ok-begun-8.ensures.text; begun = c.in_ok-begun-8.ensures.begun })
+    (record { text = c.in_ok-begun-9.ensures.text; begun = c.in_ok-begun-9.ensures.begun })))))))) in
+    on_ok _ _ c.push_closing.result (closed c.args.out.now.items c.push_rule_timeouts.new.out.items c.push_closing.new.out.items c.in_ok-begun-9.begun (option_texts tables o) all) c.push_closing.ensures
