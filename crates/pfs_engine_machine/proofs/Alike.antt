@@ -59,14 +59,14 @@ nodes_touched-alike conf nodes s now false = alike_same nodes
 
 -- ---- states leave
 
-idled-alike : (conf : Conf) (before after : List State) (now : ℕ) (n : Node) → IsAlike n (node_after_leaving conf before after now n)
-idled-alike conf before after now n =
+left-alike : (conf : Conf) (before after : List State) (now : ℕ) (n : Node) → IsAlike n (node_after_leaving conf before after now n)
+left-alike conf before after now n =
     go (nat_lt 0 (node_states conf n.scope n.source before) && (node_states conf n.scope n.source after == 0))
   where
     go : (b : Bool) → IsAlike n (if b then record n { expires = now + node_retention conf n.scope } else n)
     go true = (refl, refl)
     go false = (refl, refl)
 
-pub idled_all-alike : (conf : Conf) (before after : List State) (now : ℕ) (nodes : List Node)
+pub left_all-alike : (conf : Conf) (before after : List State) (now : ℕ) (nodes : List Node)
     → AreAlike nodes (map (node_after_leaving conf before after now) nodes)
-idled_all-alike conf before after now nodes = alike_map (node_after_leaving conf before after now) (idled-alike conf before after now) nodes
+left_all-alike conf before after now nodes = alike_map (node_after_leaving conf before after now) (left-alike conf before after now) nodes

@@ -125,8 +125,8 @@ pub numbers-touched : (conf : Conf) (ns : List Node) (s : State) (now : ℕ) (co
 numbers-touched conf ns s now true = numbers-scored ns s.source now (node_scope_of conf s.rule.0) (options_of conf s.rule.0).max_src_conn_rate
 numbers-touched conf ns s now false = refl
 
-pub numbers-idled : (conf : Conf) (before after : List State) (now : ℕ) (ns : List Node) → node_numbers (map (node_after_leaving conf before after now) ns) ≡ node_numbers ns
-numbers-idled conf before after now ns =
+pub numbers-left : (conf : Conf) (before after : List State) (now : ℕ) (ns : List Node) → node_numbers (map (node_after_leaving conf before after now) ns) ≡ node_numbers ns
+numbers-left conf before after now ns =
     same-map (λ (n : Node). n.number) (node_after_leaving conf before after now)
     (λ n. one n (nat_lt 0 (node_states conf n.scope n.source before) && (node_states conf n.scope n.source after == 0))) ns
   where

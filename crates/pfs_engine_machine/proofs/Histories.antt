@@ -36,11 +36,12 @@ use Rattle.pfs_engine_machine.specs.declared.events.Arrival.{Arrival}
 use Rattle.pfs_engine_machine.specs.declared.events.Arrival.TheVariants as arrival
 use Rattle.pfs_engine_machine.proofs.PacketChanges.{Changes, key_has}
 use Rattle.pfs_engine_machine.proofs.Reopening.{anew-completes, completing_meets, met_has, met_same}
+use Rattle.pfs_engine_machine.proofs.KeptAdmission.{nodes_with-own}
 use Rattle.pfs_engine_machine.proofs.Limits.{world_with_stray}
 use Rattle.pfs_engine_machine.proofs.Hearing.{IsRated, RemembersIn, found-count, heard, is_of, long, rated, scope-rated, score-this, scored-in, states-touched}
 use Rattle.pfs_engine_machine.proofs.Lists.{both, each-of, each-push}
 use Rattle.pfs_engine_machine.proofs.Remembering.{IsKnown, Knows, Remembers, remembers-later, remembers-left, remembers-purged}
-use Rattle.pfs_store_contract.proofs.ScopeLaws.{same_scope_self, same_scope_true}
+use Rattle.pfs_store_contract.proofs.ScopeLaws.{same_scope_true}
 use Rattle.pfs_engine_machine.specs.RateMemory.{IsHandshake, RateIsRemembered, ScoreIsRemembered, rate_hit, score_compared}
 
 -- ---- a new state
@@ -83,21 +84,6 @@ nodes-in rule source seconds now history count nodes number from at (Some scope)
     go true e = r
     go false e = remembers-new rule source seconds now history count nodes number scope from at e r
 
--- the source of a new state has a node
-noded-with : (nodes : List Node) (number : ℕ) (scope : NodeScope) (from : Addr) (at : ℕ) → has_node scope from (nodes_with nodes number from at (Some scope)) ≡ true
-noded-with nodes number scope from at = go (has_node scope from nodes) refl
-  where
-    or_true : (a b : Bool) → b ≡ true → (a || b) ≡ true
-    or_true true b e = refl
-    or_true false b e = e
-
-    own : is_node scope from (new_node number scope from at) ≡ true
-    own = rw (same_scope_self scope, same_addr_self from) refl
-
-    go : (b : Bool) → has_node scope from nodes ≡ b → has_node scope from (cond b nodes (nodes ++ new_node number scope from at ∷ [])) ≡ true
-    go true e = e
-    go false e = any-push (is_node scope from) nodes (new_node number scope from at) ∙ or_true (has_node scope from nodes) (is_node scope from (new_node number scope from at)) own
-
 -- one state more of a source that has a node
 more-count : (rule : ℕ) (source : Addr) (seconds now : ℕ) (history : Score) (count count' : ℕ) (nodes : List Node) → count ≤ count'
     → (0 < count' → has_node (own_scope rule) source nodes ≡ true) → Remembers rule source seconds now history count nodes
@@ -130,7 +116,7 @@ admitted-in conf rule source x now history w p other at i r =
         let rules : other ≡ rule = let f = q.0 in grind (arith, nat_tests) in
         let sources : p.source.addr ≡ source = same_addr_true p.source.addr source q.1 in
         let scope_is : node_scope_of conf other ≡ Some (own_scope rule) = ap (node_scope_of conf) rules ∙ scope-rated conf rule x i in
-        rw (scope_is, sources) (noded-with w.nodes (w.made + 1) (own_scope rule) source at)
+        rw (scope_is, sources) (nodes_with-own w.nodes (w.made + 1) at source (own_scope rule))
     go false e g some h = h (omega (arith, g, some))
 
 -- a refusal may leave a node

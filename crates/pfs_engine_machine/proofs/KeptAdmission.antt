@@ -1,9 +1,9 @@
 -- A state that meets no limit keeps what every machine keeps, and so does a refusal.
-use Rattle.std.proofs.Common.{◌≡◌, ◌∙◌, ◌+◌, ◌<◌, ◌≤◌, ◌==◌, ◌&&◌, ℕ, Bool, true, false, Option, Some, None, IfSome, List, [], ◌∷◌, ◌++◌, All, length-append, if◌then◌else◌, refl, ap, sym, subst, arith}
+use Rattle.std.proofs.Common.{◌≡◌, ◌∙◌, ◌+◌, ◌≤◌, ◌==◌, ◌&&◌, ℕ, Bool, true, false, Option, Some, None, IfSome, List, [], ◌∷◌, ◌++◌, All, length-append, if◌then◌else◌, refl, ap, sym, subst, arith}
 use Rattle.std.proofs.lemmas.Bool.Decides.{nat_tests}
 use Rattle.std.proofs.lemmas.List.Elements.{All-push, All-weaker}
 use Rattle.pfs_addr_values.proofs.SameLaws.{same_addr_self, same_addr_true}
-use Rattle.pfs_addr_values.specs.Keys.{first_end, second_end}
+use Rattle.pfs_addr_values.specs.Keys.{first_end, key_of, second_end}
 use Rattle.pfs_addr_values.specs.Packets.{PacketView}
 use Rattle.pfs_addr_values.specs.Sameness.{same_addr}
 use Rattle.pfs_addr_values.specs.declared.addresses.Addr.{Addr}
@@ -23,7 +23,7 @@ use Rattle.pfs_store_contract.specs.Calls.{packet_limit}
 use Rattle.pfs_store_contract.specs.Leaving.{end_on}
 use Rattle.pfs_store_contract.specs.SourceLimits.{source_limit}
 use Rattle.pfs_store_contract.specs.Counts.{has_node, is_connection, is_node, is_of_node, is_of_rule, node_connections, node_scope_under, node_scope_of, node_states, rule_states, same_scope, scope_nodes}
-use Rattle.pfs_store_contract.specs.Worlds.{World}
+use Rattle.pfs_store_contract.specs.Worlds.{World, state_with}
 use Rattle.pfs_store_contract.specs.declared.records.Limit.{Limit}
 use Rattle.pfs_store_contract.specs.declared.records.Node.{Node}
 use Rattle.pfs_store_contract.specs.declared.records.NodeScope.{NodeScope}
@@ -31,9 +31,11 @@ use Rattle.pfs_store_contract.specs.declared.records.NodeScope.TheVariants as no
 use Rattle.pfs_store_contract.specs.declared.records.State.{State}
 use Rattle.pfs_track.specs.StatePhases.{first_phase, is_done}
 use Rattle.pfs_engine_machine.proofs.Counts.{any-push, count-push_failing, count-push_le, count-push_passing}
+use Rattle.pfs_engine_machine.proofs.Keys.{keys-push}
 use Rattle.pfs_engine_machine.proofs.Limits.{MeetsNone, held_free, meets_none, new_free, nodes_room, not_reached, refused_has, world_with_stray}
+use Rattle.pfs_engine_machine.proofs.Numbers.{Rise-more, Rise-push}
 use Rattle.pfs_engine_machine.proofs.Scopes.{IsScopeOf, global-IsScopeOf, none_without_node, own_scope-IsScopeOf, scope-alone, scope-shared}
-use Rattle.pfs_engine_machine.specs.Kept.{HasNode, HasSource, IsKept, IsPhaseOf, IsWithinShared, Rise, TracksAlone, own_scope}
+use Rattle.pfs_engine_machine.specs.Kept.{HasNode, HasSource, IsKept, IsPhaseOf, IsWithinShared, TracksAlone, own_scope}
 use Rattle.std.proofs.lemmas.Bool.{and_parts}
 use Rattle.pfs_store_contract.proofs.ScopeLaws.{same_scope_self, same_scope_true}
 use Rattle.pfs_engine_machine.specs.Machine.{Held, held_of, held_refused}
@@ -166,7 +168,7 @@ nodes_with-more nodes number now source (Some found) s a h = by (has_node found 
     by false = any-push (is_node s a) nodes (new_node number found source now) ∙ rw h refl
 
 -- the source has one in its scope
-nodes_with-own : (nodes : List Node) (number now : ℕ) (source : Addr) (found : NodeScope) → has_node found source (nodes_with nodes number source now (Some found)) ≡ true
+pub nodes_with-own : (nodes : List Node) (number now : ℕ) (source : Addr) (found : NodeScope) → has_node found source (nodes_with nodes number source now (Some found)) ≡ true
 nodes_with-own nodes number now source found = by (has_node found source nodes) refl
   where
     by : (b : Bool) → has_node found source nodes ≡ b → has_node found source (if b then nodes else nodes ++ new_node number found source now ∷ []) ≡ true
@@ -184,11 +186,6 @@ noded_with conf w p rule now h =
 
 -- ---- the state itself
 
--- a number above all
-rise_push : (low high : ℕ) (states : List State) (s : State) → Rise low states high → high < s.number → Rise low (states ++ s ∷ []) s.number
-rise_push low high [] s h above = (omega (arith, h, above), omega arith)
-rise_push low high (t ∷ states) s h above = (h.0, rise_push t.number high states s h.1 above)
-
 phase_first : (full : Bool) (p : Proto) → IsPhaseOf p (first_phase full p)
 phase_first true proto.Tcp = tt
 phase_first false proto.Tcp = tt
@@ -205,10 +202,10 @@ source_first conf number rule now p = by p.dir
 
 -- ---- what is kept
 
-pub kept_admitted : (conf : Conf) (m : Held) (p : PacketView) (rule now : ℕ) → IsConfig conf
+pub kept_admitted : (conf : Conf) (m : Held) (p : PacketView) (rule now : ℕ) → IsConfig conf → state_with (key_of p) m.world ≡ None
     → packet_limit conf m.world p rule ≡ None → IsKept conf m now
     → IsKept conf (held_of (world_after_admission conf m.world p rule now) m.tables) now
-kept_admitted conf m p rule now sound met k =
+kept_admitted conf m p rule now sound fresh met k =
     let w = m.world in
     let new = new_state conf (w.made + 1) p rule now in
     let free = meets_none conf w rule p.source.addr met in
@@ -225,18 +222,14 @@ kept_admitted conf m p rule now sound met k =
         source_connections = λ other source alone n is.
             omega (arith, connections_with conf w p rule now (own_scope other) source, k.limits.source_connections other source alone n is);
       };
-      numbers = rise_push 0 w.made w.states new k.numbers (omega arith);
+      numbers = Rise-push 0 w.made w.states new k.numbers (omega arith);
+      keys = keys-push w.states new fresh k.keys;
       noded = noded_with conf w p rule now k.noded;
       sources = All-push HasSource w.states new k.sources (source_first conf (w.made + 1) rule now p);
       phases = All-push (λ (s : State). IsPhaseOf s.key.proto s.phase) w.states new k.phases (phase_first (tracks_fully conf rule) p.proto);
       tables = k.tables;
       moments = world_at-up_to_now conf w p rule now None k.moments;
     }
-
--- numbers that were made by then were made later
-pub rise_more : (low high : ℕ) (states : List State) → Rise low states high → Rise low states (high + 1)
-rise_more low high [] h = omega (arith, h)
-rise_more low high (t ∷ states) h = (h.0, rise_more t.number high states h.1)
 
 -- a node without a state, of a source that meets no limit
 kept_stray : (conf : Conf) (m : Held) (p : PacketView) (rule now : ℕ)
@@ -256,7 +249,8 @@ kept_stray conf m p rule now free k =
         source_states = k.limits.source_states;
         source_connections = k.limits.source_connections;
       };
-      numbers = rise_more 0 w.made w.states k.numbers;
+      numbers = Rise-more 0 w.made w.states k.numbers;
+      keys = k.keys;
       noded = All-weaker (HasNode conf w.nodes) (HasNode conf nodes)
           (λ s h found is. nodes_with-more w.nodes (w.made + 1) now p.source.addr (node_scope_of conf rule) found s.source (h found is)) w.states k.noded;
       phases = k.phases;

@@ -24,16 +24,17 @@ use Rattle.pfs_store_contract.specs.Worlds.{IsUpToNow, World, state_with}
 use Rattle.pfs_store_contract.specs.declared.records.Node.{Node}
 use Rattle.pfs_store_contract.specs.declared.records.NodeScope.{NodeScope}
 use Rattle.pfs_store_contract.specs.declared.records.State.{State}
-use Rattle.pfs_engine_machine.specs.Kept.{HasNode, HasSource, IsKept, IsPhaseOf, IsWithin, Rise, TracksAlone, own_scope}
+use Rattle.pfs_engine_machine.specs.Kept.{HasNode, HasSource, IsKept, IsPhaseOf, IsWithin, KeysDiffer, Rise, TracksAlone, own_scope}
 use Rattle.pfs_engine_machine.specs.Machine.{Held, answer_of_exceeded, answer_of_state, exceeded_of, held_of, answer_of_kill, tables_after_addition}
 use Rattle.pfs_engine_machine.specs.Refusals.{is_tcp}
 use Rattle.pfs_engine_machine.specs.declared.events.Exceeded.{Exceeded}
 use Rattle.pfs_engine_machine.specs.declared.events.Exceeded.TheVariants as exceeded
 use Rattle.pfs_engine_machine.proofs.Additions.{entries_after-size, entries_after-within}
-use Rattle.pfs_engine_machine.proofs.Alike.{AreAlike, idled_all-alike, nodes_touched-alike}
+use Rattle.pfs_engine_machine.proofs.Alike.{AreAlike, left_all-alike, nodes_touched-alike}
 use Rattle.pfs_engine_machine.proofs.Changes.{find-all, find-passes}
 use Rattle.pfs_engine_machine.proofs.Connections.{IsAlone, connections-killed, connections-same, connections-within}
 use Rattle.pfs_engine_machine.proofs.Counts.{count-filter_le, count-map, count_le}
+use Rattle.pfs_engine_machine.proofs.Keys.{keys-filter, keys-map}
 use Rattle.pfs_engine_machine.proofs.KeptTime.{within_less}
 use Rattle.pfs_engine_machine.proofs.Numbers.{Rise-alone, Rise-filter, Rise-map}
 use Rattle.pfs_engine_machine.proofs.Renewals.{is_tcp-completes, renewed-phase, renewed-same}
@@ -47,6 +48,7 @@ record IsKeptBut (conf : Conf) (m : Held) (now : ℕ) : Type 0 where
   source_nodes : (rule : ℕ) → TracksAlone conf rule → IsWithin (options_of conf rule).max_src_nodes (scope_nodes (own_scope rule) m.world.nodes)
   source_states : (rule : ℕ) (source : Addr) → TracksAlone conf rule → IsWithin (options_of conf rule).max_src_states (node_states conf (own_scope rule) source m.world.states)
   numbers : Rise 0 m.world.states m.world.made
+  keys : KeysDiffer m.world.states
   noded : All (HasNode conf m.world.nodes) m.world.states
   phases : All (λ (s : State). IsPhaseOf s.key.proto s.phase) m.world.states
   sources : All HasSource m.world.states
@@ -70,6 +72,7 @@ kept_whole conf m now k few = record {
     source_connections = few;
   };
   numbers = k.numbers;
+  keys = k.keys;
   noded = k.noded;
   phases = k.phases;
   sources = k.sources;
@@ -113,6 +116,7 @@ kept_but_touched conf m p now s k =
       source_states = λ rule source tracks n is.
           omega (arith, count-map (is_of_node conf (own_scope rule) source) f (renewed-of_node conf (own_scope rule) source s.number p now) w.states, k.limits.source_states rule source tracks n is);
       numbers = Rise-map f (λ (t : State). (renewed-same s.number p now t).number) 0 w.made w.states k.numbers;
+      keys = keys-map f (λ (t : State). (renewed-same s.number p now t).key) w.states k.keys;
       noded = All-map (HasNode conf nodes) f w.states
           (All-weaker (HasNode conf w.nodes) (λ (t : State). HasNode conf nodes (f t))
           (λ t h. renewed-noded conf nodes s.number p now t (HasNode-alike conf w.nodes nodes alike t h)) w.states k.noded);
@@ -164,7 +168,7 @@ kept_but_without : (conf : Conf) (m : Held) (stays : State → Bool) (at now : �
     → IsKeptBut conf (held_of (world_without conf m.world stays at) m.tables) now
 kept_but_without conf m stays at now k =
     let w = m.world in
-    let alike = idled_all-alike conf w.states (filter stays w.states) at w.nodes in
+    let alike = left_all-alike conf w.states (filter stays w.states) at w.nodes in
     let nodes = (world_without conf w stays at).nodes in
     record {
       states = omega (arith, count_le stays w.states, k.states);
@@ -175,6 +179,7 @@ kept_but_without conf m stays at now k =
       source_states = λ rule source tracks.
           within_less (options_of conf rule).max_src_states _ _ (count-filter_le (is_of_node conf (own_scope rule) source) stays w.states) (k.source_states rule source tracks);
       numbers = Rise-filter stays 0 w.made w.states k.numbers;
+      keys = keys-filter stays w.states k.keys;
       noded = All-filter stays (HasNode conf nodes) w.states (All-weaker (HasNode conf w.nodes) (HasNode conf nodes) (HasNode-alike conf w.nodes nodes alike) w.states k.noded);
       sources = All-filter stays HasSource w.states k.sources;
       phases = All-filter stays (λ (t : State). IsPhaseOf t.key.proto t.phase) w.states k.phases;
@@ -204,6 +209,7 @@ kept_but_added conf m source overload now k = record {
   source_nodes = k.source_nodes;
   source_states = k.source_states;
   numbers = k.numbers;
+  keys = k.keys;
   noded = k.noded;
   phases = k.phases;
   sources = k.sources;

@@ -18,25 +18,25 @@ use Rattle.pfs_engine_machine.proofs.KeptHandshakes.{kept_held, made_held}
 use Rattle.pfs_engine_machine.proofs.Limits.{world_with_stray}
 use Rattle.pfs_engine_machine.proofs.Reopening.{kept_met, made_met}
 
-kept_limit : (conf : Conf) (m : Held) (p : PacketView) (now rule : ℕ) → IsConfig conf → IsKept conf m now
+kept_limit : (conf : Conf) (m : Held) (p : PacketView) (now rule : ℕ) → IsConfig conf → IsKept conf m now → state_with (key_of p) m.world ≡ None
     → (limit : Option Limit) → packet_limit conf m.world p rule ≡ limit → IsKept conf (answer_of_limits conf m p now rule limit).1 now
-kept_limit conf m p now rule c k None e = kept_admitted conf m p rule now c e k
-kept_limit conf m p now rule c k (Some l) e = kept_refused conf m p rule now l e k
+kept_limit conf m p now rule c k fresh None e = kept_admitted conf m p rule now c fresh e k
+kept_limit conf m p now rule c k fresh (Some l) e = kept_refused conf m p rule now l e k
 
-kept_action : (conf : Conf) (m : Held) (p : PacketView) (now rule : ℕ) → IsConfig conf → IsKept conf m now
+kept_action : (conf : Conf) (m : Held) (p : PacketView) (now rule : ℕ) → IsConfig conf → IsKept conf m now → state_with (key_of p) m.world ≡ None
     → (what : Action) → IsKept conf (answer_of_action conf m p now rule what).1 now
-kept_action conf m p now rule c k action.Block = k
-kept_action conf m p now rule c k action.Pass = k
-kept_action conf m p now rule c k (action.Keep o) = kept_limit conf m p now rule c k (packet_limit conf m.world p rule) refl
+kept_action conf m p now rule c k fresh action.Block = k
+kept_action conf m p now rule c k fresh action.Pass = k
+kept_action conf m p now rule c k fresh (action.Keep o) = kept_limit conf m p now rule c k fresh (packet_limit conf m.world p rule) refl
 
-kept_rule : (conf : Conf) (m : Held) (p : PacketView) (now : ℕ) → IsConfig conf → IsKept conf m now
+kept_rule : (conf : Conf) (m : Held) (p : PacketView) (now : ℕ) → IsConfig conf → IsKept conf m now → state_with (key_of p) m.world ≡ None
     → (rule : Option ℕ) → IsKept conf (answer_of_rule conf m p now rule).1 now
-kept_rule conf m p now c k None = k
-kept_rule conf m p now c k (Some rule) = kept_action conf m p now rule c k (rule_of conf rule).action
+kept_rule conf m p now c k fresh None = k
+kept_rule conf m p now c k fresh (Some rule) = kept_action conf m p now rule c k fresh (rule_of conf rule).action
 
 kept_state : (conf : Conf) (m : Held) (p : PacketView) (now : ℕ) → IsConfig conf → IsKept conf m now
     → (found : Option State) → state_with (key_of p) m.world ≡ found → IsKept conf (answer_of_state conf m p now found).1 now
-kept_state conf m p now c k None e = kept_rule conf m p now c k (deciding_rule conf m p)
+kept_state conf m p now c k None e = kept_rule conf m p now c k e (deciding_rule conf m p)
 kept_state conf m p now c k (Some s) e = kept_held conf m p now s e k
 
 -- of what it meets

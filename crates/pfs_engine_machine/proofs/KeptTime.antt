@@ -24,6 +24,7 @@ use Rattle.pfs_store_contract.specs.declared.records.Node.{Node}
 use Rattle.pfs_store_contract.specs.declared.records.NodeScope.{NodeScope}
 use Rattle.pfs_store_contract.specs.declared.records.State.{State}
 use Rattle.pfs_engine_machine.proofs.Additions.{entries_entered-size, entries_entered-within, filtered-fewer, filtered-size}
+use Rattle.pfs_engine_machine.proofs.Keys.{keys-filter}
 use Rattle.pfs_engine_machine.proofs.Numbers.{Rise-filter}
 use Rattle.pfs_engine_machine.proofs.Counts.{any-filter, any-map, count-at, count-filter_le, count-map, count_le}
 use Rattle.pfs_engine_machine.proofs.Scopes.{is_of_node-own}
@@ -48,6 +49,7 @@ kept_start conf sound = record {
     source_connections = λ rule source alone n is. omega arith;
   };
   numbers = omega arith;
+  keys = tt;
   noded = All-nil (HasNode conf []);
   phases = All-nil (λ (s : State). IsPhaseOf s.key.proto s.phase);
   sources = All-nil HasSource;
@@ -62,13 +64,13 @@ pub within_less : (most : Option ℕ) (a b : ℕ) → a ≤ b → IsWithin most 
 within_less most a b le h n is = omega (arith, le, h n is)
 
 -- an expiry changes neither the scope nor the source of a node
-idled-is_node : (conf : Conf) (before after : List State) (now : ℕ) (scope : NodeScope) (source : Addr) (n : Node)
+pub left-is_node : (conf : Conf) (before after : List State) (now : ℕ) (scope : NodeScope) (source : Addr) (n : Node)
     → is_node scope source (node_after_leaving conf before after now n) ≡ is_node scope source n
-idled-is_node conf before after now scope source n = grind arith
+left-is_node conf before after now scope source n = grind arith
 
-idled-scope : (conf : Conf) (before after : List State) (now : ℕ) (scope : NodeScope) (n : Node)
+left-scope : (conf : Conf) (before after : List State) (now : ℕ) (scope : NodeScope) (n : Node)
     → same_scope (node_after_leaving conf before after now n).scope scope ≡ same_scope n.scope scope
-idled-scope conf before after now scope n = grind arith
+left-scope conf before after now scope n = grind arith
 
 -- the states that pass a test stay, at whatever moment, with whatever numbers pending
 pub kept_left : (conf : Conf) (m : Held) (p : State → Bool) (pending : List ℕ) (at now : ℕ) → IsKept conf m now
@@ -83,15 +85,16 @@ kept_left conf m p pending at now k =
         entries = k.limits.entries;
         rule_states = λ rule. within_less (options_of conf rule).max _ _ (count-filter_le (is_of_rule rule) p w.states) (k.limits.rule_states rule);
         source_nodes = λ rule alone n is.
-            omega (arith, count-map (λ (n : Node). same_scope n.scope (own_scope rule)) change (idled-scope conf w.states (filter p w.states) at (own_scope rule)) w.nodes, k.limits.source_nodes rule alone n is);
+            omega (arith, count-map (λ (n : Node). same_scope n.scope (own_scope rule)) change (left-scope conf w.states (filter p w.states) at (own_scope rule)) w.nodes, k.limits.source_nodes rule alone n is);
         source_states = λ rule source alone.
             within_less (options_of conf rule).max_src_states _ _ (count-filter_le (is_of_node conf (own_scope rule) source) p w.states) (k.limits.source_states rule source alone);
         source_connections = λ rule source alone.
             within_less (options_of conf rule).max_src_conn _ _ (count-filter_le (is_connection conf (own_scope rule) source) p w.states) (k.limits.source_connections rule source alone);
       };
       numbers = Rise-filter p 0 w.made w.states k.numbers;
+      keys = keys-filter p w.states k.keys;
       noded = All-weaker (HasNode conf w.nodes) (HasNode conf (map change w.nodes))
-          (λ s h scope is. any-map (is_node scope s.source) change (idled-is_node conf w.states (filter p w.states) at scope s.source) w.nodes ∙ h scope is)
+          (λ s h scope is. any-map (is_node scope s.source) change (left-is_node conf w.states (filter p w.states) at scope s.source) w.nodes ∙ h scope is)
           (filter p w.states) (All-filter p (HasNode conf w.nodes) w.states k.noded);
       phases = All-filter p (λ (s : State). IsPhaseOf s.key.proto s.phase) w.states k.phases;
       sources = All-filter p HasSource w.states k.sources;
@@ -141,6 +144,7 @@ kept_node_slice conf m at now k =
         source_connections = k.limits.source_connections;
       };
       numbers = k.numbers;
+      keys = k.keys;
       noded = noded_slice conf w.nodes w.states at examined k.noded;
       phases = k.phases;
       sources = k.sources;
@@ -165,6 +169,7 @@ pub kept_later : (conf : Conf) (h : Held) (last now : ℕ) → last ≤ now → 
 kept_later conf h last now later k = record {
   limits = k.limits;
   numbers = k.numbers;
+  keys = k.keys;
   noded = k.noded;
   phases = k.phases;
   sources = k.sources;
@@ -196,6 +201,7 @@ kept_tables conf h tables now within size k = record {
     source_connections = k.limits.source_connections;
   };
   numbers = k.numbers;
+  keys = k.keys;
   noded = k.noded;
   phases = k.phases;
   sources = k.sources;

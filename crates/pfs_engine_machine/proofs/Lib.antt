@@ -11,6 +11,7 @@ mod KeptAdmission
 pub mod KeptHandshakes
 pub mod KeptPackets
 pub mod KeptTime
+mod Keys
 mod Limits
 mod Lists
 pub mod Numbers

@@ -1,5 +1,5 @@
 -- The numbers of states rise: so no two states have the same, and a change that leaves them, or a test, leaves them rising.
-use Rattle.std.proofs.Common.{◌≡◌, ◌≤◌, ◌<◌, ℕ, Bool, true, false, if◌then◌else◌, Some, List, [], ◌∷◌, All, filter, map, ap, arith}
+use Rattle.std.proofs.Common.{◌≡◌, ◌≤◌, ◌<◌, ◌+◌, ℕ, Bool, true, false, if◌then◌else◌, Some, List, [], ◌∷◌, ◌++◌, All, filter, map, ap, arith}
 use Rattle.std.specs.List.{find}
 use Rattle.std.proofs.lemmas.List.Elements.{All-cons, All-nil, All-weaker}
 use Rattle.pfs_store_contract.specs.declared.records.State.{State}
@@ -22,6 +22,16 @@ pub Rise-map : (f : State → State) → ((s : State) → (f s).number ≡ s.num
     → Rise low ss high → Rise low (map f ss) high
 Rise-map f same low high [] r = r
 Rise-map f same low high (s ∷ ss) r = (omega (arith, same s, r.0), rw (same s) (Rise-map f same s.number high ss r.1))
+
+-- one more at the end, above all
+pub Rise-push : (low high : ℕ) (ss : List State) (s : State) → Rise low ss high → high < s.number → Rise low (ss ++ s ∷ []) s.number
+Rise-push low high [] s r above = (omega (arith, r, above), omega arith)
+Rise-push low high (t ∷ ss) s r above = (r.0, Rise-push t.number high ss s r.1 above)
+
+-- below one number more
+pub Rise-more : (low high : ℕ) (ss : List State) → Rise low ss high → Rise low ss (high + 1)
+Rise-more low high [] r = omega (arith, r)
+Rise-more low high (s ∷ ss) r = (r.0, Rise-more s.number high ss r.1)
 
 pub Rise-above : (low high : ℕ) (ss : List State) → Rise low ss high → All (λ (s : State). low < s.number) ss
 Rise-above low high [] r = All-nil (λ (s : State). low < s.number)

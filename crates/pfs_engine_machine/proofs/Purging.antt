@@ -93,13 +93,9 @@ none_taken k [] h e = refl
 none_taken zero (x ∷ xs) h e = absurd (omega (arith, h))
 none_taken (suc k) (x ∷ xs) h e = absurd (omega (arith, e))
 
-none_mapped : {X : Type 0} (f : X → ℕ) (xs : List X) → map f xs ≡ [] → xs ≡ []
+none_mapped : {X Y : Type 0} (f : X → Y) (xs : List X) → map f xs ≡ [] → xs ≡ []
 none_mapped f [] e = refl
 none_mapped f (x ∷ xs) e = cc
-
-none_idled : (f : Node → Node) (xs : List Node) → map f xs ≡ [] → xs ≡ []
-none_idled f [] e = refl
-none_idled f (x ∷ xs) e = cc
 
 no_round : (held pending : List ℕ) → round held pending ≡ [] → (held ≡ []) × (pending ≡ [])
 no_round held [] e = (e, refl)
@@ -116,7 +112,7 @@ nothing_held conf w s es en =
     let nr = no_round (node_numbers after) w.pending_nodes nodes_round in
     let states = none_mapped (λ (x : State). x.number) w.states sr.0 in
     let kept = none_mapped (λ (x : Node). x.number) after nr.0 in
-    let nodes = none_idled (node_after_leaving conf w.states (state_slice conf w s).states s) w.nodes kept in
+    let nodes = none_mapped (node_after_leaving conf w.states (state_slice conf w s).states s) w.nodes kept in
     rebuilt w.states w.nodes w.pending_states w.pending_nodes w.made states nodes sr.1 nr.1
   where
     rebuilt : (states : List State) (nodes : List Node) (ps pn : List ℕ) (made : ℕ) → states ≡ [] → nodes ≡ [] → ps ≡ [] → pn ≡ [] → lists states nodes ps pn made ≡ nothing made

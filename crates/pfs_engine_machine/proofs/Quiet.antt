@@ -23,10 +23,10 @@ use Rattle.pfs_engine_machine.proofs.Purging.{most_nodes_next, most_states_next,
 not-both : (a : ℕ) → (nat_lt 0 a && (a == 0)) ≡ false
 not-both a = grind (arith, nat_tests)
 
-idled-same : (conf : Conf) (states : List State) (now : ℕ) (ns : List Node) → map (node_after_leaving conf states states now) ns ≡ ns
-idled-same conf states now [] = refl
-idled-same conf states now (n ∷ ns) =
-    (λ i. ap (λ (b : Bool). if b then record n { expires = now + node_retention conf n.scope } else n) (not-both (node_states conf n.scope n.source states)) i ∷ idled-same conf states now ns i)
+left-same : (conf : Conf) (states : List State) (now : ℕ) (ns : List Node) → map (node_after_leaving conf states states now) ns ≡ ns
+left-same conf states now [] = refl
+left-same conf states now (n ∷ ns) =
+    (λ i. ap (λ (b : Bool). if b then record n { expires = now + node_retention conf n.scope } else n) (not-both (node_states conf n.scope n.source states)) i ∷ left-same conf states now ns i)
 
 -- ---- a second in which nothing leaves
 
@@ -35,10 +35,10 @@ second-moves : (conf : Conf) (w : World) (s : ℕ) → filter (stays conf w.stat
     → filter (node_stays conf w.states s (take (node_share conf) (node_round w))) w.nodes ≡ w.nodes → purge conf w s ≡ world_after_quiet conf 1 w
 second-moves conf w s es en =
     let ps = drop (state_share conf) (state_round w) in
-    let idle : state_slice conf w s ≡ lists w.states w.nodes ps w.pending_nodes w.made =
+    let stood : state_slice conf w s ≡ lists w.states w.nodes ps w.pending_nodes w.made =
     (λ i. lists (es i) (map (node_after_leaving conf w.states (es i) s) w.nodes) ps w.pending_nodes w.made)
-    ∙ ap (λ (ns : List Node). lists w.states ns ps w.pending_nodes w.made) (idled-same conf w.states s w.nodes) in
-    ap (λ (v : World). node_slice conf v s) idle
+    ∙ ap (λ (ns : List Node). lists w.states ns ps w.pending_nodes w.made) (left-same conf w.states s w.nodes) in
+    ap (λ (v : World). node_slice conf v s) stood
     ∙ ap (λ (ns : List Node). lists w.states ns ps (drop (node_share conf) (node_round w)) w.made) en
 
 -- the world after a slice of the states that took none out
@@ -51,7 +51,7 @@ half-stood conf w s hs =
     let ps = drop (state_share conf) (state_round w) in
     let es : filter p w.states ≡ w.states = filter-all p w.states (omega (arith, hs)) in
     (λ i. lists (es i) (map (node_after_leaving conf w.states (es i) s) w.nodes) ps w.pending_nodes w.made)
-    ∙ ap (λ (ns : List Node). lists w.states ns ps w.pending_nodes w.made) (idled-same conf w.states s w.nodes)
+    ∙ ap (λ (ns : List Node). lists w.states ns ps w.pending_nodes w.made) (left-same conf w.states s w.nodes)
 
 -- where the slices take nothing out, the world is moved
 pub second-stood : (conf : Conf) (w : World) (s : ℕ) → (state_slice_of conf w s).removed ≡ 0 → (node_slice_of conf (state_slice conf w s) s).removed ≡ 0
@@ -154,7 +154,7 @@ node-few : (conf : Conf) (w : World) (until s most : ℕ) → IsQuietUntil conf 
     → (node_slice_of conf (state_slice conf w s) s).examined ≤ most
 node-few conf w until s most q l n =
     let es = states-stay conf w.states until s (take (state_share conf) (state_round w)) w.states l q.states in
-    let same : (state_slice conf w s).nodes ≡ w.nodes = ap (λ (xs : List State). map (node_after_leaving conf w.states xs s) w.nodes) es ∙ idled-same conf w.states s w.nodes in
+    let same : (state_slice conf w s).nodes ≡ w.nodes = ap (λ (xs : List State). map (node_after_leaving conf w.states xs s) w.nodes) es ∙ left-same conf w.states s w.nodes in
     let few = slice-few (node_share conf) most (node_numbers w.nodes) w.pending_nodes n in
     let e = ap (λ (ns : List Node). length (take (node_share conf) (round (node_numbers ns) w.pending_nodes))) same in
     omega (arith, few, e)

@@ -8,6 +8,7 @@ use Rattle.pfs_addr_values.specs.Sameness.{same_addr}
 use Rattle.pfs_addr_values.specs.declared.addresses.Addr.{Addr}
 use Rattle.pfs_conf_values.specs.Configs.{Conf}
 use Rattle.pfs_engine_machine.proofs.Counts.{any-map}
+use Rattle.pfs_engine_machine.proofs.KeptTime.{left-is_node}
 use Rattle.pfs_engine_machine.specs.Kept.{own_scope}
 use Rattle.pfs_store_contract.specs.Counts.{has_node, is_node, node_states, same_scope}
 use Rattle.pfs_store_contract.specs.Leaving.{node_after_leaving, node_retention}
@@ -93,19 +94,10 @@ count-of-node : (conf : Conf) (scope : NodeScope) (source : Addr) (n : Node) (st
 count-of-node conf scope source n states e =
     ap (λ (x : NodeScope). node_states conf x n.source states) (scope-of-node scope source n e) ∙ ap (λ (a : Addr). node_states conf scope a states) (source-of-node scope source n e)
 
-node-idled : (conf : Conf) (before after : List State) (now : ℕ) (scope : NodeScope) (source : Addr) (n : Node)
-    → is_node scope source (node_after_leaving conf before after now n) ≡ is_node scope source n
-node-idled conf before after now scope source n =
-    go (nat_lt 0 (node_states conf n.scope n.source before) && (node_states conf n.scope n.source after == 0))
-  where
-    go : (b : Bool) → is_node scope source (cond b (record n { expires = now + node_retention conf n.scope }) n) ≡ is_node scope source n
-    go true = refl
-    go false = refl
-
-knows-idled : (conf : Conf) (before after : List State) (rule : ℕ) (source : Addr) (seconds now : ℕ) (history : Score) (n : Node)
+knows-left : (conf : Conf) (before after : List State) (rule : ℕ) (source : Addr) (seconds now : ℕ) (history : Score) (n : Node)
     → seconds ≤ node_retention conf (own_scope rule) → is_node (own_scope rule) source n ≡ true → Knows seconds now history (node_states conf (own_scope rule) source before) n
     → Knows seconds now history (node_states conf (own_scope rule) source after) (node_after_leaving conf before after now n)
-knows-idled conf before after rule source seconds now history n long e k =
+knows-left conf before after rule source seconds now history n long e k =
     go (nat_lt 0 (node_states conf n.scope n.source before) && (node_states conf n.scope n.source after == 0)) refl
   where
     none : (x y : ℕ) → (nat_lt 0 x && (y == 0)) ≡ false → y ≡ 0 → x ≡ 0
@@ -129,12 +121,12 @@ pub remembers-left : (conf : Conf) (before after : List State) (rule : ℕ) (sou
     → Remembers rule source seconds now history (node_states conf (own_scope rule) source before) nodes
     → Remembers rule source seconds now history (node_states conf (own_scope rule) source after) (map (node_after_leaving conf before after now) nodes)
 remembers-left conf before after rule source seconds now history nodes long fewer r =
-    let same = any-map (is_node (own_scope rule) source) (node_after_leaving conf before after now) (node-idled conf before after now (own_scope rule) source) nodes in
+    let same = any-map (is_node (own_scope rule) source) (node_after_leaving conf before after now) (left-is_node conf before after now (own_scope rule) source) nodes in
     record {
       nodes = each-map (IsKnown rule source seconds now history (node_states conf (own_scope rule) source before))
           (IsKnown rule source seconds now history (node_states conf (own_scope rule) source after)) (node_after_leaving conf before after now)
-          (λ n f e. let g : is_node (own_scope rule) source n ≡ true = sym (node-idled conf before after now (own_scope rule) source n) ∙ e in
-          knows-idled conf before after rule source seconds now history n long g (f g)) nodes r.nodes;
+          (λ n f e. let g : is_node (own_scope rule) source n ≡ true = sym (left-is_node conf before after now (own_scope rule) source n) ∙ e in
+          knows-left conf before after rule source seconds now history n long g (f g)) nodes r.nodes;
       absent = λ e. r.absent (sym same ∙ e);
       noded = λ some. same ∙ r.noded (omega (arith, some, fewer));
     }

@@ -6,7 +6,7 @@ use Rattle.pfs_addr_values.specs.Packets.{PacketView}
 use Rattle.pfs_addr_values.specs.declared.flag_sets.Flags.{Flags}
 use Rattle.pfs_conf_values.specs.Configs.{Conf}
 use Rattle.pfs_conf_values.specs.Profiles.{is_openbsd}
-use Rattle.pfs_store_contract.specs.Calls.{other_than, world_reopened}
+use Rattle.pfs_store_contract.specs.Calls.{other_than, world_killed, world_reopened}
 use Rattle.pfs_store_contract.specs.Leaving.{world_without}
 use Rattle.pfs_store_contract.specs.Touching.{completes_at, goes_forward, may_reopen, reopens}
 use Rattle.pfs_store_contract.specs.Worlds.{World, holds_number, state_with}
@@ -19,6 +19,7 @@ use Rattle.pfs_track.specs.declared.tcp_ranks.TcpRank.{TcpRank}
 use Rattle.pfs_track.specs.declared.tcp_ranks.TcpRank.TheVariants.{Closing, SynSent, TimeWait}
 use Rattle.pfs_engine_machine.specs.Kept.{IsKept}
 use Rattle.pfs_engine_machine.specs.Machine.{Held, held_for}
+use Rattle.pfs_engine_machine.proofs.Keys.{found-leaves}
 use Rattle.pfs_engine_machine.proofs.KeptTime.{kept_left}
 
 -- a fact of it: of what is held, and of that without some states
@@ -41,6 +42,14 @@ kept_met conf h p now k =
 
 pub made_met : (conf : Conf) (h : Held) (p : PacketView) (now : ℕ) → (held_for conf h p now).world.made ≡ h.world.made
 made_met conf h p now = met_has conf h p now (λ (w : World). w.made ≡ h.world.made) refl (λ stays. refl)
+
+-- where it begins a connection anew, no state has its key
+pub reopened-fresh : (conf : Conf) (h : Held) (p : PacketView) (now : ℕ) (s : State) → IsKept conf h now → state_with (key_of p) h.world ≡ Some s
+    → reopens conf p s ≡ true → state_with (key_of p) (held_for conf h p now).world ≡ None
+reopened-fresh conf h p now s k found anew =
+    ap (λ (o : Option State). state_with (key_of p) (world_reopened conf h.world p now o)) found
+    ∙ ap (λ (b : Bool). state_with (key_of p) (if b then world_killed conf h.world s.number now else h.world)) anew
+    ∙ found-leaves (key_of p) s h.world.states k.keys found
 
 -- ---- a packet without ACK completes no handshake
 

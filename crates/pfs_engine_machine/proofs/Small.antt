@@ -20,7 +20,7 @@ use Rattle.pfs_store_contract.specs.declared.records.NodeScope.{NodeScope}
 use Rattle.pfs_store_contract.specs.declared.records.State.{State}
 use Rattle.pfs_engine_machine.specs.Machine.{Held}
 use Rattle.pfs_engine_machine.proofs.PacketChanges.{answered_keeps}
-use Rattle.pfs_engine_machine.proofs.HeldNumbers.{among-same, made-more, numbers-idled, numbers-renewed, numbers-touched, was}
+use Rattle.pfs_engine_machine.proofs.HeldNumbers.{among-same, made-more, numbers-left, numbers-renewed, numbers-touched, was}
 use Rattle.pfs_engine_machine.proofs.Limits.{meets_none, nodes_room, refused_has}
 use Rattle.pfs_engine_machine.proofs.Rounds.{length-filter-le}
 use Rattle.pfs_engine_machine.specs.Acts.{RunAct, Arrive, Change, Purge, act_done, acts_done}
@@ -108,7 +108,7 @@ small-left conf w p pending now few k = record {
   pending_states = few;
   pending_nodes = k.pending_nodes;
   state_made = λ n h. k.state_made n (was (λ (s : State). s.number) p n w.states h);
-  node_made = λ n h. k.node_made n (among-same n _ _ (numbers-idled conf w.states (filter p w.states) now w.nodes) h);
+  node_made = λ n h. k.node_made n (among-same n _ _ (numbers-left conf w.states (filter p w.states) now w.nodes) h);
 }
 
 small-without : (conf : Conf) (w : World) (stay : State → Bool) (now : ℕ) → IsSmall conf w → IsSmall conf (world_without conf w stay now)

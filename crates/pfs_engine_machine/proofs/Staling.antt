@@ -22,7 +22,7 @@ use Rattle.pfs_engine_machine.specs.declared.events.Event.{Event}
 use Rattle.pfs_engine_machine.proofs.PacketChanges.{IsKeptByPackets, answered_keeps}
 use Rattle.pfs_engine_machine.proofs.Limits.{refused_has}
 use Rattle.pfs_engine_machine.proofs.Lists.{each-of}
-use Rattle.pfs_engine_machine.proofs.HeldNumbers.{any-number, gone, numbers-idled, numbers-renewed, numbers-touched, old, still_gone}
+use Rattle.pfs_engine_machine.proofs.HeldNumbers.{any-number, gone, numbers-left, numbers-renewed, numbers-touched, old, still_gone}
 use Rattle.pfs_engine_machine.proofs.Rounds.{IsDue, due-end, due-filter, due-slice, due-start, share-enough}
 use Rattle.pfs_engine_machine.proofs.RunActs.{done_all-append}
 use Rattle.pfs_engine_machine.proofs.Small.{IsSmall, node_limit, small-done, small-done_all, small-empty, small-states, state_limit}
@@ -166,7 +166,7 @@ node-left : (conf : Conf) (k n : ℕ) (w : World) (states : List State) (pending
     → NodeAwaits conf k n (world_with_stay conf w states pending now)
 node-left conf k n w states pending now h = record {
   made = h.made;
-  fate = fate-same (node_share conf) (interval_of conf) k n _ _ w.pending_nodes (numbers-idled conf w.states states now w.nodes) h.fate;
+  fate = fate-same (node_share conf) (interval_of conf) k n _ _ w.pending_nodes (numbers-left conf w.states states now w.nodes) h.fate;
 }
 
 node-admitted : (conf : Conf) (k n made now : ℕ) (nodes : List Node) (pending : List ℕ) (source : Addr) (o : Option NodeScope) → n ≤ made

@@ -15,13 +15,12 @@ use Rattle.pfs_store_contract.specs.Purging.{has_expired, is_among, state_number
 use Rattle.pfs_store_contract.specs.Touching.{numbered_state_after, state_after_packet, world_after_touch}
 use Rattle.pfs_store_contract.specs.Worlds.{World, holds_number, state_with}
 use Rattle.pfs_store_contract.specs.declared.records.State.{State}
-use Rattle.pfs_engine_machine.proofs.Numbers.{Rise-filter, Rise-map}
+use Rattle.pfs_engine_machine.proofs.Numbers.{Rise-filter, Rise-map, Rise-more, Rise-push}
 use Rattle.pfs_engine_machine.proofs.Renewals.{renewed-same}
 use Rattle.pfs_engine_machine.specs.Kept.{Rise}
 use Rattle.pfs_engine_machine.specs.Machine.{Held, held_for, start}
 use Rattle.pfs_engine_machine.specs.declared.events.Event.{Event}
 use Rattle.pfs_engine_machine.proofs.PacketChanges.{Changes, IsKeptByPackets, answered_keeps, key_has}
-use Rattle.pfs_engine_machine.proofs.KeptAdmission.{rise_more}
 use Rattle.pfs_engine_machine.proofs.Limits.{refused_has}
 use Rattle.pfs_engine_machine.proofs.Reopening.{met_has}
 use Rattle.pfs_engine_machine.proofs.Lists.{each-filter, each-map, each-of, each-push, found}
@@ -34,10 +33,6 @@ use Rattle.pfs_engine_machine.specs.Staleness.{StatesGo, brings}
 
 -- ---- numbers rise
 
-Rise-push : (low high : ℕ) (ss : List State) (s : State) → s.number ≡ high + 1 → Rise low ss high → Rise low (ss ++ s ∷ []) (high + 1)
-Rise-push low high [] s e r = (omega (arith, e, r), omega (arith, e))
-Rise-push low high (t ∷ ss) s e r = (r.0, Rise-push t.number high ss s e r.1)
-
 record AreNumbered (w : World) : Type 0 where
   rise : Rise 0 w.states w.made
 
@@ -45,8 +40,8 @@ numbered-packets : (conf : Conf) → IsKeptByPackets conf AreNumbered
 numbered-packets conf = record {
   touches = λ w s p now h. record { rise = Rise-map (numbered_state_after s.number p now) (λ t. (renewed-same s.number p now t).number) 0 w.made w.states h.rise };
   kills = λ w stay now h. record { rise = Rise-filter stay 0 w.made w.states h.rise };
-  admits = λ w p rule now none h. record { rise = Rise-push 0 w.made w.states (new_state conf (w.made + 1) p rule now) refl h.rise };
-  refuses = λ w p rule now l met h. refused_has conf w rule p.source.addr now l AreNumbered met h (λ free. record { rise = rise_more 0 w.made w.states h.rise });
+  admits = λ w p rule now none h. record { rise = Rise-push 0 w.made w.states (new_state conf (w.made + 1) p rule now) h.rise (omega arith) };
+  refuses = λ w p rule now l met h. refused_has conf w rule p.source.addr now l AreNumbered met h (λ free. record { rise = Rise-more 0 w.made w.states h.rise });
 }
 
 numbered-all : (conf : Conf) (m : Held) (acts : List RunAct) → AreNumbered m.world → AreNumbered (acts_done conf m acts).world

@@ -1,7 +1,9 @@
 -- What every machine keeps: the limits, and each rule and source its maxima. (pf.conf(5), OPTIONS, "set limit", and STATEFUL
 -- TRACKING OPTIONS)
 use Rattle.std.specs.Prelude.{ℕ, ◌≡◌, ◌≤◌, ◌<◌, true, false, Option, Some, List, [], ◌∷◌, All, length, unwrap_or}
+use Rattle.std.specs.List.{AllByRecursion}
 use Rattle.std.specs.Option.{ForSome}
+use Rattle.pfs_addr_values.specs.Sameness.{same_key}
 use Rattle.pfs_addr_values.specs.declared.addresses.Addr.{Addr}
 use Rattle.pfs_addr_values.specs.declared.protocols.Proto.{Proto}
 use Rattle.pfs_addr_values.specs.declared.protocols.Proto.TheVariants as proto
@@ -68,15 +70,21 @@ IsPhaseOf _ _ = Unit {0}
 abbrev pub HasSource : State → Type 0
 HasSource s = (end_on s.dir s.key).addr ≡ s.source
 
+-- no two of these states have the same key
+abbrev pub KeysDiffer : List State → Type 0
+KeysDiffer [] = Unit {0}
+KeysDiffer (s ∷ ss) = AllByRecursion (λ (t : State). same_key s.key t.key ≡ false) ss × KeysDiffer ss
+
 -- the last moment, 0 before the first event
 abbrev pub moment_of : Option ℕ → ℕ
 moment_of last = unwrap_or last 0
 
--- the limits; numbers that rise; a node for each state of a rule that tracks sources; phases of the state's protocol;
+-- the limits; numbers that rise; a key for one state alone; a node for each state of a rule that tracks sources; phases of the state's protocol;
 -- the source in the key; the tables of the text; no handshake counted after this moment
 pub record IsKept (conf : Conf) (h : Held) (now : ℕ) : Type 0 where
   pub limits : IsWithinLimits conf h
   pub numbers : Rise 0 h.world.states h.world.made
+  pub keys : KeysDiffer h.world.states
   pub noded : All (HasNode conf h.world.nodes) h.world.states
   pub phases : All (λ (s : State). IsPhaseOf s.key.proto s.phase) h.world.states
   pub sources : All HasSource h.world.states
