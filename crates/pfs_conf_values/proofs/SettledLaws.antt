@@ -58,8 +58,12 @@ pair_kept n low high =
 abbrev with_timeouts : StateOptions → List (Option ℕ) → StateOptions
 with_timeouts o ts = record o { timeouts = ts }
 
-pair_AreOptions : (tables : ℕ) (o : StateOptions) (n : ℕ) → AreOptions tables o → 10 ≤ n → n ≤ 4294967295 → AreOptions tables (with_timeouts o (with_pair_of_max n o.timeouts))
-pair_AreOptions tables o n h low high = record {
+-- options with other timeouts, `sloppy` or not, keep the load rules where these timeouts do
+others_AreOptions : (tables : ℕ) (o : StateOptions) (b : Bool) (ts : List (Option ℕ)) → AreOptions tables o
+    → (is_global o.scope && is_some (slice_index_or ts 12 None)) ≡ false → broken_rule_pair (slice_index_or ts 14 None) (slice_index_or ts 15 None) ≡ false
+    → slice_index_or ts 13 None ≡ None → ((place : ℕ) → IfSome (slice_index_or ts place None) (IsTimeout place)) → length ts ≡ 16
+    → AreOptions tables (record o { sloppy = b; timeouts = ts })
+others_AreOptions tables o b ts h retention pair interval within size = record {
   max = h.max;
   max_src_nodes = h.max_src_nodes;
   max_src_states = h.max_src_states;
@@ -69,14 +73,20 @@ pair_AreOptions tables o n h low high = record {
   tracked = h.tracked;
   connections = h.connections;
   rule_connections = h.rule_connections;
-  rule_retention = ap (λ (v : Option ℕ). is_global o.scope && is_some v) (at_other n o.timeouts 12 (omega arith) (omega arith)) ∙ h.rule_retention;
-  adaptive =
-      ap (λ (v : Option ℕ). broken_rule_pair v (slice_index_or (with_pair_of_max n o.timeouts) 15 None)) (at_start n o.timeouts h.size)
-      ∙ (ap (broken_rule_pair (Some (start_of n))) (at_end n o.timeouts h.size) ∙ pair_kept n low high);
-  no_interval = at_other n o.timeouts 13 (omega arith) (omega arith) ∙ h.no_interval;
+  rule_retention = retention;
+  adaptive = pair;
+  no_interval = interval;
   timeouts = within;
-  size = pair_size n o.timeouts ∙ h.size;
+  size = size;
 }
+
+pair_AreOptions : (tables : ℕ) (o : StateOptions) (n : ℕ) → AreOptions tables o → 10 ≤ n → n ≤ 4294967295 → AreOptions tables (with_timeouts o (with_pair_of_max n o.timeouts))
+pair_AreOptions tables o n h low high =
+    others_AreOptions tables o o.sloppy (with_pair_of_max n o.timeouts) h
+    (ap (λ (v : Option ℕ). is_global o.scope && is_some v) (at_other n o.timeouts 12 (omega arith) (omega arith)) ∙ h.rule_retention)
+    (ap (λ (v : Option ℕ). broken_rule_pair v (slice_index_or (with_pair_of_max n o.timeouts) 15 None)) (at_start n o.timeouts h.size)
+    ∙ (ap (broken_rule_pair (Some (start_of n))) (at_end n o.timeouts h.size) ∙ pair_kept n low high))
+    (at_other n o.timeouts 13 (omega arith) (omega arith) ∙ h.no_interval) within (pair_size n o.timeouts ∙ h.size)
   where
     others : (place : ℕ) → place ≢ 14 → place ≢ 15 → IfSome (slice_index_or (with_pair_of_max n o.timeouts) place None) (IsTimeout place)
     others place a b = subst (λ (v : Option ℕ). IfSome v (IsTimeout place)) (sym (at_other n o.timeouts place a b)) (h.timeouts place)
@@ -121,22 +131,7 @@ paired_AreOptions tables o h = by o.max h.max
 
 -- options that keep the load rules do so when they are settled
 pub settled_AreOptions : (p : Profile) (tables : ℕ) (o : StateOptions) → AreOptions tables o → AreOptions tables (settled_options p o)
-settled_AreOptions profile.Own tables o h = record {
-  max = h.max;
-  max_src_nodes = h.max_src_nodes;
-  max_src_states = h.max_src_states;
-  max_src_conn = h.max_src_conn;
-  max_src_conn_rate = h.max_src_conn_rate;
-  overload = h.overload;
-  tracked = h.tracked;
-  connections = h.connections;
-  rule_connections = h.rule_connections;
-  rule_retention = h.rule_retention;
-  adaptive = h.adaptive;
-  no_interval = h.no_interval;
-  timeouts = h.timeouts;
-  size = h.size;
-}
+settled_AreOptions profile.Own tables o h = others_AreOptions tables o false o.timeouts h h.rule_retention h.adaptive h.no_interval h.timeouts h.size
 settled_AreOptions profile.OpenBsd74 tables o h = paired_AreOptions tables o h
 
 -- what is paired has a pair, and so is paired no more

@@ -7,6 +7,7 @@ mod faults;
 mod hashing;
 mod packets;
 mod parameters;
+mod profiles;
 mod round_trips;
 mod settings;
 mod together;

@@ -275,10 +275,11 @@ fn load_rules(rt: HostRuntime) -> Result<(), Fail> {
 
 #[test]
 fn options_of_a_configuration(rt: HostRuntime) -> Result<(), Fail> {
-    let text = b"keep state (max-src-conn-rate 3/10, overload <worse> flush global, max 9)";
+    let text = b"keep state (max-src-conn-rate 3/10, overload <worse> flush global, sloppy, max 9)";
     let read = read(text).ok_or("options")?;
     let options = read.resolved(Some(TableNo(1)));
     same!(rt; options.max, Some(9));
+    holds!(rt; options.sloppy);
     same!(rt; options.scope, Some(Scope::Rule));
     let overload = Overload {
         table: TableNo(1),

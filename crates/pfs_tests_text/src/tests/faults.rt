@@ -34,6 +34,21 @@ const WORKED: &[(&[u8], u64, Kind)] = &[
     ),
     (b"pass keep state (overload <x>)", 1, Kind::OverloadAlone),
     (b"set timeout adaptive.start 5", 0, Kind::AdaptivePair),
+    (
+        b"set profile openbsd-7.4\nset timeout adaptive.start 5",
+        0,
+        Kind::AdaptivePair,
+    ),
+    (b"set profile openbsd-7.5", 1, Kind::Syntax),
+    (b"set profile", 1, Kind::Syntax),
+    (b"pass\nset profile \"openbsd-7.4\"", 2, Kind::Syntax),
+    (b"set profile { openbsd-7.4 }", 1, Kind::Unsupported),
+    (b"set profile openbsd-7.4, openbsd-7.4", 1, Kind::Syntax),
+    (
+        b"anchor {\nset profile openbsd-7.4\n}",
+        2,
+        Kind::Unsupported,
+    ),
     (b"pass to any port 80", 1, Kind::PortWithoutProto),
     (
         b"table <t> const\npass proto tcp keep state (max-src-conn 1, overload <t>)",

@@ -14,7 +14,7 @@ const LIMITS: [LimitName; 4] = [
 ];
 
 /// Each part of a rules text, in usual and in unusual spellings.
-const TEXTS: [&[u8]; 38] = [
+const TEXTS: [&[u8]; 42] = [
     b"",
     b"# a comment alone \\\n",
     b"set limit states 1\nset limit src-nodes 4294967295\nset limit tables 2\nset limit table-entries 3",
@@ -53,10 +53,15 @@ const TEXTS: [&[u8]; 38] = [
     b"anchor {\nanchor {\nanchor {\nanchor {\nanchor {\nanchor {\nanchor {\nanchor {\npass\n}\n}\n}\n}\n}\n}\n}\nblock\n}",
     b"pass \\\n  in \\\n on em0 # the \"rest\" of it\n\tblock\r\n\n  pass quick # \\\npass out",
     b"set limit states 50\ntable <bad> { 10.0.0.0/8, !10.9.9.9 }\nblock in quick on !em1 from <bad>\nanchor web in on em0 proto tcp {\npass proto tcp to port www keep state (max 9, max-src-conn-rate 3/10, overload <worse> flush global)\n}",
+    b"pass keep state (max 25, sloppy)\nset profile openbsd-7.4\nset profile openbsd-7.4\npass keep state (sloppy max 9)\nset limit states 1009",
+    b"set profile openbsd-7.4\nset limit states 8\npass keep state (max 4294967295, tcp.first 0)\npass keep state (max 30, adaptive.start 5, adaptive.end 6)\nblock",
+    b"set profile openbsd-7.4\nset timeout { adaptive.start 3, adaptive.end 4 }\ntable <profile> { 10.0.0.1 }\npass on openbsd-7.4 from <profile>",
+    b"set profile openbsd-7.4 # as pf does\nanchor profile {\npass keep state (max 10, max-src-conn 3, overload <t> flush, sloppy, udp.first 7)\nblock in\n}",
 ];
 
-/// Limits and timeouts of two configurations are the same.
+/// The profile, limits and timeouts of two configurations are the same.
 fn same_settings(rt: &impl Abort, one: &Config, other: &Config) {
+    same!(*rt; one.profile(), other.profile());
     for name in LIMITS {
         same!(*rt; one.limit(name), other.limit(name));
     }

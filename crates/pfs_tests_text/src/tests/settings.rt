@@ -77,6 +77,8 @@ fn refusal(alloc: Global, of: Of, text: &[u8]) -> Option<(Why, u64)>
 const REFUSED: &[(Of, &str, Why, u64)] = &[
     (Of::Settings, "skip on lo\n", Why::Setting, 1),
     (Of::Settings, "limit anchors 5\n", Why::Plain, 1),
+    (Of::Settings, "profile openbsd-7.5\n", Why::Plain, 1),
+    (Of::Settings, "profile\nopenbsd-7.4\n", Why::Plain, 1),
     (Of::Settings, "limit states 0\n", Why::Number, 1),
     (Of::Settings, "limit states 4294967296\n", Why::Number, 1),
     (Of::Settings, "limit states\n5\n", Why::Number, 1),

@@ -102,6 +102,9 @@ const WORDS: &[(&[u8], Key)] = &[
     (b"10.0.0.0/8", Key::Number),
     (b"$ext_if", Key::Name),
     (b"binat-to", Key::Foreign),
+    (b"profile", Key::Profile),
+    (b"openbsd-7.4", Key::OpenBsd74),
+    (b"openbsd-7.5", Key::Name),
     (b"", Key::Name),
 ];
 

@@ -1,0 +1,93 @@
+//! Texts with the line `set profile`, and the same without it.
+
+use pfs_conf::{Config, Profile, RuleNo, TimeoutName, load};
+use pfs_conf_show::show;
+use pfs_tests_cases::{holds, same};
+use std::test::Fail;
+
+/// Texts, and what their canonical text ends with
+const SHOWN: [(&[u8], &[u8]); 5] = [
+    (
+        b"set limit states 1009\nset profile openbsd-7.4\n\
+        pass in proto tcp to any port 80 keep state (max 25, sloppy)\n\
+        pass in proto udp keep state (max 9)\n\
+        pass out keep state (max 30, adaptive.start 5, adaptive.end 6)\n",
+        b"set limit { states 1009, src-nodes 10000, tables 1000, table-entries 200000 }\n\
+        set timeout { tcp.first 120, tcp.opening 30, tcp.established 86400, tcp.closing 900, \
+        tcp.finwait 45, tcp.closed 90, udp.first 60, udp.single 30, udp.multiple 60, \
+        other.first 60, other.single 30, other.multiple 60, src.track 0, interval 10, \
+        adaptive.start 600, adaptive.end 1200 }\n\
+        set profile openbsd-7.4\n\
+        pass in proto tcp from any to any port 80 flags S/SA keep state \
+        (max 25, sloppy, adaptive.start 12, adaptive.end 24)\n\
+        pass in proto udp all flags S/SA keep state (max 9)\n\
+        pass out all flags S/SA keep state (max 30, adaptive.start 5, adaptive.end 6)\n",
+    ),
+    (
+        b"set limit states 1009\npass keep state (max 25, sloppy)\n",
+        b"adaptive.start 605, adaptive.end 1210 }\npass all flags S/SA keep state (max 25)\n",
+    ),
+    (
+        b"set limit states 8\nset profile openbsd-7.4\npass\n",
+        b"adaptive.start 0, adaptive.end 0 }\nset profile openbsd-7.4\npass all flags S/SA keep state\n",
+    ),
+    (
+        b"pass keep state (max 4294967295)\nset profile openbsd-7.4\n",
+        b"(max 4294967295, adaptive.start 2576980374, adaptive.end 4294967295)\n",
+    ),
+    (
+        b"set profile openbsd-7.4\npass keep state (max-src-conn 3, overload <t>, sloppy, udp.first 0, max 10)\n",
+        b"set profile openbsd-7.4\ntable <t>\npass all flags S/SA keep state (max 10, source-track rule, \
+        max-src-conn 3, overload <t>, sloppy, udp.first 0, adaptive.start 6, adaptive.end 12)\n",
+    ),
+];
+
+#[test]
+fn the_canonical_text_shows_the_profile(rt: HostRuntime) -> Result<(), Fail> {
+    for (text, wanted) in SHOWN {
+        let shown = show(rt.alloc(), &load(rt.alloc(), text)?)?;
+        holds!(rt; shown.as_slice().ends_with(wanted), text);
+    }
+    Ok(())
+}
+
+/// A rule's own adaptive values
+fn pair(config: &Config, number: u32) -> (Option<u64>, Option<u64>) {
+    let number = RuleNo(number);
+    (
+        config.rule_timeout(number, TimeoutName::AdaptiveStart),
+        config.rule_timeout(number, TimeoutName::AdaptiveEnd),
+    )
+}
+
+/// The line may stand behind the rules
+#[test]
+fn the_profile_takes_effect_at_the_end(rt: HostRuntime) -> Result<(), Fail> {
+    for (text, profile, pair_told, sloppy) in [
+        (
+            b"pass keep state (max 25, sloppy)\nset profile openbsd-7.4\n".as_slice(),
+            Profile::OpenBsd74,
+            (Some(12), Some(24)),
+            Some(true),
+        ),
+        (
+            b"pass keep state (max 25, sloppy)\n",
+            Profile::Own,
+            (None, None),
+            Some(false),
+        ),
+        (
+            b"block\nset profile openbsd-7.4\n",
+            Profile::OpenBsd74,
+            (None, None),
+            None,
+        ),
+    ] {
+        let config = load(rt.alloc(), text)?;
+        same!(rt; config.profile(), profile, text);
+        same!(rt; pair(&config, 0), pair_told, text);
+        same!(rt; config.options(RuleNo(0)).map(|options| options.sloppy), sloppy, text);
+        same!(rt; (config.item_count(), config.table_count(), config.entry_count()), (1, 0, 0));
+    }
+    Ok(())
+}
