@@ -79,8 +79,8 @@ KeysDiffer (s ∷ ss) = AllByRecursion (λ (t : State). same_key s.key t.key ≡
 abbrev pub moment_of : Option ℕ → ℕ
 moment_of last = unwrap_or last 0
 
--- the limits; numbers that rise; a key for one state alone; a node for each state of a rule that tracks sources; phases of the state's protocol;
--- the source in the key; the tables of the text; no handshake counted after this moment
+-- the limits; numbers that rise; a key for one state alone; a node for each state of a rule that tracks sources; phases of the
+-- state's protocol; the source in the key; the tables of the text; no handshake counted after this moment
 pub record IsKept (conf : Conf) (h : Held) (now : ℕ) : Type 0 where
   pub limits : IsWithinLimits conf h
   pub numbers : Rise 0 h.world.states h.world.made
