@@ -44,6 +44,18 @@ type Row = (Ask, Addr, u16, u32, Result<u64, Limit>);
 
 const A3: Addr = Addr::V4([198, 51, 100, 3]);
 
+const A4: Addr = Addr::V4([198, 51, 100, 4]);
+
+const A5: Addr = Addr::V4([198, 51, 100, 5]);
+
+const A6: Addr = Addr::V4([198, 51, 100, 6]);
+
+const A7: Addr = Addr::V4([198, 51, 100, 7]);
+
+const A8: Addr = Addr::V4([198, 51, 100, 8]);
+
+const A9: Addr = Addr::V4([198, 51, 100, 9]);
+
 const ROWS: &[Row] = &[
     (Ask::FirstTracked, A1, 1, 0, Ok(1)),
     (Ask::Tracked, A1, 2, 0, Ok(2)),
@@ -79,48 +91,12 @@ const STRAY_ROWS: &[Row] = &[
     (Ask::Stray, A2, 1, 0, Err(Limit::Max)),
     (Ask::AtLimit, A2, 2, 0, Err(Limit::Max)),
     (Ask::Stray, A3, 1, 0, Err(Limit::Max)),
-    (
-        Ask::Stray,
-        Addr::V4([198, 51, 100, 4]),
-        1,
-        0,
-        Err(Limit::Max),
-    ),
-    (
-        Ask::Stray,
-        Addr::V4([198, 51, 100, 5]),
-        1,
-        0,
-        Err(Limit::Max),
-    ),
-    (
-        Ask::Stray,
-        Addr::V4([198, 51, 100, 6]),
-        1,
-        0,
-        Err(Limit::Max),
-    ),
-    (
-        Ask::Stray,
-        Addr::V4([198, 51, 100, 7]),
-        1,
-        0,
-        Err(Limit::Max),
-    ),
-    (
-        Ask::Stray,
-        Addr::V4([198, 51, 100, 8]),
-        1,
-        0,
-        Err(Limit::Max),
-    ),
-    (
-        Ask::Stray,
-        Addr::V4([198, 51, 100, 9]),
-        1,
-        0,
-        Err(Limit::Max),
-    ),
+    (Ask::Stray, A4, 1, 0, Err(Limit::Max)),
+    (Ask::Stray, A5, 1, 0, Err(Limit::Max)),
+    (Ask::Stray, A6, 1, 0, Err(Limit::Max)),
+    (Ask::Stray, A7, 1, 0, Err(Limit::Max)),
+    (Ask::Stray, A8, 1, 0, Err(Limit::Max)),
+    (Ask::Stray, A9, 1, 0, Err(Limit::Max)),
 ];
 
 /// A kind of store.
@@ -233,15 +209,17 @@ fn admit_first<S: Store>(
 fn touch<S: Store>(rt: &HostRuntime, store: &mut S, packet: &Packet, now: u64) -> Result<(), Stop>
     requires order { IsUpToNow now (S.world store.old) }
 {
-    let Some(found) = store.find(&FlowKey::of(packet)) else {
+    let key = FlowKey::of(packet);
+    let Some(found) = store.find(&key) else {
         return Err(Stop::Input);
     };
     let before = counts(store);
     let mut meter = Meter::new();
     begin_free(rt, "has_closed")?;
-    let closed = store.has_closed(found, &FlowKey::of(packet), &mut meter);
+    let closed = store.has_closed(found, &key, &mut meter);
     end(rt)?;
-    plain(rt, !closed)?;
+    plain(rt, !closed && counts(store) == before)?;
+    let mut meter = Meter::new();
     begin_free(rt, "touch")?;
     let touched = store.touch(found, packet, now, &mut meter);
     end(rt)?;
