@@ -1,5 +1,5 @@
 -- What holds between two frames of captures, and how a run ends.
-use Rattle.std.proofs.Common.{◌≡◌, ◌≤◌, ◌<◌, ◌+◌, ◌-◌, ◌++◌, ◌∙◌, ℕ, suc, Bool, true, false, List, [], ◌∷◌, length, map, take, drop, Option, Some, None, Ok, Err, inl, inr, refl, sym, ap, arith, subst, append-nil, append_assoc}
+use Rattle.std.proofs.Common.{◌≡◌, ◌≤◌, ◌<◌, ◌+◌, ◌-◌, ◌++◌, ◌∙◌, ℕ, suc, Bool, true, false, List, [], ◌∷◌, length, map, take, drop, Option, Some, None, Ok, Err, inl, inr, refl, sym, ap, arith, subst, append-nil, append_assoc, length-append}
 use Rattle.std.specs.Prelude.{Result, ◌⊎◌, codes}
 use Rattle.std.specs.Bool.{MatchBool}
 use Rattle.std.specs.Io.KnownBytes.{Appends}
@@ -15,7 +15,7 @@ use Rattle.pfs_capture.specs.Captures.{most_items}
 use Rattle.pfs_capture.specs.Merging.{Coming, Comes, Stops, Ends, Given, at_coming, capture_run, captures_run, first_fault, merged, coming_of}
 use Rattle.pfs_capture.specs.Readers.{lefts_of}
 use Rattle.pfs_capture.specs.Runs.{Judged, Run}
-use Rattle.pfs_capture.specs.Traces.{BeginsText, TellsAll, TellsCaptures, TellsFirst, TellsFront, TellsRun, account_of, answer_text, answers_text, trace_text}
+use Rattle.pfs_capture.specs.Traces.{BeginsText, TellsAll, TellsBefore, TellsCaptures, TellsFirst, TellsFront, TellsRun, account_of, answer_text, answers_text, trace_text}
 use Rattle.pfs_capture.specs.Turns.{IsFront, Sends, Taken, TakesFrame, frame_taken}
 use Rattle.pfs_capture.specs.declared.accounts.Account.{Account}
 use Rattle.pfs_capture.specs.declared.captures.Capture.{Capture}
@@ -157,14 +157,6 @@ pub ends-many : {R : Type 0} (remaining : FeedView R → Option (List ℕ)) (run
 ends-many remaining run before now before2 now2 turn account cs h many =
     (trace_text h.seen, answers_text h.seen, h.trace, h.answers, ended-here remaining run before now before2 now2 turn account cs (Some stop.TooMany) h (left-none most_items turn h.runs many))
 
--- memory is refused
-pub ends-first : {R : Type 0} (remaining : FeedView R → Option (List ℕ)) (run : Run) (before now before2 now2 : Option (List ℕ)) (turn : ℕ) (account account2 : Account) (cs : List (Capture R)) (f : TraceStop)
-    → SoFar remaining run before now before2 now2 turn account cs → account2 ≡ account → f ≡ stop.Memory
-    → IsEnded run before now before2 now2 account2 (Err f)
-ends-first remaining run before now before2 now2 turn account account2 cs f h kept memory =
-    subst (λ (g : TraceStop). IsEnded run before now before2 now2 account2 (Err g)) (sym memory)
-    (trace_text h.seen, answers_text h.seen, h.trace, h.answers, tells-first run (merged (most_items - turn) h.runs) h.seen account2 h.split (kept ∙ h.counts))
-
 -- a capture stops
 pub ends-asked : {R : Type 0} (remaining : FeedView R → Option (List ℕ)) (run : Run) (before now before2 now2 : Option (List ℕ)) (turn : ℕ) (account : Account) (cs : List (Capture R)) (f : TraceStop)
     → SoFar remaining run before now before2 now2 turn account cs → turn < most_items → is_of_reading f ≡ true
@@ -172,8 +164,7 @@ pub ends-asked : {R : Type 0} (remaining : FeedView R → Option (List ℕ)) (ru
     → IsEnded run before now before2 now2 account (Err f)
 ends-asked remaining run before now before2 now2 turn account cs stop.Write h few reading stops = absurd (cc reading)
 ends-asked remaining run before now before2 now2 turn account cs stop.Told h few reading stops = absurd (cc reading)
-ends-asked remaining run before now before2 now2 turn account cs stop.Memory h few reading stops =
-    ends-first remaining run before now before2 now2 turn account account cs stop.Memory h refl refl
+ends-asked remaining run before now before2 now2 turn account cs stop.Memory h few reading stops = absurd (cc reading)
 ends-asked remaining run before now before2 now2 turn account cs stop.Moment h few reading stops =
     let next = stops h.runs h.aheads refl in
     (trace_text h.seen, answers_text h.seen, h.trace, h.answers, ended-here remaining run before now before2 now2 turn account cs (Some stop.Moment) h (left-turn most_items turn h.runs (Stops stop.Moment) few next))
@@ -233,6 +224,19 @@ counted remaining run before now before2 now2 turn account account2 cs ds j rest
   counts = sym (ap (λ (t : Taken). t.account) taken) ∙ (ap (λ (a : Account). frame_counted a j.is_late j.outcome) h.counts ∙ account-more h.seen j.instant j.is_late j.outcome);
   split = split-frame run h.seen turn h.runs rest j few h.split comes;
 }
+
+-- memory is refused for them
+pub ends-before : {R : Type 0} (remaining : FeedView R → Option (List ℕ)) (run : Run) (before now before2 now2 : Option (List ℕ)) (turn : ℕ) (account account2 : Account) (cs : List (Capture R)) (j : Judged) (rest : List Run) (f : TraceStop)
+    → (h : SoFar remaining run before now before2 now2 turn account cs) → turn < most_items → coming_of h.runs ≡ Comes j rest → account2 ≡ account → f ≡ stop.Memory
+    → IsEnded run before now before2 now2 account2 (Err f)
+ends-before remaining run before now before2 now2 turn account account2 cs j rest f h few comes kept memory =
+    let split = split-frame run h.seen turn h.runs rest j few h.split comes in
+    let more = merged (most_items - (turn + 1)) rest in
+    let same : length run.0 ≡ length ((h.seen ++ j ∷ []) ++ more.0) = ap (λ (r : Run). length r.0) split in
+    let less : length h.seen < length run.0 = rw same (simp length-append (omega arith)) in
+    let first = sym (first-frames run (merged (most_items - turn) h.runs) h.seen h.split) in
+    subst (λ (g : TraceStop). IsEnded run before now before2 now2 account2 (Err g)) (sym memory)
+    (trace_text h.seen, answers_text h.seen, h.trace, h.answers, (length h.seen, less, ap trace_text first, ap answers_text first, (kept ∙ h.counts) ∙ ap account_of first))
 
 -- both texts of a frame are written
 pub so_far-frame : {R : Type 0} (remaining : FeedView R → Option (List ℕ)) (run : Run) (before now after before2 now2 after2 : Option (List ℕ)) (turn : ℕ) (account : Account) (cs : List (Capture R)) (row answer t u : List ℕ)

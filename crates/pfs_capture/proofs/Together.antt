@@ -1,8 +1,7 @@
 -- What lies ahead of captures stays as it is while each is asked for its next frame, and the earliest of these is what comes next.
 use Rattle.std.proofs.Common.{◌≡◌, ◌≤◌, ◌<◌, ◌+◌, ◌∙◌, ℕ, zero, suc, Bool, true, false, List, [], ◌∷◌, length, map, get_or, set, Option, Some, None, Ok, Err, inl, inr, refl, sym, ap, arith, subst}
 use Rattle.std.specs.Prelude.{IfSome, Result, ◌⊎◌, if◌then◌else◌, slice_get}
-use Rattle.pfs_streams.specs.Feeds.{FeedView, read_failures}
-use Rattle.pfs_capture_files.specs.Faults.{HasFailed}
+use Rattle.pfs_streams.specs.Feeds.{FeedView, HasFailed, read_failures}
 use Rattle.pfs_capture_files.specs.Forms.{IsWithinStart, start_of}
 use Rattle.pfs_capture_files.specs.declared.faults.FileFault.{FileFault}
 use Rattle.pfs_capture_files.specs.declared.forms.Form.{Form}

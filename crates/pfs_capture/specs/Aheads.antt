@@ -74,6 +74,7 @@ is_around stop.Memory = true
 abbrev pub is_of_reading : TraceStop → Bool
 is_of_reading stop.Write = false
 is_of_reading stop.Told = false
+is_of_reading stop.Memory = false
 is_of_reading f = true
 
 -- what lay ahead still does after a call, or stops with its fault

@@ -1,7 +1,6 @@
 -- What captures give, and what of them was read. (own)
 use Rattle.std.specs.Prelude.{ℕ, ◌≡◌, ◌⊎◌, List, [], ◌∷◌, map, Option, Some, None, ⊤}
-use Rattle.pfs_streams.specs.Feeds.{FeedView, read_failures}
-use Rattle.pfs_capture_files.specs.Faults.{HasFailed}
+use Rattle.pfs_streams.specs.Feeds.{FeedView, HasFailed, read_failures}
 use Rattle.pfs_capture.specs.Captures.{most_items}
 use Rattle.pfs_capture.specs.Instants.{start_instant}
 use Rattle.pfs_capture.specs.Merging.{Given}

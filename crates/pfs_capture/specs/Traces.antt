@@ -1,5 +1,5 @@
 -- The trace of captures, and the account of their frames. (own)
-use Rattle.std.specs.Prelude.{ℕ, ◌≡◌, ◌⊎◌, ◌+◌, ◌++◌, ◌&&◌, Bool, true, false, List, [], ◌∷◌, codes, flat_map, length, take, Option, Some, None, Result, Ok, Err, ⊤}
+use Rattle.std.specs.Prelude.{ℕ, ◌≡◌, ◌⊎◌, ◌<◌, ◌+◌, ◌++◌, ◌&&◌, Bool, true, false, List, [], ◌∷◌, codes, flat_map, length, take, Option, Some, None, Result, Ok, Err, ⊤}
 use Rattle.std.specs.Bool.{MatchBool}
 use Rattle.std.specs.List.{count_by}
 use Rattle.std.specs.Option.{option_map_or}
@@ -149,12 +149,18 @@ TellsAll run end trace answers account = (run.1 ≡ end) × (trace ≡ trace_tex
 abbrev pub TellsFirst : Run → List ℕ → List ℕ → Account → Type 0
 TellsFirst run trace answers account = (k : ℕ) × (trace ≡ trace_text (take k run.0)) × (answers ≡ answers_text (take k run.0)) × (account ≡ account_of (take k run.0))
 
+-- they are those of its first frames, and another follows
+abbrev pub TellsBefore : Run → List ℕ → List ℕ → Account → Type 0
+TellsBefore run trace answers account =
+    (k : ℕ) × (k < length run.0) × (trace ≡ trace_text (take k run.0)) × (answers ≡ answers_text (take k run.0)) × (account ≡ account_of (take k run.0))
+
 -- the texts begin those of its first frames, and the account is that of these
 abbrev pub TellsFront : Run → List ℕ → List ℕ → Account → Type 0
 TellsFront run trace answers account =
     (k : ℕ) × BeginsText trace (trace_text (take k run.0)) × BeginsText answers (answers_text (take k run.0)) × (account ≡ account_of (take k run.0))
 
--- what is written of a run, by how the call ends: all of it, or only its first part where something around the capture fails
+-- what is written of a run, by how the call ends: all of it, or only its first part where something around the capture fails. `Memory` is
+-- told only of a frame that is there, never of a fault
 abbrev pub TellsRun : Run → List ℕ → List ℕ → Account → Result Unit TraceStop → Type 0
 TellsRun run trace answers account (Ok u) = TellsAll run None trace answers account
 TellsRun run trace answers account (Err (stop.File f)) = MatchBool (is_outside f) (TellsFirst run trace answers account) (TellsAll run (Some (stop.File f)) trace answers account)
@@ -162,7 +168,7 @@ TellsRun run trace answers account (Err stop.Moment) = TellsAll run (Some stop.M
 TellsRun run trace answers account (Err stop.TooMany) = TellsAll run (Some stop.TooMany) trace answers account
 TellsRun run trace answers account (Err stop.Write) = TellsFront run trace answers account
 TellsRun run trace answers account (Err stop.Told) = TellsFront run trace answers account
-TellsRun run trace answers account (Err stop.Memory) = TellsFirst run trace answers account
+TellsRun run trace answers account (Err stop.Memory) = TellsBefore run trace answers account
 
 -- nothing is written, not even the headers, where a file does not begin as a capture, or can't be read so far
 abbrev pub TellsNothing : List ℕ → List ℕ → Account → Type 0

@@ -1,9 +1,8 @@
 //! A capture that is read, frame by frame.
 
 ghost use Rattle.std.specs.Prelude.{◌≡◌, ◌⊎◌, ◌<◌, Err, IfErr, List, OnOk, true, ℕ};
-ghost use Rattle.pfs_capture_files.specs.Faults.{HasFailed};
 ghost use Rattle.pfs_capture_files.specs.declared.faults.FileFault.TheVariants as fault;
-ghost use Rattle.pfs_streams.specs.Feeds.{read_failures, unread};
+ghost use Rattle.pfs_streams.specs.Feeds.{HasFailed, read_failures, unread};
 ghost use Rattle.pfs_capture.specs.Aheads.{Ahead, BeginsAs, StaysAhead, frame_of, is_asked, is_of_reading, turns_left};
 ghost use Rattle.pfs_capture.specs.Merging.{Given};
 ghost use Rattle.pfs_capture.specs.Readers.{IsGiven, IsUnread};

@@ -4,7 +4,7 @@ ghost use Rattle.std.specs.Prelude.{◌≡◌, ◌⊎◌, ◌<◌, ◌≤◌, �
 ghost use Rattle.std.specs.Io.KnownBytes.{Appends};
 ghost use Rattle.pfs_capture_files.specs.declared.faults.FileFault.TheVariants as fault;
 ghost use Rattle.pfs_streams.specs.Feeds.{unread};
-ghost use Rattle.pfs_streams.specs.Sinks.{bytes_held, write_failures};
+ghost use Rattle.pfs_streams.specs.Sinks.{NotFlushed, bytes_held, write_failures};
 ghost use Rattle.pfs_capture.specs.Accounts.{AddsUp};
 ghost use Rattle.pfs_capture.specs.Aheads.{frame_of};
 ghost use Rattle.pfs_capture.specs.Captures.{frame_bytes, seen_of};
@@ -49,7 +49,7 @@ pub struct Lines {
 /// capture has that one's moment, and is counted as late if it is a record of an earlier second. `TraceStop` says why the
 /// trace is not whole. Of a faulty capture, all is written that comes before its fault is reached: before the frame is taken
 /// that follows the last one in front of the fault. Where a read or a write fails or memory is refused, only the first part is
-/// written. A failed read or write is reported only where a reader or that writer failed. It takes memory for one block of each
+/// written; `TraceStop::Memory` is told only of a frame that is there. A failed read or write is reported only where a reader or that writer failed. It takes memory for one block of each
 /// capture, and for two rows.
 pub fn write_trace<R: Read, W: Write, T: Write>(
     alloc: Global,
@@ -73,6 +73,10 @@ pub fn write_trace<R: Read, W: Write, T: Write>(
     ensures first_read { (result ≡ Err (TraceStop.File fault.Read)) ⊎ (failures_of captures.new ≡ failures_of captures.old) }
     ensures first_write { (result ≡ Err TraceStop.Write) ⊎ (write_failures out.new ≡ write_failures out.old) }
     ensures first_told { (result ≡ Err TraceStop.Told) ⊎ (write_failures answers.new ≡ write_failures answers.old) }
+
+    // Nothing is flushed but by lines.
+    ensures rows_at_once { NotFlushed out.old out.new }
+    ensures answers_at_once { NotFlushed answers.old answers.new }
 {
     *account = Account::new();
     let mut lines = Lines::new(alloc);
@@ -113,6 +117,8 @@ fn send<W: Write, T: Write>(
     ensures told { result ≡ Err TraceStop.Told → 0 < write_failures answers.new }
     ensures first_write { (result ≡ Err TraceStop.Write) ⊎ (write_failures out.new ≡ write_failures out.old) }
     ensures first_told { (result ≡ Err TraceStop.Told) ⊎ (write_failures answers.new ≡ write_failures answers.old) }
+    ensures rows_at_once { NotFlushed out.old out.new }
+    ensures answers_at_once { NotFlushed answers.old answers.new }
 {
     match write_whole(out, row) {
         Ok(()) => {}

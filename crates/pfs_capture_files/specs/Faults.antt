@@ -1,6 +1,5 @@
 -- The faults of a file, and of what is around it. (own)
-use Rattle.std.specs.Prelude.{◌⊎◌, ◌<◌, Bool, true, false}
-use Rattle.pfs_streams.specs.Feeds.{FeedView, IsSpent, read_failures}
+use Rattle.std.specs.Prelude.{Bool, true, false}
 use Rattle.pfs_capture_files.specs.declared.faults.FileFault.{FileFault}
 use Rattle.pfs_capture_files.specs.declared.faults.FileFault.TheVariants as fault
 
@@ -9,7 +8,3 @@ abbrev pub is_outside : FileFault → Bool
 is_outside fault.Read = true
 is_outside fault.Memory = true
 is_outside f = false
-
--- a read of this reader failed, or all reads of its bound are made
-abbrev pub HasFailed : {R : Type 0} → FeedView R → Type 0
-HasFailed feed = (0 < read_failures feed) ⊎ IsSpent feed

@@ -2,8 +2,7 @@
 
 ghost use Rattle.std.specs.Prelude.{◌≡◌, ◌⊎◌, ◌<◌, ◌≤◌, ℕ, List, [], Some, Err, IfErr, OnOk, drop, length, take};
 ghost use Rattle.std.specs.Vec.{vec_capacity};
-ghost use Rattle.pfs_streams.specs.Feeds.{read_failures, unread};
-ghost use Rattle.pfs_capture_files.specs.Faults.{HasFailed};
+ghost use Rattle.pfs_streams.specs.Feeds.{HasFailed, read_failures, unread};
 
 use crate::faults::FileFault;
 use pfs_streams::Feed;

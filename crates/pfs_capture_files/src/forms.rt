@@ -2,9 +2,9 @@
 
 ghost use Rattle.std.specs.Prelude.{◌≡◌, ◌⊎◌, ◌<◌, ◌≤◌, false, ℕ, List, Some, Err, IfErr, IfOk, OnErr, drop, length};
 ghost use Rattle.std.specs.Vec.{vec_capacity};
-ghost use Rattle.pfs_streams.specs.Feeds.{read_failures, unread};
+ghost use Rattle.pfs_streams.specs.Feeds.{HasFailed, read_failures, unread};
 ghost use Rattle.pfs_capture_files.specs.declared.forms.Form.TheVariants as form;
-ghost use Rattle.pfs_capture_files.specs.Faults.{HasFailed, is_outside};
+ghost use Rattle.pfs_capture_files.specs.Faults.{is_outside};
 ghost use Rattle.pfs_capture_files.specs.Frames.{IsFrame, IsSoundItem};
 ghost use Rattle.pfs_capture_files.specs.Forms.{Begins, IsWithinStart, ReadsItem, block_turn, blocks_start, classic_form, classic_start, frame_turn, record_turn, rest_turn, start_of, start_of_magic, start_of_version, turn_of, what_begins};
 

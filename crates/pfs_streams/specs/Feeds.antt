@@ -46,6 +46,14 @@ IsFresh f = (f.made ≡ 0) × (f.ended ≡ false) × (f.failures ≡ 0)
 abbrev pub IsSpent : {R : Type 0} → FeedView R → Type 0
 IsSpent f = (f.made ≡ f.bound) × (f.ended ≡ false) × (f.failures ≡ 0)
 
+-- a read of the reader failed, or all reads of the bound are made
+abbrev pub HasFailed : {R : Type 0} → FeedView R → Type 0
+HasFailed f = (0 < f.failures) ⊎ IsSpent f
+
+-- no read of the reader failed, and it ended, or reads of the bound are left
+abbrev pub IsSound : {R : Type 0} → FeedView R → Type 0
+IsSound f = (f.failures ≡ 0) × (IsSpent f → ⊥)
+
 -- the next read into a buffer with room is one of the reader
 abbrev pub MayRead : {R : Type 0} → FeedView R → Type 0
 MayRead f = (f.made < f.bound) × (f.ended ≡ false) × (f.failures ≡ 0)

@@ -1,10 +1,10 @@
 //! A reader under a bound of reads: so no run waits for an end that never comes.
 
-ghost use Rattle.std.specs.Prelude.{◌≡◌, ◌≢◌, ◌⊎◌, ◌+◌, ◌<◌, ◌≤◌, ◌↔◌, ℕ, List, Option, true, false, length, IfErr, IfOk, OnOk, OnErr, IsErr, IsTrue};
+ghost use Rattle.std.specs.Prelude.{◌≡◌, ◌≢◌, ◌⊎◌, ◌+◌, ◌-◌, ◌^◌, ◌<◌, ◌≤◌, ◌↔◌, ℕ, List, Option, true, false, length, IfErr, IfOk, OnOk, OnErr, IsErr, IsTrue};
 ghost use Rattle.std.specs.Io.{ReadsAtMost};
 ghost use Rattle.std.specs.Io.KnownBytes.{ReadConsumes};
 ghost use Rattle.std.specs.IoError.{error_kind};
-ghost use Rattle.pfs_streams.specs.Feeds.{FeedView, HasReads, BeganWell, SameReads, unread, unread_behind, reader_of, bound_of, reads_of, read_failures, has_ended, IsSpent, IsFresh, MayRead, IsClosed};
+ghost use Rattle.pfs_streams.specs.Feeds.{FeedView, HasReads, BeganWell, SameReads, unread, unread_behind, reader_of, bound_of, reads_of, read_failures, has_ended, HasFailed, IsSpent, IsFresh, MayRead, IsClosed};
 
 use std::io;
 use std::io::{Error, ErrorKind, Read};
@@ -59,6 +59,24 @@ impl<R> Feed<R> {
         }
     }
 
+    /// A feed of a program's input: of 2^40 reads at most.
+    pub fn of_input(reader: R) -> Feed<R>
+        ensures reader { reader_of result ≡ reader }
+        ensures bound { bound_of result ≡ 2 ^ 40 }
+        ensures fresh { IsFresh result }
+    {
+        Feed::new(reader, 1_099_511_627_776)
+    }
+
+    /// A feed of a capture: of 2^64 - 1 reads at most, more than a run can make.
+    pub fn of_capture(reader: R) -> Feed<R>
+        ensures reader { reader_of result ≡ reader }
+        ensures bound { bound_of result ≡ 2 ^ 64 - 1 }
+        ensures fresh { IsFresh result }
+    {
+        Feed::new(reader, u64::MAX)
+    }
+
     /// How many reads of the reader failed. It is 0 or 1, since no read follows a failure.
     pub fn failures(&self) -> u64
         ensures { result ≡ read_failures self.now }
@@ -87,7 +105,7 @@ impl<R> Feed<R> {
     }
 
     /// Lends a feed of which a read was made, and none failed. What is lent reads on under the same bound, and counts its
-    /// reads. The feed goes on after them by `resume`.
+    /// reads. The feed goes on after them by `resume`; until then nothing is known of it.
     pub fn lend(&mut self) -> Begun<'_, R>
         requires begun { 0 < reads_of self.old }
         requires sound { read_failures self.old ≡ 0 }
@@ -102,20 +120,12 @@ impl<R> Feed<R> {
         }
     }
 
-    /// Goes on after these reads, which were made of its reader while it was lent. `lent` is what `reads` gave as it was
-    /// lent; it goes on after that where the two have other bounds.
-    pub fn resume(&mut self, lent: Reads, reads: Reads)
-        requires lent { BeganWell lent.made lent.failures }
-        requires reads { BeganWell reads.made reads.failures }
-        ensures bound { bound_of self.new ≡ lent.bound }
-        ensures goes_on { reads.bound ≡ lent.bound → HasReads self.new reads.bound reads.made reads.failures reads.ended }
+    /// Goes on after the reads that its borrower made.
+    pub fn resume(&mut self, back: GivenBack)
+        ensures goes_on { HasReads self.new back.reads.bound back.reads.made back.reads.failures back.reads.ended }
         ensures begun { BeganWell (reads_of self.new) (read_failures self.new) }
     {
-        self.reads = if reads.bound == lent.bound {
-            reads
-        } else {
-            lent
-        };
+        self.reads = back.reads;
     }
 }
 
@@ -126,13 +136,30 @@ pub struct Begun<'a, R> {
     ghost was_read: { BeganWell (reads_of feed) (read_failures feed) },
 }
 
+/// The reads of a feed that was lent, as its borrower left them. Only the borrower can give them back: by `Begun::give_back`,
+/// once.
+#[derive(Drop)]
+pub struct GivenBack {
+    reads: Reads,
+    ghost was_read: { BeganWell reads.made reads.failures },
+}
+
 impl<R> Begun<'_, R> {
-    /// The reads that were made of its reader, one at least that did not fail, of how many, and how they ended.
-    pub fn reads(&self) -> Reads
-        ensures same { HasReads self.now.feed result.bound result.made result.failures result.ended }
-        ensures begun { BeganWell result.made result.failures }
+    /// Ends the loan. `lent` is what `reads` gave as the feed was lent; where the two have other bounds, that is given back.
+    pub fn give_back(self, lent: Reads) -> GivenBack
+        requires lent { BeganWell lent.made lent.failures }
+        ensures bound { result.reads.bound ≡ lent.bound }
+        ensures reads { lent.bound ≡ bound_of self.entry.feed →
+            HasReads self.entry.feed result.reads.bound result.reads.made result.reads.failures result.reads.ended }
     {
-        self.feed.reads
+        let reads = self.feed.reads;
+        GivenBack {
+            reads: if reads.bound == lent.bound {
+                reads
+            } else {
+                lent
+            },
+        }
     }
 }
 
@@ -143,7 +170,13 @@ impl<R: Read> Read for Begun<'_, R> {
     fn read(&mut self, buf: &mut [u8]) -> io::Result<usize>
         ensures bound { ReadsAtMost result buf.new }
         ensures bytes { ReadConsumes (unread_behind R.remaining self.old.feed) (unread_behind R.remaining self.new.feed) result buf.new }
-        ensures fails { OnErr result ((0 < read_failures self.new.feed) ⊎ IsSpent self.new.feed) }
+        ensures made { MayRead self.old.feed → 0 < length buf.old → reads_of self.new.feed ≡ reads_of self.old.feed + 1 }
+        ensures closed { IsClosed self.old.feed → 0 < length buf.old → IsErr result × (self.new.feed ≡ self.old.feed) }
+        ensures same_bound { bound_of self.new.feed ≡ bound_of self.old.feed }
+        ensures fails { OnErr result (HasFailed self.new.feed) }
+        ensures refuses { IfErr result (λ e. error_kind e ≢ ErrorKind.Interrupted) }
+        ensures counts { (read_failures self.new.feed ≡ read_failures self.old.feed)
+            ⊎ (IsErr result × MayRead self.old.feed × (0 < length buf.old) × (read_failures self.new.feed ≡ read_failures self.old.feed + 1)) }
     {
         self.feed.read(buf)
     }
@@ -175,7 +208,7 @@ impl<R: Read> Read for Feed<R> {
         ensures goes_on { IfOk result (λ n. 0 < n → has_ended self.new ≡ false) }
         ensures gives { OnOk result (read_failures self.new ≡ read_failures self.old) }
         ensures sound { OnOk result (0 < length buf.old → read_failures self.new ≡ 0) }
-        ensures fails { OnErr result ((0 < read_failures self.new) ⊎ IsSpent self.new) }
+        ensures fails { OnErr result (HasFailed self.new) }
         ensures refuses { IfErr result (λ e. error_kind e ≢ ErrorKind.Interrupted) }
         ensures counts { (read_failures self.new ≡ read_failures self.old)
             ⊎ (IsErr result × MayRead self.old × (0 < length buf.old) × (read_failures self.new ≡ read_failures self.old + 1)) }

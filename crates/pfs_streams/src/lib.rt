@@ -7,8 +7,8 @@ mod sinks;
 mod splitting;
 mod writing;
 
-pub use feeds::{Begun, Feed, Reads};
+pub use feeds::{Begun, Feed, GivenBack, Reads};
 pub use rules::{RulesStop, read_rules};
-pub use sinks::Sink;
+pub use sinks::{Sink, sink_of};
 pub use splitting::read_joined;
 pub use writing::{WriteFailed, write_whole};

@@ -1,7 +1,7 @@
 //! The bytes of a rules text that has a reader of its own.
 
-ghost use Rattle.std.specs.Prelude.{◌≡◌, ◌⊎◌, Some, Err, ◌<◌, ◌≤◌, ◌+◌, ℕ, List, true, IfOk, length, drop};
-ghost use Rattle.pfs_streams.specs.Feeds.{bound_of, unread, has_ended, read_failures, IsSpent};
+ghost use Rattle.std.specs.Prelude.{◌≡◌, Some, Err, ◌≤◌, ◌+◌, ℕ, List, true, IfOk, length, drop};
+ghost use Rattle.pfs_streams.specs.Feeds.{HasFailed, bound_of, unread, has_ended, read_failures};
 ghost use Rattle.pfs_streams.specs.Kept.{KeepsEnough, rules_limit};
 
 use crate::feeds::Feed;
@@ -28,7 +28,7 @@ pub fn read_rules<R: Read>(alloc: Global, rules: &mut Feed<R>) -> Result<Vec<u8>
     ensures few { (rs : List ℕ) → unread R.remaining rules.old ≡ Some rs → (k : ℕ) × (k ≤ rules_limit + 1) × (unread R.remaining rules.new ≡ Some (drop k rs)) }
 
     // A failed read is reported only where one failed or the bound is spent, and out of memory only where none failed.
-    ensures source { result ≡ Err RulesStop.Source → (0 < read_failures rules.new) ⊎ IsSpent rules.new }
+    ensures source { result ≡ Err RulesStop.Source → HasFailed rules.new }
     ensures memory { result ≡ Err RulesStop.Memory → read_failures rules.new ≡ 0 }
     ensures bound { bound_of rules.new ≡ bound_of rules.old }
 {

@@ -3,13 +3,13 @@
 ghost use Rattle.std.specs.Prelude.{◌≡◌, ◌⊎◌, ◌<◌, true, false, length, IfOk, OnOk, OnErr};
 ghost use Rattle.std.specs.Io.{WritesAtMost};
 ghost use Rattle.std.specs.Io.KnownBytes.{WriteAppends, Keeps};
-ghost use Rattle.pfs_streams.specs.Sinks.{SinkView, writer_of, write_failures, bytes_held, one_more, is_by_lines, is_unflushed, OwesNoFlush};
+ghost use Rattle.pfs_streams.specs.Sinks.{SinkView, writer_of, write_failures, bytes_held, flushes_of, one_more, is_by_lines, is_unflushed, OwesNoFlush};
 
 use std::io;
 use std::io::{Error, Write};
 use std::marker::Model;
 
-/// A writer, how often it failed, and whether it owes a flush. Nothing is kept back: each write goes to the writer.
+/// A writer, how often it failed and was asked to flush, and whether it owes a flush. Nothing is kept back: each write goes to the writer.
 ///
 /// A sink by lines is flushed after each text that `write_whole` writes, so that a reader sees each line as it comes.
 /// No contract of a writer can say that it was flushed. So "nothing is unflushed" is said here as far as it can be: a
@@ -18,6 +18,7 @@ use std::marker::Model;
 pub struct Sink<W> {
     writer: W,
     failures: u64,
+    flushes: u64,
     by_lines: bool,
     unflushed: bool,
 }
@@ -25,39 +26,41 @@ pub struct Sink<W> {
 impl<W> Model for Sink<W> {
     ghost Value = { SinkView W };
 
-    ghost view = { λ s. record { writer = s.writer; failures = s.failures; by_lines = s.by_lines; unflushed = s.unflushed } };
+    ghost view = { λ s. record { writer = s.writer; failures = s.failures; flushes = s.flushes; by_lines = s.by_lines; unflushed = s.unflushed } };
+}
+
+/// A sink of `writer` that has written nothing: by lines if that is asked for.
+pub fn sink_of<W>(by_lines: bool, writer: W) -> Sink<W>
+    ensures { result ≡ record { writer = writer; failures = 0; flushes = 0; by_lines = by_lines; unflushed = false } }
+{
+    Sink {
+        writer,
+        failures: 0,
+        flushes: 0,
+        by_lines,
+        unflushed: false,
+    }
 }
 
 impl<W> Sink<W> {
     /// A sink of `writer` that has written nothing and has not failed. It is flushed only where `flush` is called.
     pub fn new(writer: W) -> Sink<W>
         ensures writer { writer_of result ≡ writer }
-        ensures fresh { write_failures result ≡ 0 }
+        ensures fresh { (write_failures result ≡ 0) × (flushes_of result ≡ 0) }
         ensures by_lines { is_by_lines result ≡ false }
         ensures flushed { is_unflushed result ≡ false }
     {
-        Sink::fresh(writer, false)
+        sink_of(false, writer)
     }
 
     /// The same, but each text that `write_whole` writes is flushed at once.
     pub fn line_buffered(writer: W) -> Sink<W>
         ensures writer { writer_of result ≡ writer }
-        ensures fresh { write_failures result ≡ 0 }
+        ensures fresh { (write_failures result ≡ 0) × (flushes_of result ≡ 0) }
         ensures by_lines { is_by_lines result ≡ true }
         ensures flushed { is_unflushed result ≡ false }
     {
-        Sink::fresh(writer, true)
-    }
-
-    fn fresh(writer: W, by_lines: bool) -> Sink<W>
-        ensures { result ≡ record { writer = writer; failures = 0; by_lines = by_lines; unflushed = false } }
-    {
-        Sink {
-            writer,
-            failures: 0,
-            by_lines,
-            unflushed: false,
-        }
+        sink_of(true, writer)
     }
 
     /// How many writes failed or took 0 bytes of a slice that is not empty, and how many
@@ -102,6 +105,7 @@ impl<W: Write> Sink<W> {
         ensures takes_none { result ≡ Ok 0 → 0 < length bytes.now → write_failures self.new ≡ one_more (write_failures self.old) }
         ensures fails { OnErr result (write_failures self.new ≡ one_more (write_failures self.old)) }
         ensures by_lines { is_by_lines self.new ≡ is_by_lines self.old }
+        ensures flushes { flushes_of self.new ≡ flushes_of self.old }
         ensures unflushed { IfOk result (λ n. (0 < n → is_unflushed self.new ≡ true) × (n ≡ 0 → is_unflushed self.new ≡ is_unflushed self.old)) }
         ensures unwritten { OnErr result (is_unflushed self.new ≡ is_unflushed self.old) }
     {
@@ -118,16 +122,18 @@ impl<W: Write> Sink<W> {
         }
     }
 
-    /// One flush of the writer, whose answer is passed on. What was written stays. Takes no
-    /// memory of its own.
+    /// One flush of the writer, which is counted, up to the greatest `u64`. Its answer is passed on. What was written
+    /// stays. Takes no memory of its own.
     pub fn flush(&mut self) -> io::Result<()>
         ensures bytes { Keeps (bytes_held W.contents self.old) (bytes_held W.contents self.new) }
-        ensures flushes { OnOk result (write_failures self.new ≡ write_failures self.old) }
+        ensures still { OnOk result (write_failures self.new ≡ write_failures self.old) }
         ensures fails { OnErr result (write_failures self.new ≡ one_more (write_failures self.old)) }
         ensures by_lines { is_by_lines self.new ≡ is_by_lines self.old }
+        ensures flushes { flushes_of self.new ≡ one_more (flushes_of self.old) }
         ensures flushed { OnOk result (is_unflushed self.new ≡ false) }
         ensures unflushed { OnErr result (is_unflushed self.new ≡ is_unflushed self.old) }
     {
+        self.flushes = self.flushes.saturating_add(1);
         match self.writer.flush() {
             Ok(()) => {
                 self.unflushed = false;
@@ -145,6 +151,7 @@ impl<W: Write> Sink<W> {
         ensures fails { OnErr result (write_failures self.new ≡ one_more (write_failures self.old)) }
         ensures by_lines { is_by_lines self.new ≡ is_by_lines self.old }
         ensures owes { OnOk result (OwesNoFlush self.new) }
+        ensures asks { is_by_lines self.old ≡ true → is_unflushed self.old ≡ true → flushes_of self.new ≡ one_more (flushes_of self.old) }
         ensures untouched { is_by_lines self.old ≡ false → self.new ≡ self.old }
     {
         if self.by_lines && self.unflushed {

@@ -2,7 +2,7 @@
 
 ghost use Rattle.std.specs.Prelude.{◌≡◌, ◌≤◌, ◌<◌, Some, true, false, OnOk, OnErr, take, length, codes, ℕ};
 ghost use Rattle.std.specs.Io.KnownBytes.{Appends};
-ghost use Rattle.pfs_streams.specs.Sinks.{write_failures, bytes_held, one_more, is_by_lines, is_unflushed, OwesNoFlush};
+ghost use Rattle.pfs_streams.specs.Sinks.{write_failures, bytes_held, one_more, is_by_lines, is_unflushed, NotFlushed, OwesNoFlush};
 
 use crate::sinks::Sink;
 use std::io::Write;
@@ -31,6 +31,7 @@ pub fn write_whole<W: Write>(out: &mut Sink<W>, bytes: &[u8]) -> Result<(), Writ
     ensures err { OnErr result ((k : ℕ) × (k ≤ length bytes.now) × Appends (bytes_held W.contents out.old) (bytes_held W.contents out.new) (take k bytes.now)) }
     ensures fails { OnErr result (write_failures out.new ≡ one_more (write_failures out.old)) }
     ensures by_lines { is_by_lines out.new ≡ is_by_lines out.old }
+    ensures flushes { NotFlushed out.old out.new }
     ensures owes { OnOk result (OwesNoFlush out.new) }
     ensures kept_back { OnOk result (is_by_lines out.old ≡ false → 0 < length bytes.now → is_unflushed out.new ≡ true) }
 {

@@ -2,12 +2,13 @@
 use Rattle.std.proofs.Common.{◌≡◌, ◌+◌, ◌∙◌, List, Ok, Err, inr, sym, ap, arith, subst}
 use Rattle.std.proofs.lemmas.Result.{err_from_is_err_and}
 use Rattle.pfs_streams.specs.Feeds.{unread}
+use Rattle.pfs_streams.proofs.Flushing.{not-flushed}
 use Rattle.pfs_capture.specs.Aheads.{Aheads, frame_of}
 use Rattle.pfs_capture.specs.Captures.{seen_of}
 use Rattle.pfs_capture.specs.Merging.{captures_run}
 use Rattle.pfs_capture.specs.Runs.{judged_at}
 use Rattle.pfs_capture.specs.declared.faults.TraceStop.TheVariants as stop
-use Rattle.pfs_capture.proofs.Running.{captured-headers, captured-none, captured-run, counted, ends-asked, ends-end, ends-first, ends-many, ends-send, headers, kept-ok, sends-these, so_far-asked, so_far-frame, so_far-start}
+use Rattle.pfs_capture.proofs.Running.{captured-headers, captured-none, captured-run, counted, ends-asked, ends-before, ends-end, ends-many, ends-send, headers, kept-ok, sends-these, so_far-asked, so_far-frame, so_far-start}
 use Rattle.pfs_capture.proofs.Together.{chosen, chosen-here, none-comes, then-few, then-kept}
 use Rattle.pfs_capture.proofs.traces.write_trace.Goals as goal
 
@@ -48,6 +49,8 @@ loop-turn-init g c =
       reads = kept-ok _ _ c.in_ok-begin_all.ensures.sound;
       writes = kept-ok _ _ c.in_ok-send.ensures.first_write;
       tells = kept-ok _ _ c.in_ok-send.ensures.first_told;
+      rows_at_once = c.in_ok-send.ensures.rows_at_once;
+      answers_at_once = c.in_ok-send.ensures.answers_at_once;
       so_far = λ gs given.
           let begun = c.in_ok-begin_all.ensures.begin gs given in
           rw (is) (so_far-start (unread g.R.Read.remaining) gs _ _ _ _ c.begin_all.new.captures begun.0 (rw all.0 at trace) (rw all.1 at answers));
@@ -83,10 +86,16 @@ returns-in-None-clause-first_read g c = inr (kept-ok _ _ c.in_ok-ask_all.ensures
 pub returns-in_err-take_next-clause-tells : goal.returns-in_err-take_next-clause-tells
 returns-in_err-take_next-clause-tells g c gs given =
     let begun = c.in_ok-begin_all.ensures.begin gs given in
+    let rem = unread g.R.Read.remaining in
+    let run = captures_run gs in
+    let h = so_far-asked rem run _ _ _ _ c.loop-turn._turn c.loop-turn.account c.loop-turn.captures c.ask_all.new.captures
+    (c.loop-turn.invariant.so_far gs given) (λ runs a. c.in_ok-ask_all.ensures.ahead runs a) in
+    let next = chosen rem c.ask_all.new.captures h.runs 0 c.in-Some.place c.in_ok-ask_all.ensures.asked (sym c.in-Some.ensures.is) h.aheads in
     let f = c.in_err-take_next.field-0.0 in
     let p = err_from_is_err_and c.from_residual-in_err-take_next.result c.from_residual-in_err-take_next.ensures.1 in
     rw (p.1, p.2) (captured-run gs _ _ _ _ _ c.take_next.new.account (Err f) begun.1
-    (ends-first (unread g.R.Read.remaining) (captures_run gs) _ _ _ _ c.loop-turn._turn c.loop-turn.account c.take_next.new.account c.loop-turn.captures f (c.loop-turn.invariant.so_far gs given)
+    (ends-before rem run _ _ _ _ c.loop-turn._turn c.loop-turn.account c.take_next.new.account c.ask_all.new.captures
+    (judged_at next.capture.points.items (seen_of (frame_of next.capture.next) next.capture.held.items) next.capture.last) next.rest f h c.loop-turn-test.true next.comes
     c.in_err-take_next.ensures.kept c.in_err-take_next.ensures.fails))
 
 pub returns-in_err-take_next-clause-first_read : goal.returns-in_err-take_next-clause-first_read
@@ -130,6 +139,14 @@ returns-in_err-send-2-clause-first_told g c =
     let p = err_from_is_err_and c.from_residual-in_err-send-2.result c.from_residual-in_err-send-2.ensures.1 in
     rw (p.1, p.2) (then-few _ _ _ c.loop-turn.invariant.tells c.in_err-send-2.ensures.first_told)
 
+pub returns-in_err-send-2-clause-rows_at_once : goal.returns-in_err-send-2-clause-rows_at_once
+returns-in_err-send-2-clause-rows_at_once g c =
+    not-flushed c.args.out.now c.loop-turn.out c.send-in-loop-turn.new.out c.loop-turn.invariant.rows_at_once c.in_err-send-2.ensures.rows_at_once
+
+pub returns-in_err-send-2-clause-answers_at_once : goal.returns-in_err-send-2-clause-answers_at_once
+returns-in_err-send-2-clause-answers_at_once g c =
+    not-flushed c.args.answers.now c.loop-turn.answers c.send-in-loop-turn.new.answers c.loop-turn.invariant.answers_at_once c.in_err-send-2.ensures.answers_at_once
+
 pub loop-turn-preserved : goal.loop-turn-preserved
 loop-turn-preserved g c =
     let inv = c.loop-turn.invariant in
@@ -144,6 +161,8 @@ loop-turn-preserved g c =
       reads = c.in_ok-take_next.ensures.same ∙ (kept-ok _ _ c.in_ok-ask_all.ensures.sound ∙ inv.reads);
       writes = kept-ok _ _ c.in_ok-send-2.ensures.first_write ∙ inv.writes;
       tells = kept-ok _ _ c.in_ok-send-2.ensures.first_told ∙ inv.tells;
+      rows_at_once = not-flushed c.args.out.now c.loop-turn.out c.send-in-loop-turn.new.out inv.rows_at_once c.in_ok-send-2.ensures.rows_at_once;
+      answers_at_once = not-flushed c.args.answers.now c.loop-turn.answers c.send-in-loop-turn.new.answers inv.answers_at_once c.in_ok-send-2.ensures.answers_at_once;
       so_far = λ gs given.
           let run = captures_run gs in
           let h = so_far-asked rem run _ _ _ _ c.loop-turn._turn c.loop-turn.account c.loop-turn.captures c.ask_all.new.captures

@@ -2,7 +2,7 @@
 -- of the frames so far.
 use Rattle.std.proofs.Common.{◌≡◌, ◌≤◌, List}
 use Rattle.pfs_streams.specs.Feeds.{unread}
-use Rattle.pfs_streams.specs.Sinks.{bytes_held, write_failures}
+use Rattle.pfs_streams.specs.Sinks.{NotFlushed, bytes_held, write_failures}
 use Rattle.pfs_capture.specs.Accounts.{AddsUp}
 use Rattle.pfs_capture.specs.Merging.{Given, captures_run}
 use Rattle.pfs_capture.specs.Readers.{AreGiven, failures_of}
@@ -16,6 +16,8 @@ invariant-loop-turn g l = record {
   reads : failures_of l.captures ≡ failures_of l.fn.captures;
   writes : write_failures l.out ≡ write_failures l.fn.out;
   tells : write_failures l.answers ≡ write_failures l.fn.answers;
+  rows_at_once : NotFlushed l.fn.out l.out;
+  answers_at_once : NotFlushed l.fn.answers l.answers;
   so_far : (gs : List Given) → AreGiven (unread g.R.Read.remaining) l.fn.captures gs
       → SoFar (unread g.R.Read.remaining) (captures_run gs) (bytes_held g.W.Write.contents l.fn.out) (bytes_held g.W.Write.contents l.out)
       (bytes_held g.T.Write.contents l.fn.answers) (bytes_held g.T.Write.contents l.answers) l._turn l.account l.captures;

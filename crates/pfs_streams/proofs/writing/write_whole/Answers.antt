@@ -11,4 +11,5 @@ loop-at-preserved g c =
       search rules,
       search rules,
       search rules,
+      search rules,
     )
