@@ -68,12 +68,7 @@ pub(crate) fn answer<S: Store>(
 
 /// What has the key of a packet, once a state has left that the packet does not meet: one that has closed, of a SYN, under the
 /// profile of OpenBSD 7.4. It takes no memory. (pf of OpenBSD 7.4, as it is remembered)
-fn meet<S: Store>(
-    held: &mut Held<S>,
-    packet: &Packet,
-    now: u64,
-    looks: &mut Meter,
-) -> Option<Found>
+fn meet<S: Store>(held: &mut Held<S>, packet: &Packet, now: u64, looks: &mut Meter) -> Option<Found>
     requires moment { now ≤ 2 ^ 63 }
     requires looks { looks.old ≡ 0 }
     ensures held { Holds held.old held.new (held_for held.old.config held.old.held packet.now now) }
