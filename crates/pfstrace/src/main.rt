@@ -4,14 +4,13 @@
 #![tactic(auto)]
 
 ghost use Rattle.std.specs.Prelude.{◌<◌, ◌≤◌, length};
-ghost use Rattle.pfs_streams.specs.Sinks.{OwesNoFlush};
 
 use clap::error::ErrorKind;
 use clap::{Arg, ArgAction, ArgMatches, Command, Error};
 use pfs_addr::parse_prefix;
 use pfs_addr_values::{Prefix, parse_ifname};
 use pfs_capture::{
-    Account, Capture, CapturePoint, Feed, FileFault, Mac, Side, Sink, TraceStop, parse_mac, status,
+    Account, Capture, CapturePoint, Feed, FileFault, Mac, Side, TraceStop, parse_mac, sink_of, status,
     write_trace,
 };
 use std::alloc::{AllocError, Global};
@@ -22,9 +21,6 @@ use std::process::ExitCode;
 
 /// What `--version` prints after the program's name.
 const VERSION: &str = "0.1.0";
-
-/// The most reads of a capture, more than a run can make.
-const READS: u64 = u64::MAX;
 
 /// Why the words are refused.
 #[derive(Drop)]
@@ -396,24 +392,13 @@ impl Read for Input {
 fn open_all(rt: &HostRuntime, sources: Vec<Source<'_>>) -> Result<Vec<Capture<Input>>, TraceStop> {
     let mut captures = Vec::new(rt.alloc());
     for source in sources {
-        let reader = Feed::new(Input::open(rt, source.name)?, READS);
+        let reader = Feed::of_capture(Input::open(rt, source.name)?);
         let capture = Capture::new(rt.alloc(), source.points, reader);
         if captures.push(capture).is_err() {
             return Err(TraceStop::Memory);
         }
     }
     Ok(captures)
-}
-
-/// A sink of this writer: by lines, if that is asked for.
-fn sink_of<W>(writer: W, by_lines: bool) -> Sink<W>
-    ensures { OwesNoFlush result }
-{
-    if by_lines {
-        Sink::line_buffered(writer)
-    } else {
-        Sink::new(writer)
-    }
 }
 
 /// Where the capture was taken, as the words say.
@@ -525,8 +510,8 @@ fn trace_into<T: Write + Drop>(
     let Ok(out) = BufWriter::new(rt.alloc(), io::writer(rt)) else {
         return tell_stop(rt, &TraceStop::Memory, 0);
     };
-    let mut out = sink_of(out, by_lines);
-    let mut answers = sink_of(answers, by_lines);
+    let mut out = sink_of(by_lines, out);
+    let mut answers = sink_of(by_lines, answers);
     let mut account = Account::new();
     let ended = write_trace(rt.alloc(), captures, &mut out, &mut answers, &mut account);
     // At a fault the rows before it are to be seen all the same.
