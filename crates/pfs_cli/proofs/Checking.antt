@@ -1,5 +1,5 @@
 -- What is reported of a rules text alone.
-use Rattle.std.proofs.Common.{◌∙◌, ◌≡◌, ◌≢◌, ◌++◌, ℕ, List, [], Option, Result, Ok, Err, false, refl, sym, subst, inl, inr}
+use Rattle.std.proofs.Common.{◌∙◌, ◌≡◌, ◌≢◌, ◌++◌, ℕ, List, [], Option, Result, Ok, Err, arith, false, refl, sym, subst, inl, inr}
 use Rattle.std.specs.Prelude.{OnOk, OnErr, IfErr}
 use Rattle.std.specs.Io.KnownBytes.{Appends}
 use Rattle.pfs_conf_values.specs.Configs.{Conf}
@@ -12,7 +12,11 @@ use Rattle.pfs_cli.specs.declared.faults.ReplayFault.TheVariants as fault
 use Rattle.pfs_cli.specs.Refusing.{IsFeedFault, RefusesText, fault_by, fault_of}
 use Rattle.pfs_cli.specs.Checks.{Answers}
 use Rattle.pfs_cli.specs.Replays.{ShowsLines}
-use Rattle.pfs_streams.specs.Sinks.{SinkView, OwesNoFlush, is_unflushed}
+use Rattle.pfs_streams.specs.Sinks.{SinkView, FlushedOnce, OwesNoFlush, is_unflushed, one_more}
+
+-- one flush is counted
+pub asked-once : {W : Type 0} (a b : SinkView W) → b.flushes ≡ one_more a.flushes → FlushedOnce a b
+asked-once a b asked e = grind (arith, asked)
 
 -- no fault of rules is one of writing
 pub refused-no_write : (f : LoadFault) → fault_of f ≢ fault.Write

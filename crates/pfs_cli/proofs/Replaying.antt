@@ -1,4 +1,5 @@
 -- From the records of a trace to a replay, and what is kept of a rules text.
+use borrow.Author.Tests.{clash}
 use Rattle.std.proofs.Common.{◌≡◌, ◌≢◌, ◌≤◌, ◌<◌, ◌∙◌, ℕ, List, [], length, Option, Some, None, Bool, true, false, refl, sym, ap, subst, arith, inl, inr}
 use Rattle.std.specs.Prelude.{Ok, Err, nat_lt}
 use Rattle.std.specs.Fmt.{option_append}
@@ -18,6 +19,7 @@ use Rattle.pfs_conf.specs.Reads.{Reads}
 use Rattle.pfs_conf.specs.Faults.{IsFault, memory, long, breaks, stops}
 use Rattle.pfs_cli.specs.declared.records.Stop.TheVariants as stop
 use Rattle.pfs_cli.specs.Faults.{replay_fault}
+use Rattle.pfs_streams.specs.Feeds.{FeedView, IsSound}
 use Rattle.pfs_streams.specs.Kept.{KeepsEnough, rules_limit}
 use Rattle.pfs_cli.specs.Rules.{AreRefused}
 use Rattle.pfs_cli_formats.specs.Reports.{AreFirstLines, BeginsReport}
@@ -60,6 +62,10 @@ rules-cut rs ts f kind = elim kind [
   | inl e ↦ rw e (inl refl)
   | inr m ↦ elim m [ inl e ↦ rw e (inl refl) | inr e ↦ rw e (inl refl) ]
 ]
+
+-- a feed that ended, and did not fail, is sound
+pub ended-sound : {R : Type 0} (f : FeedView R) → f.ended ≡ true → f.failures ≡ 0 → IsSound f
+ended-sound f ended none = (none, λ spent. absurd (clash (sym spent.1 ∙ ended)))
 
 -- a text that is no longer than it may be is kept whole
 pub kept-short : (kept text : List ℕ) → KeepsEnough kept text → length kept ≤ rules_limit → kept ≡ text

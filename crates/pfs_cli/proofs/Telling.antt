@@ -1,7 +1,7 @@
 -- What holds between two records of a run, and how a run ends.
 use borrow.Author.Tests.{clash}
 use Rattle.std.proofs.Common.{◌≡◌, ◌≤◌, ◌<◌, ◌+◌, ◌++◌, ◌∙◌, ℕ, List, [], ◌∷◌, length, take, drop, Option, Some, None, true, false, refl, sym, ap, arith, subst, append_assoc, length-append, inl, inr}
-use Rattle.std.specs.Prelude.{Result, Ok, Err, nat_lt, option_map}
+use Rattle.std.specs.Prelude.{◌⊎◌, Result, Ok, Err, nat_lt, option_map}
 use Rattle.std.proofs.lemmas.List.{append-nil, take-append-drop}
 use Rattle.std.proofs.Math.Seq.{take-append_seam}
 use Rattle.std.proofs.lemmas.Bool.Decides.{nat_tests}
@@ -20,7 +20,7 @@ use Rattle.pfs_conf_values.specs.Configs.{Conf}
 use Rattle.pfs_engine_machine.specs.declared.events.Event.{Event}
 use Rattle.pfs_engine_machine.specs.Machine.{Machine, start, step, outcomes_of, machine_after}
 use Rattle.pfs_engine.specs.Views.{View}
-use Rattle.pfs_streams.specs.Sinks.{SinkView, OwesNoFlush}
+use Rattle.pfs_streams.specs.Sinks.{SinkView, NotFlushed, OwesNoFlush}
 use Rattle.pfs_trace.specs.declared.faults.TraceFault.{TraceFault}
 use Rattle.pfs_trace.specs.declared.faults.TraceFault.TheVariants as fault
 use Rattle.pfs_cli.specs.declared.records.Stop.{Stop}
@@ -32,7 +32,7 @@ use Rattle.pfs_trace.specs.Traces.{Fields, Trace, events_from, events_of, trace_
 use Rattle.pfs_trace.specs.Reading.{records_left, records_of}
 use Rattle.pfs_cli_formats.specs.Reports.{lines_from, lines_of, end_line_of, report, report_of, AreFirstLines, BeginsReport}
 use Rattle.pfs_cli.specs.Headers.{ReadsHeader}
-use Rattle.pfs_cli.specs.Turns.{Tells, TellsRows, WritesLine, TakesEvent, TakesRecord}
+use Rattle.pfs_cli.specs.Turns.{Tells, TellsRows, WantsMemory, WritesLine, TakesEvent, TakesRecord}
 use Rattle.pfs_trace.proofs.Rest.{records_left-more, records_left-end}
 use Rattle.pfs_cli_formats.proofs.Runs.{machine_after-more, lines_of-more, lines_of-none, outcomes-front, lines_from-front}
 use Rattle.pfs_trace.proofs.Stepping.{last-step}
@@ -170,7 +170,7 @@ pub rows-told : (conf : Conf) (trace : Trace) (t : List ℕ) (r : Result Unit St
 rows-told conf trace t (Ok u) told = told
 rows-told conf trace t (Err (stop.Fault f)) told = told
 rows-told conf trace t (Err stop.Source) told = told
-rows-told conf trace t (Err stop.Memory) (k, lines, more) = (k, lines)
+rows-told conf trace t (Err stop.Memory) told = inl told
 rows-told conf trace t (Err stop.Write) told = told
 
 first-text : {S : Type 0} (rem : S → Option (List ℕ)) (conf : Conf) (trace : Trace) (before now : Option (List ℕ)) (rows : ℕ) (m : Machine) (a : Reader S) (h : ToldSoFar rem conf trace before now rows m a)
@@ -318,12 +318,13 @@ ends-record rem conf trace before now after rows m v a b f stop.Write t h config
     )
 
 -- the loop's invariant
-pub record Running {S W : Type 0} (rem : S → Option (List ℕ)) (begun : Reader S) (first : View) (before now : Option (List ℕ)) (out : SinkView W) (rows : ℕ) (v : View) (rdr : Reader S) : Type 0 where
+pub record Running {S W : Type 0} (rem : S → Option (List ℕ)) (begun : Reader S) (first : View) (before now : Option (List ℕ)) (held out : SinkView W) (rows : ℕ) (v : View) (rdr : Reader S) : Type 0 where
   pub plain : rdr.trim ≡ trim.None
   pub ready : Ready rdr
   pub config : rdr.config ≡ default_config
   pub flexible : rdr.flexible ≡ true
   pub passed_on : OwesNoFlush out
+  pub at_once : NotFlushed held out
   pub rules : v.config ≡ first.config
   pub within : rows ≤ run_limit
   pub taken : v.taken ≤ rows
@@ -386,6 +387,11 @@ at-start rem src a b xs e source start same = (
 -- a run that stopped before the first record
 pub no-lines : (conf : Conf) (trace : Trace) → AreFirstLines conf trace []
 no-lines conf trace = (0, sym (lines_of-none conf))
+
+-- what is written where memory is refused
+pub memory-lines : (conf : Conf) (trace : Trace) (t : List ℕ) → WantsMemory conf trace t ⊎ (t ≡ []) → AreFirstLines conf trace t
+memory-lines conf trace t (inl (k, lines, more)) = (k, lines)
+memory-lines conf trace t (inr none) = subst (AreFirstLines conf trace) (sym none) (no-lines conf trace)
 
 -- a record whose event was taken
 pub takes-event : (conf : Conf) (row : ℕ) (m : Machine) (f : Fields) (e : Event) (t : List ℕ) (r : Result Unit Stop) (v : Machine) → event_at conf row m.last f ≡ Ok e

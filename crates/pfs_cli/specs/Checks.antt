@@ -2,9 +2,9 @@
 use Rattle.std.specs.Prelude.{◌≡◌, ◌++◌, ◌<◌, ◌≤◌, ◌+◌, ℕ, List, [], codes, drop, length, Option, Some, Result, Ok, Err}
 use Rattle.std.specs.Fmt.{decimal}
 use Rattle.std.specs.Io.KnownBytes.{Appends}
-use Rattle.pfs_streams.specs.Feeds.{FeedView, IsSpent, bound_of, read_failures, unread}
+use Rattle.pfs_streams.specs.Feeds.{FeedView, IsSound, IsSpent, bound_of, read_failures, unread}
 use Rattle.pfs_streams.specs.Kept.{rules_limit}
-use Rattle.pfs_streams.specs.Sinks.{SinkView, OwesNoFlush, bytes_held, write_failures}
+use Rattle.pfs_streams.specs.Sinks.{SinkView, FlushedOnce, OwesNoFlush, bytes_held, write_failures}
 use Rattle.pfs_conf_values.specs.Configs.{Conf, entry_count_of}
 use Rattle.pfs_conf.specs.Reads.{Reads}
 use Rattle.pfs_conf.specs.declared.faults.LoadFault.{LoadFault}
@@ -51,8 +51,9 @@ pub record TellsRules {R W : Type 0} (remaining : R → Option (List ℕ)) (cont
   pub read : result ≡ Err fault.Read → 0 < read_failures after
   pub endless : result ≡ Err fault.Endless → IsSpent after
   pub write : result ≡ Err fault.Write → 0 < write_failures left
-  pub memory : result ≡ Err fault.Memory → read_failures after ≡ 0
-  -- refused rules leave nothing written, the feed keeps its bound, and by lines what was written is flushed
+  pub memory : result ≡ Err fault.Memory → IsSound after
+  -- refused rules leave nothing written, the feed keeps its bound, by lines what was written is flushed, else there is at most one flush
   pub unwritten : (f : LoadFault) → result ≡ Err (fault.Rules f) → left ≡ held
   pub bound : bound_of after ≡ bound_of before
+  pub flushes : FlushedOnce held left
   pub shows : OwesNoFlush held → ShowsLines left result

@@ -47,11 +47,11 @@ abbrev pub TellsRulesAlone : List ℕ → Result Unit ReplayFault → Type 0
 TellsRulesAlone rules (Ok u) = ⊥
 TellsRulesAlone rules (Err f) = RefusesText rules f
 
--- how a run that stopped is reported: a faulty record by its fault; where memory was refused as that, or as a read that failed
+-- how a run that stopped is reported: a faulty record by its fault; where memory was refused as that, or by what failed of its feed
 abbrev pub AnswersStop : Stop → ReplayFault → Type 0
 AnswersStop (stop.Fault f) answer = answer ≡ replay_fault f
 AnswersStop stop.Source answer = IsFeedFault answer
-AnswersStop stop.Memory answer = (answer ≡ fault.Memory) ⊎ (answer ≡ fault.Read)
+AnswersStop stop.Memory answer = IsFeedFault answer
 AnswersStop stop.Write answer = answer ≡ fault.Write
 
 -- the same of how a run ended

@@ -29,17 +29,17 @@ abbrev pub TakesRecord : Conf → ℕ → Machine → List (List ℕ) → List �
 TakesRecord conf row m fields text (Err (stop.Fault f)) after = (event_at conf row m.last fields ≡ Err f) × (text ≡ [])
 TakesRecord conf row m fields text result after = (e : Event) × (event_at conf row m.last fields ≡ Ok e) × TakesEvent conf row m e text result after
 
--- what is written of the report, by how the run ends
+-- out of memory is told of a record that has an event, or behind the last one, never of a faulty one
+abbrev pub WantsMemory : Conf → Trace → List ℕ → Type 0
+WantsMemory conf trace text = (k : ℕ) × (text ≡ lines_of conf (take k trace.0)) × ((k < length trace.0) ⊎ (trace.1 ≡ None))
+
+-- what is written of the report, by how the run ends; memory may be refused before a record is read
 abbrev pub Tells : Conf → Trace → List ℕ → Result Unit Stop → Type 0
 Tells conf trace text (Ok u) = (trace.1 ≡ None) × (text ≡ report conf trace)
 Tells conf trace text (Err (stop.Fault f)) = (trace.1 ≡ Some f) × (text ≡ report conf trace)
 Tells conf trace text (Err stop.Source) = AreFirstLines conf trace text
-Tells conf trace text (Err stop.Memory) = AreFirstLines conf trace text
+Tells conf trace text (Err stop.Memory) = WantsMemory conf trace text ⊎ (text ≡ [])
 Tells conf trace text (Err stop.Write) = BeginsReport conf trace text
-
--- out of memory is told of a record that has an event, or behind the last one, never of a faulty one
-abbrev pub WantsMemory : Conf → Trace → List ℕ → Type 0
-WantsMemory conf trace text = (k : ℕ) × (text ≡ lines_of conf (take k trace.0)) × ((k < length trace.0) ⊎ (trace.1 ≡ None))
 
 -- what is written of the records behind the header, by how the run ends
 abbrev pub TellsRows : Conf → Trace → List ℕ → Result Unit Stop → Type 0

@@ -3,7 +3,7 @@
 ghost use Rattle.std.specs.Prelude.{◌≡◌, ◌++◌, ◌<◌, false, ℕ, List, IfOk, IfErr, OnOk, OnErr, string_bytes};
 ghost use Rattle.std.specs.Io.KnownBytes.{Appends, Keeps};
 ghost use Rattle.pfs_streams.specs.Feeds.{IsFresh};
-ghost use Rattle.pfs_streams.specs.Sinks.{bytes_held, is_unflushed, write_failures};
+ghost use Rattle.pfs_streams.specs.Sinks.{FlushedOnce, bytes_held, is_unflushed, write_failures};
 ghost use Rattle.pfs_conf_show.specs.Texts.{text_of};
 ghost use Rattle.pfs_cli.specs.Checks.{TellsRules, counts_text, wanted_text};
 
@@ -101,6 +101,7 @@ fn write_text<W: Write>(out: &mut Sink<W>, bytes: &[u8]) -> Result<(), ReplayFau
     ensures kind { IfErr result (λ f. f ≡ ReplayFault.Write) }
     ensures fails { OnErr result (0 < write_failures out.new) }
     ensures flushed { OnOk result (is_unflushed out.new ≡ false) }
+    ensures flushes { FlushedOnce out.old out.new }
 {
     match write_whole(out, bytes) {
         Ok(()) => flushed(out),
@@ -114,6 +115,7 @@ fn flushed<W: Write>(out: &mut Sink<W>) -> Result<(), ReplayFault>
     ensures kind { IfErr result (λ f. f ≡ ReplayFault.Write) }
     ensures fails { OnErr result (0 < write_failures out.new) }
     ensures flushed { OnOk result (is_unflushed out.new ≡ false) }
+    ensures flushes { FlushedOnce out.old out.new }
 {
     match out.flush() {
         Ok(()) => Ok(()),

@@ -18,7 +18,7 @@ pub enum ReplayFault {
     Field(u64, u8),
     /// The moment of the record of this row is before that of the record before it.
     TimeFell(u64),
-    /// The record of this row takes entries out of a table that the rules do not name, or that is `const`.
+    /// The record of this row changes a table that the rules do not name, or that is `const`.
     Table(u64),
     /// There are more than 1,000,000,000 records.
     TooManyRows,

@@ -1,18 +1,18 @@
 //! A replay of rules and a trace that are in one text.
 
-ghost use Rattle.std.specs.Prelude.{◌≡◌, ◌≢◌, ◌⊎◌, Some, Ok, Err, ◌<◌, ℕ, List, IfOk, IfErr, OnErr};
+ghost use Rattle.std.specs.Prelude.{◌≡◌, ◌⊎◌, Some, Ok, Err, ◌<◌, ℕ, List, IfOk, IfErr, OnErr};
 ghost use Rattle.std.specs.Io.KnownBytes.{Appends};
-ghost use Rattle.pfs_streams.specs.Feeds.{bound_of, unread, IsSpent, reads_of, read_failures};
-ghost use Rattle.pfs_streams.specs.Sinks.{OwesNoFlush, bytes_held, write_failures};
+ghost use Rattle.pfs_streams.specs.Feeds.{IsSound, IsSpent, bound_of, unread, reads_of, read_failures};
+ghost use Rattle.pfs_streams.specs.Sinks.{FlushedOnce, NotFlushed, OwesNoFlush, bytes_held, write_failures};
 ghost use Rattle.pfs_conf.specs.declared.faults.LoadFault.{LoadFault};
 ghost use Rattle.pfs_cli.specs.Rules.{AreRefused};
 ghost use Rattle.pfs_cli.specs.Replays.{Replays, ShowsLines, WaitsForRead};
-ghost use Rattle.pfs_cli.specs.Refusing.{RefusesRules, RefusesText};
+ghost use Rattle.pfs_cli.specs.Refusing.{RefusesRules};
 ghost use Rattle.pfs_cli.specs.Turns.{PassedOn};
 ghost use Rattle.pfs_cli.specs.Halting.{IsHalt, RefusesWithin, TellsWithin};
 ghost use Rattle.pfs_streams.specs.Joined.{split_joined};
 
-use crate::endings::{feed_fault, finish, memory_fault};
+use crate::endings::{feed_fault, finish, rules_fault};
 use crate::faults::ReplayFault;
 use crate::records::Stop;
 use crate::replays::FIRST_READ;
@@ -44,6 +44,7 @@ fn tell_joined<S: Read + Drop, W: Write>(
     ensures unwritten { OnErr result (out.new ≡ out.old) }
     ensures fails { result ≡ Ok (Err Stop.Write) → 0 < write_failures out.new }
     ensures passed_on { IfOk result (PassedOn out.new) }
+    ensures flushes { NotFlushed out.old out.new }
 {
     let Ok(mut reader) = BufReader::new(alloc, source) else {
         return Err(Halt::Fault(ReplayFault::Memory));
@@ -59,19 +60,6 @@ fn tell_joined<S: Read + Drop, W: Write>(
     }
 }
 
-/// The fault of rules that are refused, or where memory was. A failed read is never told as that.
-fn halt_fault<R>(fault: ReplayFault, feed: &Feed<R>) -> ReplayFault
-    ensures told { (rs : List ℕ) → RefusesRules rs fault → RefusesText rs result }
-    ensures read { result ≡ ReplayFault.Read → 0 < read_failures feed.now }
-    ensures memory { result ≡ ReplayFault.Memory → read_failures feed.now ≡ 0 }
-    ensures others { (result ≢ ReplayFault.Endless) × (result ≢ ReplayFault.Write) }
-{
-    match fault {
-        ReplayFault::Rules(_) => fault,
-        _ => memory_fault(feed),
-    }
-}
-
 /// Replays the trace that follows the rules in one text, and writes its report.
 ///
 /// The rules are the bytes before the first line that is exactly `%%`, and the trace is what follows that line. Without
@@ -80,8 +68,7 @@ fn halt_fault<R>(fault: ReplayFault, feed: &Feed<R>) -> ReplayFault
 ///
 /// Nothing is written before the text has been read.
 ///
-/// What is written, also of entries that expire, each fault, and the memory are as `replay` says of the
-/// two parts.
+/// What is written, each fault, and the memory are as `replay` says of the two parts.
 pub fn replay_joined<R: Read, W: Write>(
     alloc: Global,
     input: &mut Feed<R>,
@@ -96,8 +83,9 @@ pub fn replay_joined<R: Read, W: Write>(
     ensures read { result ≡ Err ReplayFault.Read → 0 < read_failures input.new }
     ensures endless { result ≡ Err ReplayFault.Endless → IsSpent input.new }
     ensures write { result ≡ Err ReplayFault.Write → 0 < write_failures out.new }
-    ensures memory { result ≡ Err ReplayFault.Memory → read_failures input.new ≡ 0 }
+    ensures memory { result ≡ Err ReplayFault.Memory → IsSound input.new }
     ensures waits { WaitsForRead input.old input.new out.old out.new }
+    ensures flushes { FlushedOnce out.old out.new }
     ensures bound { bound_of input.new ≡ bound_of input.old }
     ensures shows { ShowsLines out.new result }
 {
@@ -109,11 +97,11 @@ pub fn replay_joined<R: Read, W: Write>(
     let begun = input.reads();
     let mut lent = first[..n].chain(input.lend());
     let told = tell_joined(alloc, &mut lent, out);
-    let reads = lent.into_inner().1.reads();
-    input.resume(begun, reads);
+    let back = lent.into_inner().1.give_back(begun);
+    input.resume(back);
     match told {
         Ok(outcome) => finish(outcome, input, out),
         Err(Halt::Source) => Err(feed_fault(input)),
-        Err(Halt::Fault(fault)) => Err(halt_fault(fault, input)),
+        Err(Halt::Fault(fault)) => Err(rules_fault(fault, input)),
     }
 }

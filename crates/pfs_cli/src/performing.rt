@@ -2,8 +2,8 @@
 
 ghost use Rattle.std.specs.Prelude.{◌≡◌, ◌⊎◌, Some, Err, ◌<◌, ◌≤◌, ◌+◌, ℕ, List, drop, true};
 ghost use Rattle.std.specs.Io.KnownBytes.{Appends};
-ghost use Rattle.pfs_streams.specs.Feeds.{bound_of, unread, has_ended, IsFresh, IsSpent, reads_of, read_failures};
-ghost use Rattle.pfs_streams.specs.Sinks.{OwesNoFlush, bytes_held, write_failures};
+ghost use Rattle.pfs_streams.specs.Feeds.{bound_of, unread, has_ended, IsFresh, IsSound, IsSpent, reads_of, read_failures};
+ghost use Rattle.pfs_streams.specs.Sinks.{FlushedOnce, OwesNoFlush, bytes_held, write_failures};
 ghost use Rattle.pfs_conf.specs.declared.faults.LoadFault.{LoadFault};
 ghost use Rattle.pfs_streams.specs.Kept.{rules_limit};
 ghost use Rattle.pfs_cli.specs.Rules.{AreRefused};
@@ -45,12 +45,13 @@ pub fn perform<R: Read, T: Read, W: Write>(
     ensures read { result ≡ Err ReplayFault.Read → (0 < read_failures rules.new) ⊎ (0 < read_failures trace.new) }
     ensures endless { result ≡ Err ReplayFault.Endless → IsSpent rules.new ⊎ IsSpent trace.new }
     ensures write { result ≡ Err ReplayFault.Write → 0 < write_failures out.new }
-    ensures memory { result ≡ Err ReplayFault.Memory → (read_failures rules.new ≡ 0) × ((trace.new ≡ trace.old) ⊎ (read_failures trace.new ≡ 0)) }
+    ensures memory { result ≡ Err ReplayFault.Memory → IsSound rules.new × ((trace.new ≡ trace.old) ⊎ IsSound trace.new) }
     ensures rules_alone { OfReplay job.now ((rs : List ℕ) → unread R.remaining rules.old ≡ Some rs → HasNoRules rs → TellsRulesAlone rs result × (trace.new ≡ trace.old)) }
     ensures unwritten { (f : LoadFault) → result ≡ Err (ReplayFault.Rules f) → out.new ≡ out.old }
     ensures trace_waits { OfReplay job.now (WaitsForRead trace.old trace.new out.old out.new) }
     ensures input_waits { OfJoined job.now (WaitsForRead rules.old rules.new out.old out.new) }
     ensures bounds { (bound_of rules.new ≡ bound_of rules.old) × (bound_of trace.new ≡ bound_of trace.old) }
+    ensures flushes { FlushedOnce out.old out.new }
     ensures shows { ShowsLines out.new result }
 {
     match job {

@@ -6,7 +6,7 @@ ghost use Rattle.csv.specs.Reading.{Ready, ReadRecord, source_of, reader_trim, r
 ghost use Rattle.csv.specs.declared.reader.Trim.TheVariants as trim;
 ghost use Rattle.csv.specs.Records.{fields_of};
 ghost use Rattle.pfs_addr_values.specs.Packets.{run_limit};
-ghost use Rattle.pfs_streams.specs.Sinks.{OwesNoFlush, bytes_held, write_failures as failures_of};
+ghost use Rattle.pfs_streams.specs.Sinks.{NotFlushed, OwesNoFlush, bytes_held, write_failures as failures_of};
 ghost use Rattle.pfs_cli_formats.specs.Lines.{row_text, end_text};
 ghost use Rattle.std.specs.Option.{ForSome};
 ghost use Rattle.pfs_engine_machine.specs.Machine.{start, step};
@@ -45,6 +45,7 @@ fn send<W: Write>(line: &[u8], out: &mut Sink<W>) -> Result<(), Stop>
     ensures writes { (t : List ℕ) × Appends (bytes_held W.contents out.old) (bytes_held W.contents out.new) t × WritesLine line.now t result }
     ensures fails { result ≡ Err (Stop.Write) → 0 < failures_of out.new }
     ensures passed_on { PassedOn out.new result }
+    ensures flushes { NotFlushed out.old out.new }
 {
     match write_whole(out, line) {
         Ok(()) => Ok(()),
@@ -63,6 +64,7 @@ fn write_row<W: Write>(
     ensures writes { (t : List ℕ) × Appends (bytes_held W.contents out.old) (bytes_held W.contents out.new) t × WritesLine (row_text row outcome.now) t result }
     ensures fails { result ≡ Err (Stop.Write) → 0 < failures_of out.new }
     ensures passed_on { PassedOn out.new result }
+    ensures flushes { NotFlushed out.old out.new }
 {
     line.clear();
     match push_outcome(line, row, outcome) {
@@ -88,6 +90,7 @@ fn write_end<W: Write>(end: EndLine, room: &mut Vec<u8>, out: &mut Sink<W>) -> R
         × WritesLine (end_text end.rows end.held.states end.held.nodes end.held.entries) t result }
     ensures fails { result ≡ Err (Stop.Write) → 0 < failures_of out.new }
     ensures passed_on { PassedOn out.new result }
+    ensures flushes { NotFlushed out.old out.new }
 {
     room.clear();
     match push_end(room, &end) {
@@ -115,6 +118,7 @@ fn take_event<H: Store, W: Write>(
         × TakesEvent engine.old.config row engine.old.machine event.now t result engine.new.machine }
     ensures fails { result ≡ Err (Stop.Write) → 0 < failures_of out.new }
     ensures passed_on { PassedOn out.new result }
+    ensures flushes { NotFlushed out.old out.new }
 {
     match engine.step(event) {
         Ok(outcome) => write_row(row, &outcome, line, out),
@@ -138,6 +142,7 @@ fn take_record<H: Store, W: Write>(
         × TakesRecord engine.old.config row engine.old.machine (fields_of fields.now) t result engine.new.machine }
     ensures fails { result ≡ Err (Stop.Write) → 0 < failures_of out.new }
     ensures passed_on { PassedOn out.new result }
+    ensures flushes { NotFlushed out.old out.new }
 {
     match &read_event(row, engine.last(), engine.config(), fields) {
         Ok(event) => take_event(row, event, engine, line, out),
@@ -220,6 +225,7 @@ fn tell_rows<H: Store, S: Read, W: Write>(
         × TellsRows engine.old.config (events_from engine.old.config 0 None (records_left default_config (reader_state reader.old) xs)) t result) }
     ensures fails { result ≡ Err (Stop.Write) → 0 < failures_of out.new }
     ensures passed_on { PassedOn out.new result }
+    ensures flushes { NotFlushed out.old out.new }
     ensures source { result ≡ Err (Stop.Source) → has_failed reader.new ≡ true }
 {
     for rows in 0..=RUN_LIMIT {
@@ -255,6 +261,7 @@ pub(crate) fn tell_records<H: Store, S: Read + Drop, W: Write>(
         × Tells engine.old.config (events_of engine.old.config (records_of xs)) t result) }
     ensures fails { result ≡ Err (Stop.Write) → 0 < failures_of out.new }
     ensures passed_on { PassedOn out.new result }
+    ensures flushes { NotFlushed out.old out.new }
 {
     let mut reader = ReaderBuilder::new()
         .flexible(true)

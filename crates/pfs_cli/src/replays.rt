@@ -2,8 +2,8 @@
 
 ghost use Rattle.std.specs.Prelude.{◌≡◌, ◌⊎◌, Some, Err, ◌<◌, ◌≤◌, ◌+◌, ℕ, List, true, drop};
 ghost use Rattle.std.specs.Io.KnownBytes.{Appends};
-ghost use Rattle.pfs_streams.specs.Feeds.{bound_of, unread, has_ended, IsFresh, IsSpent, reads_of, read_failures};
-ghost use Rattle.pfs_streams.specs.Sinks.{OwesNoFlush, bytes_held, write_failures};
+ghost use Rattle.pfs_streams.specs.Feeds.{bound_of, unread, has_ended, IsFresh, IsSound, IsSpent, reads_of, read_failures};
+ghost use Rattle.pfs_streams.specs.Sinks.{FlushedOnce, OwesNoFlush, bytes_held, write_failures};
 ghost use Rattle.pfs_conf.specs.declared.faults.LoadFault.{LoadFault};
 ghost use Rattle.pfs_streams.specs.Kept.{rules_limit};
 ghost use Rattle.pfs_cli.specs.Rules.{AreRefused};
@@ -22,8 +22,8 @@ use std::io::{Read, Write};
 pub(crate) const FIRST_READ: usize = 8192;
 
 /// Replays the trace under the rules, and writes its report: a line for each record, and a last line with what is held.
-/// Every accepted rules text runs, and a record of every protocol is taken; those of ICMP are skipped. A record `expire`
-/// takes the entries that are old enough out of its table, and its line says how many left. Each line is written before
+/// Every accepted rules text runs, and a record of every protocol is taken; those of ICMP are skipped. A record `expire`,
+/// `add` or `delete` changes the entries of a table, and its line says how. Each line is written before
 /// the next record is read. The whole is flushed once, at its end; where `out` is by lines, each line is flushed before the
 /// next record is read. `rules` and `out` are as `new` gives them, or `out` as `line_buffered` gives it.
 ///
@@ -69,10 +69,11 @@ pub fn replay<R: Read, T: Read, W: Write>(
     ensures read { result ≡ Err ReplayFault.Read → (0 < read_failures rules.new) ⊎ (0 < read_failures trace.new) }
     ensures endless { result ≡ Err ReplayFault.Endless → IsSpent rules.new ⊎ IsSpent trace.new }
     ensures write { result ≡ Err ReplayFault.Write → 0 < write_failures out.new }
-    ensures memory { result ≡ Err ReplayFault.Memory → (read_failures rules.new ≡ 0) × ((trace.new ≡ trace.old) ⊎ (read_failures trace.new ≡ 0)) }
+    ensures memory { result ≡ Err ReplayFault.Memory → IsSound rules.new × ((trace.new ≡ trace.old) ⊎ IsSound trace.new) }
 
-    // The feeds keep their bounds, and by lines all that was written is flushed.
+    // The feeds keep their bounds; by lines all that was written is flushed, else there is at most one flush.
     ensures bounds { (bound_of rules.new ≡ bound_of rules.old) × (bound_of trace.new ≡ bound_of trace.old) }
+    ensures flushes { FlushedOnce out.old out.new }
     ensures shows { ShowsLines out.new result }
 {
     let config = match read_config(alloc, rules) {
@@ -87,7 +88,7 @@ pub fn replay<R: Read, T: Read, W: Write>(
     let begun = trace.reads();
     let mut lent = first[..n].chain(trace.lend());
     let outcome = write_report(alloc, config, &mut lent, out);
-    let reads = lent.into_inner().1.reads();
-    trace.resume(begun, reads);
+    let back = lent.into_inner().1.give_back(begun);
+    trace.resume(back);
     finish(outcome, trace, out)
 }

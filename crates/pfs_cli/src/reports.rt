@@ -2,7 +2,7 @@
 
 ghost use Rattle.std.specs.Prelude.{◌≡◌, Some, Err, ◌<◌, ℕ, List};
 ghost use Rattle.std.specs.Io.KnownBytes.{Appends};
-ghost use Rattle.pfs_streams.specs.Sinks.{OwesNoFlush, bytes_held, write_failures};
+ghost use Rattle.pfs_streams.specs.Sinks.{NotFlushed, OwesNoFlush, bytes_held, write_failures};
 ghost use Rattle.pfs_trace.specs.Reading.{records_of};
 ghost use Rattle.pfs_trace.specs.Traces.{events_of};
 ghost use Rattle.pfs_store_contract.specs.Worlds.{empty_world};
@@ -48,6 +48,7 @@ pub fn write_report_over<H: Store + Drop, S: Read + Drop, W: Write>(
         × Tells config (events_of config (records_of xs)) t result) }
     ensures fails { result ≡ Err (Stop.Write) → 0 < write_failures out.new }
     ensures passed_on { PassedOn out.new result }
+    ensures flushes { NotFlushed out.old out.new }
 {
     match Engine::new(alloc, config, store) {
         Ok(mut engine) => tell_records(alloc, source, &mut engine, out),
@@ -68,6 +69,7 @@ pub(crate) fn write_report<S: Read + Drop, W: Write>(
         × Tells config (events_of config (records_of xs)) t result) }
     ensures fails { result ≡ Err (Stop.Write) → 0 < write_failures out.new }
     ensures passed_on { PassedOn out.new result }
+    ensures flushes { NotFlushed out.old out.new }
 {
     match TraceStore::new(alloc, &config) {
         Ok(store) => write_report_over(alloc, config, store, source, out),

@@ -1,15 +1,15 @@
 //! From a rules text to its configuration.
 
 ghost use Rattle.std.specs.Prelude.{◌≡◌, ◌≢◌, Some, Err, ◌<◌, ◌≤◌, ◌+◌, ℕ, List, true, IfOk, IfErr, length, drop};
-ghost use Rattle.pfs_streams.specs.Feeds.{bound_of, unread, has_ended, IsSpent, read_failures};
+ghost use Rattle.pfs_streams.specs.Feeds.{IsSound, IsSpent, bound_of, unread, has_ended, read_failures};
 ghost use Rattle.pfs_streams.specs.Kept.{KeepsEnough, rules_limit};
 ghost use Rattle.pfs_conf.specs.Reads.{Reads};
 ghost use Rattle.pfs_cli.specs.Refusing.{IsFeedFault, RefusesRules, RefusesText, fault_of};
 
-use crate::endings::feed_fault;
+use crate::endings::{feed_fault, rules_fault};
 use crate::faults::ReplayFault;
 use pfs_conf::{Config, Kind, LoadFault, load};
-use pfs_streams::{Feed, RulesStop, read_rules};
+use pfs_streams::{Feed, read_rules};
 use std::alloc::Global;
 use std::io::Read;
 
@@ -25,9 +25,9 @@ pub(crate) fn read_config<R: Read>(
     ensures few { (rs : List ℕ) → unread R.remaining rules.old ≡ Some rs → (k : ℕ) × (k ≤ rules_limit + 1) × (unread R.remaining rules.new ≡ Some (drop k rs)) }
     ensures read { result ≡ Err ReplayFault.Read → 0 < read_failures rules.new }
     ensures endless { result ≡ Err ReplayFault.Endless → IsSpent rules.new }
-    ensures memory { result ≡ Err ReplayFault.Memory → read_failures rules.new ≡ 0 }
+    ensures memory { result ≡ Err ReplayFault.Memory → IsSound rules.new }
     ensures bound { bound_of rules.new ≡ bound_of rules.old }
-    ensures sound { IfOk result (λ c. read_failures rules.new ≡ 0) }
+    ensures sound { IfOk result (λ c. IsSound rules.new) }
     ensures no_write { IfErr result (λ f. f ≢ ReplayFault.Write) }
 {
     let text = match read_text(alloc, rules) {
@@ -36,7 +36,7 @@ pub(crate) fn read_config<R: Read>(
     };
     match load_config(alloc, text) {
         Ok(config) => Ok(config),
-        Err(fault) => Err(fault),
+        Err(fault) => Err(rules_fault(fault, rules)),
     }
 }
 
@@ -50,13 +50,12 @@ fn read_text<R: Read>(alloc: Global, rules: &mut Feed<R>) -> Result<Vec<u8>, Rep
     ensures kinds { IfErr result (λ f. IsFeedFault f) }
     ensures read { result ≡ Err ReplayFault.Read → 0 < read_failures rules.new }
     ensures endless { result ≡ Err ReplayFault.Endless → IsSpent rules.new }
-    ensures memory { result ≡ Err ReplayFault.Memory → read_failures rules.new ≡ 0 }
+    ensures memory { result ≡ Err ReplayFault.Memory → IsSound rules.new }
     ensures bound { bound_of rules.new ≡ bound_of rules.old }
 {
     match read_rules(alloc, rules) {
         Ok(text) => Ok(text),
-        Err(RulesStop::Memory) => Err(ReplayFault::Memory),
-        Err(RulesStop::Source) => Err(feed_fault(rules)),
+        Err(_) => Err(feed_fault(rules)),
     }
 }
 

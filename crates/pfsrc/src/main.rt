@@ -2,19 +2,14 @@
 //! fault's status.
 #![tactic(auto)]
 
-ghost use Rattle.pfs_streams.specs.Sinks.{OwesNoFlush};
-
 use clap::Error;
 use clap::error::ErrorKind;
-use pfs_cli::{Feed, ReplayFault, Request, Sink, perform, request, status};
+use pfs_cli::{Feed, ReplayFault, Request, perform, request, sink_of, status};
 use std::alloc::AllocError;
 use std::env;
 use std::fs::File;
 use std::io::{self, BufWriter, Read, StdinLock, Write};
 use std::process::ExitCode;
-
-/// The most reads of one input.
-const READS: u64 = 1_099_511_627_776;
 
 fn main(rt: HostRuntime) -> ExitCode {
     ExitCode::from(run(&rt))
@@ -53,31 +48,20 @@ fn perform_request(rt: &HostRuntime, request: &Request) -> Result<(), ReplayFaul
     let Ok(out) = BufWriter::new(rt.alloc(), io::writer(rt)) else {
         return Err(ReplayFault::Memory);
     };
-    let mut out = sink_of(out, request.by_lines);
+    let mut out = sink_of(request.by_lines, out);
     let (rules, trace) = request.job.files();
     let rules = Input::open(rt, rules)?;
     let trace = Input::open(rt, trace)?;
     let answer = perform(
         rt.alloc(),
         &request.job,
-        &mut Feed::new(rules, READS),
-        &mut Feed::new(trace, READS),
+        &mut Feed::of_input(rules),
+        &mut Feed::of_input(trace),
         &mut out,
     );
     // At a fault nothing was flushed, and the lines before it are to be seen all the same.
     let _ = out.into_inner().flush();
     answer
-}
-
-/// A sink of this writer: by lines, if that is asked for.
-fn sink_of<W>(writer: W, by_lines: bool) -> Sink<W>
-    ensures { OwesNoFlush result }
-{
-    if by_lines {
-        Sink::line_buffered(writer)
-    } else {
-        Sink::new(writer)
-    }
 }
 
 /// What is read: a file, or standard input.

@@ -66,6 +66,21 @@ fn a_feed_fails_once_with_its_reader(rt: HostRuntime) -> Result<(), Fail> {
 }
 
 #[test]
+fn a_lent_feed_comes_back_with_what_was_read(rt: HostRuntime) -> Result<(), Fail> {
+    let mut feed = feed_of(b"abc", 2, 9);
+    let mut buf = [0; 4];
+    same!(rt; feed.read(&mut buf)?, 1);
+    let begun = feed.reads();
+    let mut lent = feed.lend();
+    same!(rt; lent.read(&mut buf)?, 1);
+    holds!(rt; lent.read(&mut buf).is_err());
+    let back = lent.give_back(begun);
+    feed.resume(back);
+    same!(rt; feed.failures(), 1);
+    Ok(())
+}
+
+#[test]
 fn a_text_is_written_a_byte_at_a_time(rt: HostRuntime) -> Result<(), Fail> {
     let mut out = sink_of(rt.alloc(), 1, 9);
     write_whole(&mut out, b"abc")?;

@@ -3,6 +3,7 @@ use Rattle.std.proofs.Common.{◌≡◌, [], ◌∙◌, ap, refl, Err}
 use Rattle.pfs_cli.specs.Checks.{wanted_text}
 use Rattle.pfs_cli.specs.declared.faults.ReplayFault.TheVariants as fault
 use Rattle.pfs_cli.proofs.Checking.{nothing-written, text-written, unwritten-shows, write-failed, written-kind, written-shows}
+use Rattle.pfs_streams.proofs.Flushing.{unwritten-flushed}
 use Rattle.pfs_cli.proofs.Replaying.{told-refused}
 use Rattle.pfs_cli.proofs.Telling.{Appends-nothing}
 use Rattle.pfs_cli.proofs.checks.tell_rules.Goals as goal
@@ -20,6 +21,7 @@ returns-in-Err g c = record {
     unwritten = λ f is. refl;
     bound = c.in-Err.ensures.bound;
     shows = λ owes. unwritten-shows c.args.out.now c.in-Err.fault owes;
+    flushes = unwritten-flushed c.args.out.now;
   };
 }
 
@@ -36,6 +38,7 @@ returns g c = record {
     memory = λ is. c.in-Ok.ensures.sound;
     unwritten = λ f is. absurd (written-kind c.write_text.result (fault.Rules f) (λ e. absurd cc) c.write_text.ensures.kind is);
     bound = c.in-Ok.ensures.bound;
+    flushes = c.write_text.ensures.flushes;
     shows = λ owes. written-shows c.write_text.new.out c.write_text.result c.write_text.ensures.kind c.write_text.ensures.flushed;
   };
 }

@@ -84,3 +84,9 @@ returns-in-Replay-clause-trace_waits g c = rw c.in-Replay.is c.replay.ensures.wa
 
 pub returns-in-Joined-clause-input_waits : goal.returns-in-Joined-clause-input_waits
 returns-in-Joined-clause-input_waits g c = rw c.in-Joined.is c.replay_joined.ensures.waits
+
+pub returns-in-Check-clause-flushes : goal.returns-in-Check-clause-flushes
+returns-in-Check-clause-flushes g c = c.check.ensures.tells.flushes
+
+pub returns-in-Show-clause-flushes : goal.returns-in-Show-clause-flushes
+returns-in-Show-clause-flushes g c = c.print.ensures.tells.flushes

@@ -6,6 +6,7 @@ use Rattle.pfs_addr_values.specs.Packets.{run_limit}
 use Rattle.pfs_trace.specs.Reading.{records_left}
 use Rattle.pfs_trace.specs.Traces.{events_from}
 use Rattle.pfs_streams.specs.Sinks.{bytes_held}
+use Rattle.pfs_streams.proofs.Flushing.{not-flushed}
 use Rattle.pfs_cli.specs.Turns.{WritesLine}
 use Rattle.pfs_cli.specs.declared.records.Stop.{Stop}
 use Rattle.pfs_cli.proofs.Telling.{EndsRows, so_far-start, so_far-more, ends-source, ends-end, ends-limit, ends-record, TakesRecord-rules}
@@ -18,6 +19,7 @@ loop-rows-init g c = record {
   config = c.requires.config;
   flexible = c.requires.flexible;
   passed_on = c.requires.passed_on;
+  at_once = (refl, λ e. refl);
   rules = refl;
   within = omega arith;
   taken = omega (arith, c.requires.taken);
@@ -37,6 +39,7 @@ loop-rows-preserved g c =
       config = r.2 ∙ inv.config;
       flexible = c.in-Ok-true.ensures.flexible;
       passed_on = c.in-Ok.ensures.passed_on;
+      at_once = not-flushed c.args.out.now c.loop-rows.out c.take_record.new.out inv.at_once c.in-Ok.ensures.flushes;
       rules = c.in-Ok.ensures.config ∙ inv.rules;
       within = omega arith;
       taken = omega (arith, inv.taken, c.in-Ok.ensures.taken);

@@ -5,4 +5,4 @@ use Rattle.pfs_cli.proofs.records.tell_rows.Given as goal
 
 abbrev pub invariant-loop-rows : goal.invariant-loop-rows
 invariant-loop-rows g l =
-    Running g.S.Read.remaining l.initial.reader l.initial.engine (bytes_held g.W.Write.contents l.initial.out) (bytes_held g.W.Write.contents l.out) l.out l.rows l.engine l.reader
+    Running g.S.Read.remaining l.initial.reader l.initial.engine (bytes_held g.W.Write.contents l.initial.out) (bytes_held g.W.Write.contents l.out) l.initial.out l.out l.rows l.engine l.reader

@@ -5,6 +5,7 @@ use Rattle.pfs_cli.specs.declared.faults.ReplayFault.TheVariants as fault
 use Rattle.pfs_cli.proofs.Replaying.{lent-gives, rules-cut, text-refused, told-refused}
 use Rattle.pfs_cli.proofs.Telling.{Appends-nothing, Appends-kept}
 use Rattle.pfs_cli.proofs.Checking.{unwritten-shows}
+use Rattle.pfs_streams.proofs.Flushing.{then-flushed, unwritten-flushed}
 use Rattle.pfs_cli.proofs.replays.replay.Goals as goal
 
 pub returns-in-Err-clause-reports : goal.returns-in-Err-clause-reports
@@ -57,3 +58,13 @@ returns-in-Err-clause-shows g c = unwritten-shows c.args.out.now c.in-Err.fault 
 
 pub returns-in-Err-read-clause-shows : goal.returns-in-Err-read-clause-shows
 returns-in-Err-read-clause-shows g c = unwritten-shows c.args.out.now c.feed_fault.result c.requires.passed_on
+
+pub returns-in-Err-clause-flushes : goal.returns-in-Err-clause-flushes
+returns-in-Err-clause-flushes g c = unwritten-flushed c.args.out.now
+
+pub returns-in-Err-read-clause-flushes : goal.returns-in-Err-read-clause-flushes
+returns-in-Err-read-clause-flushes g c = unwritten-flushed c.args.out.now
+
+pub returns-clause-flushes : goal.returns-clause-flushes
+returns-clause-flushes g c =
+    then-flushed c.args.out.now c.write_report-outcome.new.out c.finish.new.out c.write_report-outcome.ensures.flushes c.finish.ensures.flushes

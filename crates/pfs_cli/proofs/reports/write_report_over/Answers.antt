@@ -1,9 +1,8 @@
 -- Answers of write_report_over: what the engine of this configuration reports, and that nothing is written where
 -- it could not be made (`tells`).
-use Rattle.std.proofs.Common.{[]}
+use Rattle.std.proofs.Common.{[], inr, refl}
 use Rattle.pfs_trace.specs.Reading.{records_of}
-use Rattle.pfs_trace.specs.Traces.{events_of}
-use Rattle.pfs_cli.proofs.Telling.{Appends-nothing, ends-under, no-lines}
+use Rattle.pfs_cli.proofs.Telling.{Appends-nothing, ends-under}
 use Rattle.pfs_cli.proofs.reports.write_report_over.Goals as goal
 
 pub returns-in-Ok-clause-tells : goal.returns-in-Ok-clause-tells
@@ -11,4 +10,4 @@ returns-in-Ok-clause-tells g c xs e =
     ends-under c.args.config _ (records_of xs) _ _ _ c.in-Ok.ensures.config (c.tell_records.ensures.tells xs e)
 
 pub returns-in-Err-clause-tells : goal.returns-in-Err-clause-tells
-returns-in-Err-clause-tells g c xs e = ([], Appends-nothing _, no-lines c.args.config (events_of c.args.config (records_of xs)))
+returns-in-Err-clause-tells g c xs e = ([], Appends-nothing _, inr refl)
