@@ -10,8 +10,8 @@ use clap::{Arg, ArgAction, ArgMatches, Command, Error};
 use pfs_addr::parse_prefix;
 use pfs_addr_values::{Prefix, parse_ifname};
 use pfs_capture::{
-    Account, Capture, CapturePoint, Feed, FileFault, Mac, Side, TraceStop, parse_mac, sink_of, status,
-    write_trace,
+    Account, Capture, CapturePoint, Feed, FileFault, Mac, Side, TraceStop, parse_mac, sink_of,
+    status, write_trace,
 };
 use std::alloc::{AllocError, Global};
 use std::env;
