@@ -12,4 +12,4 @@ returns-in-Err-load_config-clause-err g c rs er =
     c.rules_fault.ensures.told rs (kept-refuses c.in-Ok.text.items rs fault (c.in-Ok.ensures.text rs er) c.in-Err-load_config.ensures.err)
 
 pub returns-in-Ok-load_config-clause-sound : goal.returns-in-Ok-load_config-clause-sound
-returns-in-Ok-load_config-clause-sound g c = ended-sound _ (c.in-Ok.ensures.ended c.in-Ok-load_config.ensures.ok.short) c.in-Ok.ensures.sound
+returns-in-Ok-load_config-clause-sound g c = ended-sound c.read_text.new.rules (c.in-Ok.ensures.ended c.in-Ok-load_config.ensures.ok.short) c.in-Ok.ensures.sound
