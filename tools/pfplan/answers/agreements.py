@@ -16,6 +16,7 @@ from pfplan.common.inputs import HEADER
 from pfplan.common.progress import Progress
 from pfplan.pf.conversion import Ruleset
 from pfplan.pf.numbers_of_pf import PfRule
+from pfplan.pf.profiles import Profile, profile_of
 from pfplan.pf.reading_canonical_text import items_of, settings_of
 from pfplan.replays.runs import Replay, run_replay, show_rules
 from pfplan.traces.entries import records_at
@@ -48,7 +49,7 @@ class Difference:
 class Agreement:
     """What came of all packets: how many had which verdict, kind and words, and the first differences.
 
-    `merged` says how many rows the log had. `without_log` and `without_all` are rules of the text that keep states: a
+    `merged` says how many rows the log had, and `profile` whose pf the rules text asks for. `without_log` and `without_all` are rules of the text that keep states: a
     log lacks their packets, or those behind the first. `guessed` is where pf's numbers stop to be sure; by `misfits`
     packets pf names a rule that does something else here.
     """
@@ -63,6 +64,7 @@ class Agreement:
     guessed: str = ""
     doubts: int = 0
     misfits: int = 0
+    profile: Profile = Profile.OPENBSD
 
     def count(self, verdict: Verdict) -> int:
         """How many packets have a verdict."""
@@ -98,6 +100,7 @@ class Agreement:
         ]
         written: dict[str, Any] = json.loads(hider.text(json.dumps([asdict(it) for it in self.differences])))
         return {
+            "profile": self.profile.value,
             "rows": self.merged.rows,
             "packets": self.merged.packets,
             "moments": [self.first_moment, self.last_moment],
@@ -254,8 +257,9 @@ def agreement_of(folder: Path, ruleset: Ruleset, merged: Merged) -> Agreement:
     doubts = sum(it.changes_answer for it in ruleset.leftovers)
     first, last = comparing.moments[0], comparing.moments[-1]
     return Agreement(
-        merged, first, last, judged, differences, without_log, without_all, guessed, doubts, comparing.misfits
-    )
+        merged, first, last, judged, differences, without_log, without_all, guessed, doubts, comparing.misfits,
+        profile_of(shown),
+    )  # fmt: skip
 
 
 class _Telling:
