@@ -49,9 +49,9 @@ class Difference:
 class Agreement:
     """What came of all packets: how many had which verdict, kind and words, and the first differences.
 
-    `merged` says how many rows the log had, and `profile` whose pf the rules text asks for. `without_log` and `without_all` are rules of the text that keep states: a
-    log lacks their packets, or those behind the first. `guessed` is where pf's numbers stop to be sure; by `misfits`
-    packets pf names a rule that does something else here.
+    `merged` says how many rows the log had, and `profile` whose pf the rules text asks for. `without_log` and
+    `without_all` are rules of the text that keep states: a log lacks their packets, or those behind the first.
+    `guessed` is where pf's numbers stop to be sure; by `misfits` packets pf names a rule that does something else here.
     """
 
     merged: Merged

@@ -20,7 +20,7 @@ class Profile(enum.Enum):
         """The sentence by which an answer says what it went by."""
         if self is Profile.OPENBSD:
             return f"pfsrc answers by the profile {self.value}: as pf of OpenBSD 7.4, as far as known."
-        return "pfsrc answers as the machine of its own, which differs more from pf: the rules have no line set profile."
+        return "pfsrc answers as a machine of its own, which differs more from pf: the rules have no line set profile."
 
 
 # what stands in no rules text but one that `./pfsrc show` printed: all limits, and all timeouts, in its order

@@ -1,8 +1,8 @@
 """Each construct of pf.conf(5): what becomes of it. The cases are in constructs.txt, and docs/PFCONF.md names them.
 
 A case is `=== NAME WORDS`, a text, what `pfplan rules WORDS` writes behind `--- rules`, and what it says on standard
-error behind `--- errors`. The line of the profile is left out, unless the words name one or the text is a canonical one.
-Files that the texts name are in the folder constructs/.
+error behind `--- errors`. The line of the profile is left out, unless the words name one or the text is a canonical
+one. Files that the texts name are in the folder constructs/.
 """
 
 import contextlib
