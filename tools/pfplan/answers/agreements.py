@@ -248,7 +248,7 @@ def agreement_of(folder: Path, ruleset: Ruleset, merged: Merged) -> Agreement:
     finally:
         progress.finish()
     shown = show_rules(folder / "rules")
-    telling = _Telling(judge, items_of(shown), settings_of(shown)["states"], comparing.kills, ruleset.records)
+    telling = _Telling(judge, shown, comparing.kills, ruleset.records)
     differences = telling.all(folder, comparing.found)
     keeps = [it for it in ruleset.pf_rules if any("keep state" in telling.items[item] for item in it.items)]
     without_log = sorted({item for it in keeps if not it.logs for item in it.items})
@@ -265,13 +265,13 @@ def agreement_of(folder: Path, ruleset: Ruleset, merged: Merged) -> Agreement:
 class _Telling:
     """What is told of a difference beside the two answers."""
 
-    def __init__(
-        self, judge: Judge, items: Sequence[str], limit: int, kills: Mapping[str, int], entries: Sequence[str]
-    ) -> None:
-        self.items = items
+    def __init__(self, judge: Judge, shown: Sequence[str], kills: Mapping[str, int], entries: Sequence[str]) -> None:
+        """`shown` is the canonical text."""
+        self.items = items_of(shown)
         self._judge = judge
         self._kills = kills
-        self._limit = limit
+        self._limit = settings_of(shown)["states"]
+        self._profile = profile_of(shown)
         self._entries = entries
 
     def all(self, folder: Path, found: Sequence[Difference]) -> list[Difference]:
@@ -281,7 +281,8 @@ class _Telling:
 
     def _whole(self, found: Difference, held: End, has_beginning: bool) -> Difference:
         kills = self._kills.values() if found.pf.reason == "memory" else [self._kills.get(found.pfsrc.rule, found.row)]
-        known = Circumstances(held.states, self._limit, has_beginning, any(it < found.row for it in kills))
+        has_kills = any(it < found.row for it in kills)
+        known = Circumstances(held.states, self._limit, has_beginning, has_kills, self._profile)
         line = line_for(
             Judged(Verdict.DIFFERS, found.kind, found.pf.word(), found.pfsrc.word),
             found.pf,
