@@ -168,7 +168,7 @@ class Example(FolderCase):
         answer = (example / "answer" / "agree.txt").read_text("utf-8")
         self.assertEqual((done.status, done.out), (0, f"{answer}{self.folder / 'answer' / 'report.html'}\n"))
         shown = (example / "README.md").read_text("utf-8")
-        self.assertIn("".join(f"    {it}\n".replace("    \n", "\n") for it in answer.splitlines()[:11]), shown)
+        self.assertIn("".join(f"    {it}\n".replace("    \n", "\n") for it in answer.splitlines()[:12]), shown)
 
 
 class Differences(Agreeing):
