@@ -30,7 +30,7 @@ class _Question:
     states: tuple[str, ...]
 
     def packets(self, interface: str) -> list[str]:
-        """A packet of each state, on an interface. One without flags changes no phase."""
+        """A packet of each state, on an interface. One without flags begins no connection anew."""
         parts = [it.partition(",") for it in self.states]
         return [f"{self.moment},{direction},{interface},{ends}," for direction, _, ends in parts]
 
