@@ -16,6 +16,7 @@ from pfplan.common.inputs import HEADER
 from pfplan.common.progress import Progress
 from pfplan.pf.conversion import Ruleset
 from pfplan.pf.numbers_of_pf import PfRule
+from pfplan.pf.profiles import Profile, profile_of
 from pfplan.pf.reading_canonical_text import items_of, settings_of
 from pfplan.replays.runs import Replay, run_replay, show_rules
 from pfplan.traces.entries import records_at
@@ -48,9 +49,9 @@ class Difference:
 class Agreement:
     """What came of all packets: how many had which verdict, kind and words, and the first differences.
 
-    `merged` says how many rows the log had. `without_log` and `without_all` are rules of the text that keep states: a
-    log lacks their packets, or those behind the first. `guessed` is where pf's numbers stop to be sure; by `misfits`
-    packets pf names a rule that does something else here.
+    `merged` says how many rows the log had, and `profile` whose pf the rules text asks for. `without_log` and
+    `without_all` are rules of the text that keep states: a log lacks their packets, or those behind the first.
+    `guessed` is where pf's numbers stop to be sure; by `misfits` packets pf names a rule that does something else here.
     """
 
     merged: Merged
@@ -63,6 +64,7 @@ class Agreement:
     guessed: str = ""
     doubts: int = 0
     misfits: int = 0
+    profile: Profile = Profile.OPENBSD
 
     def count(self, verdict: Verdict) -> int:
         """How many packets have a verdict."""
@@ -98,6 +100,7 @@ class Agreement:
         ]
         written: dict[str, Any] = json.loads(hider.text(json.dumps([asdict(it) for it in self.differences])))
         return {
+            "profile": self.profile.value,
             "rows": self.merged.rows,
             "packets": self.merged.packets,
             "moments": [self.first_moment, self.last_moment],
@@ -245,7 +248,7 @@ def agreement_of(folder: Path, ruleset: Ruleset, merged: Merged) -> Agreement:
     finally:
         progress.finish()
     shown = show_rules(folder / "rules")
-    telling = _Telling(judge, items_of(shown), settings_of(shown)["states"], comparing.kills, ruleset.records)
+    telling = _Telling(judge, shown, comparing.kills, ruleset.records)
     differences = telling.all(folder, comparing.found)
     keeps = [it for it in ruleset.pf_rules if any("keep state" in telling.items[item] for item in it.items)]
     without_log = sorted({item for it in keeps if not it.logs for item in it.items})
@@ -254,20 +257,21 @@ def agreement_of(folder: Path, ruleset: Ruleset, merged: Merged) -> Agreement:
     doubts = sum(it.changes_answer for it in ruleset.leftovers)
     first, last = comparing.moments[0], comparing.moments[-1]
     return Agreement(
-        merged, first, last, judged, differences, without_log, without_all, guessed, doubts, comparing.misfits
-    )
+        merged, first, last, judged, differences, without_log, without_all, guessed, doubts, comparing.misfits,
+        profile_of(shown),
+    )  # fmt: skip
 
 
 class _Telling:
     """What is told of a difference beside the two answers."""
 
-    def __init__(
-        self, judge: Judge, items: Sequence[str], limit: int, kills: Mapping[str, int], entries: Sequence[str]
-    ) -> None:
-        self.items = items
+    def __init__(self, judge: Judge, shown: Sequence[str], kills: Mapping[str, int], entries: Sequence[str]) -> None:
+        """`shown` is the canonical text."""
+        self.items = items_of(shown)
         self._judge = judge
         self._kills = kills
-        self._limit = limit
+        self._limit = settings_of(shown)["states"]
+        self._profile = profile_of(shown)
         self._entries = entries
 
     def all(self, folder: Path, found: Sequence[Difference]) -> list[Difference]:
@@ -277,7 +281,8 @@ class _Telling:
 
     def _whole(self, found: Difference, held: End, has_beginning: bool) -> Difference:
         kills = self._kills.values() if found.pf.reason == "memory" else [self._kills.get(found.pfsrc.rule, found.row)]
-        known = Circumstances(held.states, self._limit, has_beginning, any(it < found.row for it in kills))
+        has_kills = any(it < found.row for it in kills)
+        known = Circumstances(held.states, self._limit, has_beginning, has_kills, self._profile)
         line = line_for(
             Judged(Verdict.DIFFERS, found.kind, found.pf.word(), found.pfsrc.word),
             found.pf,

@@ -31,8 +31,9 @@ class Asked:
 def ask(rules: Path, trace: Path, event: Event) -> Asked:
     """Replays the trace up to a record that was refused, and tries its packet again at the end of each later second.
 
-    A packet that is refused changes nothing that is held, so a try leaves the trace as it was. Entries of tables that
-    come by records are put before the first. Trouble as the program's own.
+    A packet that is refused changes nothing that is held, so a try leaves the trace as it was; but under the profile of
+    OpenBSD one that `max` refuses may leave a source node, as if its client had tried. Entries of tables that come by
+    records are put before the first. Trouble as the program's own.
     """
     with Pfsrc(rules, Kept()) as firewall:
         seconds = _seconds(trace)

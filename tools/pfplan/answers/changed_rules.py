@@ -2,7 +2,8 @@
 
 A limit or a timeout for all rules is changed by a `set` at the end of the text, which replaces an earlier one
 (pf.conf(5), OPTIONS); so what pf derives from it, as the adaptive values from the `states` limit, follows. A number of
-a rule is changed in the canonical text, which reads as the same configuration.
+a rule is changed in the canonical text, which reads as the same configuration. There, under the profile of OpenBSD, a
+`max` has the adaptive values that pfctl derives from it: they follow it, too.
 """
 
 import difflib
@@ -14,6 +15,7 @@ from pathlib import Path
 
 from pfplan.common.errors import Status, Trouble, reason_of
 from pfplan.common.limits import OF_ALL, OF_RULES
+from pfplan.pf.profiles import Profile, profile_of
 from pfplan.pf.reading_canonical_text import items_of
 from pfplan.replays.runs import show_rules
 
@@ -84,6 +86,7 @@ class RulesText:
         """Reads the file and its canonical text. Trouble where it can't be read or is refused, as `show_rules`."""
         self.path = path
         self._shown = show_rules(path)
+        self._derives_pairs = profile_of(self._shown) is Profile.OPENBSD
         try:
             self._text = path.read_bytes().decode("latin-1")
         except OSError as error:
@@ -156,7 +159,9 @@ class RulesText:
             if not _is_item(line):
                 lines.append(line)
                 continue
-            lines.append(_with_options(line, {name: value for (it, name), value in wanted.items() if it == rule}))
+            values = {name: value for (it, name), value in wanted.items() if it == rule}
+            derives = "max" in values and not values.keys() & set(ADAPTIVE) and self._derives_pairs
+            lines.append(_with_options(_underived(line) if derives else line, values))
             rule += 1
         return lines
 
@@ -175,6 +180,13 @@ def _number_of(option: str, rule: int) -> Number | None:
     """The number of an option, or None where it has none, as `source-track rule`."""
     found = re.fullmatch(r"([a-z][a-z.-]*) (\d+)(/\d+)?", option)
     return Number(found[1], int(found[2]), (rule,), found[3] or "") if found else None
+
+
+def _underived(line: str) -> str:
+    """The line of a rule without the adaptive values that pfctl derives from its `max`, if it has these."""
+    most = re.search(r"\bmax (\d+)", line)
+    tens = int(most[1]) // 10 if most else 0
+    return line.replace(f", adaptive.start {6 * tens}, adaptive.end {min(_COUNT, 12 * tens)}", "", 1)
 
 
 def _with_options(line: str, values: Mapping[str, int]) -> str:

@@ -219,7 +219,7 @@ def compare(
     shown = [show_rules(it) for it in paths]
     rules = [items_of(it) for it in shown]
     fates = Fates(len(paths), wanted.most)
-    flushes = [flushes_of(it) for it in rules]
+    flushes = [flushes_of(it) for it in shown]
     held = [states_held(it, trace, wanted.users, flushes[at], entries[at]) for at, it in enumerate(paths)]
     progress = Progress("compare", records_of(trace), "records")
     with contextlib.ExitStack() as stack:

@@ -8,13 +8,14 @@ outcomes.
 
 import ipaddress
 from collections import Counter
-from collections.abc import Callable, Iterable, Mapping, Sequence
+from collections.abc import Callable, Iterable, Sequence
 from dataclasses import dataclass, field
 from sys import intern
 from typing import Protocol
 
 from pfplan.common.limits import DROPS
 from pfplan.common.networks import Network
+from pfplan.pf.reading_canonical_text import Flushes
 
 # what became of a connection, and when that is said of it
 RULES = {
@@ -236,11 +237,11 @@ class Connections:
     since its last packet, or its handshake was done and its state is not held any more. `hear(begin, outcome)` is
     called for each that is over, and `ended(key, first row, outcome)`, which tells it from all others. Memory grows
     with the connections that are open at a time, where `most_open` does not bound them: of more, those that have been
-    quiet the longest are counted as they are then, and let go (`forgotten`). `flushes` says of the rules with `flush`,
-    by `@N`, whether it is `flush global`; None where the rules are not known: a kill of several states is then taken
-    for `flush`, unless that source has fewer by the rule. `holding` knows which states had run out before a kill;
-    without it, and where it does not know, the states that were quiet the longest are taken to have. `remembered` of
-    those that are over are kept at least, and twice as many at most.
+    quiet the longest are counted as they are then, and let go (`forgotten`). `flushes` says what kills flush; None
+    where the rules are not known: a kill of several states is then taken for `flush`, unless that source has made
+    fewer by the rule. `holding` knows which states had run out before a kill; without it, and where it does not know,
+    the states that were quiet the longest are taken to have. `remembered` of those that are over are kept at least, and
+    twice as many at most.
     """
 
     def __init__(
@@ -248,7 +249,7 @@ class Connections:
         users: Sequence[Network],
         hear: Callable[[int, str], None],
         ended: Callable[[Key, int, str], None] | None = None,
-        flushes: Mapping[str, bool] | None = None,
+        flushes: Flushes | None = None,
         remembered: int = REMEMBERED,
         most_open: int | None = None,
         holding: Holding | None = None,
@@ -265,7 +266,7 @@ class Connections:
         self._holding = holding
         self._pairs: dict[Key, _Pair] = {}
         self._by_text: dict[Key, tuple[_Pair, bool]] = {}  # and whether the source is the lower end
-        self._of_source: dict[str, dict[_Pair, None]] = {}
+        self._of_address: dict[str, dict[_Pair, None]] = {}  # those with states that its kills may flush
         self._blurred: set[str] = set()  # sources of which states were forgotten that may be held
         self._entered: dict[str, Entering] = {}
         self._remembered = remembered
@@ -315,8 +316,9 @@ class Connections:
             if place not in flow.places:
                 flow.places += (place,)
 
-    def kill(self, row: int, moment: int, source: str, reply: Reply) -> None:
-        """A record of a source was answered by a kill: other states of it may be gone, and it may be in a table now."""
+    def kill(self, row: int, moment: int, source: str, reply: Reply, *, is_in: bool) -> None:
+        """A record of a source, in or out, was answered by a kill: other states of it may be gone, and it may be in a
+        table now."""
         source = self.members.name(source)
         if reply.overload in ("added", "held") and self.members.has(source):
             if reply.overload == "added" or source not in self._entered:
@@ -327,9 +329,9 @@ class Connections:
         # all of them are gone now: those that are held are flushed, and the others had run out
         flushed = [
             State(pair, side)
-            for pair in self._of_source.get(source, ())
+            for pair in self._of_address.get(source, ())
             for side, (rule, of) in pair.states.items()
-            if of == source and (is_global or rule == reply.rule)
+            if self._is_beside(pair, side, of, source, is_in) and (is_global or rule == reply.rule)
         ]
         for state in self._held(row, moment, source, flushed, reply.killed - 1):
             if state.pair.flow and state.pair.flow.state == "open":
@@ -358,7 +360,7 @@ class Connections:
             self._end(pair)
         self._pairs.clear()
         self._by_text.clear()
-        self._of_source.clear()
+        self._of_address.clear()
 
     def _pair_of(self, text: Key) -> tuple[_Pair, bool]:
         """The ends of a record, and whether its source is the lower one. Ports and addresses may be written in several
@@ -462,30 +464,47 @@ class Connections:
             if side in pair.states:
                 self._drop(pair, side)
             pair.states[side] = (reply.rule, source)
-            self._of_source.setdefault(source, {})[pair] = None
+            for it in self._addresses_of(pair, source):
+                self._of_address.setdefault(it, {})[pair] = None
         elif side in pair.states:
             self._drop(pair, side)
 
     def _drop(self, pair: _Pair, side: bool) -> None:
         """A state is not held any more."""
         _, source = pair.states.pop(side)
-        if all(of != source for _, of in pair.states.values()):
-            there = self._of_source.get(source)
+        left = {it for _, of in pair.states.values() for it in self._addresses_of(pair, of)}
+        for it in self._addresses_of(pair, source):
+            there = self._of_address.get(it) if it not in left else None
             if there is not None:
                 there.pop(pair, None)
                 if not there:
-                    del self._of_source[source]
+                    del self._of_address[it]
+
+    @property
+    def _goes_by_ends(self) -> bool:
+        return self._flushes is not None and self._flushes.go_by_ends
+
+    def _addresses_of(self, pair: _Pair, source: str) -> tuple[str, ...]:
+        """The addresses whose kills may flush a state that a source made."""
+        return (pair.key[1], pair.key[3]) if self._goes_by_ends else (source,)
+
+    def _is_beside(self, pair: _Pair, side: bool, made_by: str, source: str, is_in: bool) -> bool:
+        """Whether a state is one of those of a source that a flush takes (pf.conf(5), "flush"; `is_beside` in
+        docs/DEFINITIONS.md). The first packet of the state past the limit went in or out."""
+        if self._goes_by_ends:
+            return pair.key[1 if side is is_in else 3] == source
+        return made_by == source
 
     def _flush_of(self, reply: Reply, source: str) -> bool | None:
         """Whether a kill takes the states of the source by all rules (True) or by its own rule (False); None where it
         takes no other."""
         if self._flushes is not None:
-            return self._flushes.get(reply.rule)
+            return self._flushes.rules.get(reply.rule)
         if reply.killed < 2:
             return None
         mine = sum(
             of == source and rule == reply.rule
-            for pair in self._of_source.get(source, ())
+            for pair in self._of_address.get(source, ())
             for rule, of in pair.states.values()
         )
         return mine < reply.killed - 1
@@ -544,6 +563,6 @@ class Connections:
                 del self._by_text[text]
             for side, (_, source) in list(pair.states.items()):
                 if self._holding is not None:
-                    self._blurred.add(source)
+                    self._blurred.update(self._addresses_of(pair, source))
                 self._drop(pair, side)
         return len(going)

@@ -14,6 +14,7 @@ from pfplan.answers.sources import Sources
 from pfplan.answers.stepping import Steps
 from pfplan.common.errors import Status, Trouble
 from pfplan.common.networks import Network
+from pfplan.pf.reading_canonical_text import Flushes
 from pfplan.traces.records import ORDERS, End, Traces, read_answer
 from pfplan.traces.rows import Rows
 
@@ -213,7 +214,7 @@ class Moments:
         answers: Answers,
         users: Sequence[Network],
         steps: Steps,
-        flushes: Mapping[str, bool] | None = None,
+        flushes: Flushes | None = None,
         holding: Holding | None = None,
     ) -> None:
         self.first: int | None = None

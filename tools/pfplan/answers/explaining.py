@@ -3,6 +3,7 @@
 from dataclasses import dataclass
 
 from pfplan.answers.judging import OTHER_RULE, Fate, Judged, fate_of_pf, fate_of_pfsrc
+from pfplan.pf.profiles import Profile
 from pfplan.traces.pf_answers import PfAnswer
 from pfplan.traces.records import Answer, Record
 
@@ -40,12 +41,13 @@ NEARLY = 3 / 4
 @dataclass(frozen=True)
 class Circumstances:
     """What is known of a packet on which the two differ: states held of the limit, whether the trace has the beginning
-    of its connection, and whether states were killed before it."""
+    of its connection, whether states were killed before it, and whose pf the rules text asks for."""
 
     states: int
     limit: int
     has_beginning: bool
     has_kills: bool
+    profile: Profile = Profile.OPENBSD
 
 
 def line_for(judged: Judged, pf: PfAnswer, record: Record, pfsrc: Answer, known: Circumstances) -> str:
@@ -57,8 +59,11 @@ def line_for(judged: Judged, pf: PfAnswer, record: Record, pfsrc: Answer, known:
         return TRANSLATION
     if theirs is Fate.LIMITS:
         return _refused_there(pf, known) if ours is not Fate.LIMITS else ""
+    is_own = known.profile is Profile.OWN
+    if ours is Fate.LIMITS and pfsrc.word.startswith("kill:"):
+        return HANDSHAKE if is_own else WINDOWS
     if ours is Fate.LIMITS:
-        return HANDSHAKE if pfsrc.word.startswith("kill:") else LOGGED if theirs is Fate.PASSES else ""
+        return LOGGED if theirs is Fate.PASSES else ""
     return _other_answer(judged, theirs, record, pfsrc, known)
 
 
@@ -75,7 +80,8 @@ def _other_answer(judged: Judged, theirs: Fate, record: Record, pfsrc: Answer, k
     """Why pf may pass or block otherwise, or by another rule, where no limit refuses."""
     is_syn = record.protocol == "tcp" and "S" in record.flags and "A" not in record.flags
     if pfsrc.word == "state":
-        return REUSE if is_syn else WINDOWS if theirs is Fate.BLOCKS else NUMBERS
+        is_reused = is_syn and known.profile is Profile.OWN
+        return REUSE if is_reused else WINDOWS if theirs is Fate.BLOCKS else NUMBERS
     if theirs is Fate.PASSES and not is_syn and pfsrc.word != "state":
         return EXPIRED if known.has_beginning else BEGINNING
     return NUMBERS if judged.kind == OTHER_RULE else ""

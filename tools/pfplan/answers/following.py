@@ -64,4 +64,4 @@ def follow_block(
                     found, rows[at], moment, (columns[1][at], columns[2][at]), flags, replies[text]
                 )
         if text in kills:
-            connections.kill(rows[at], moment, columns[4][at], replies[text])
+            connections.kill(rows[at], moment, columns[4][at], replies[text], is_in=columns[1][at] == "in")

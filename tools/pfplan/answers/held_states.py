@@ -7,7 +7,7 @@ What it renews is killed by the next record.
 """
 
 import tempfile
-from collections.abc import Callable, Iterable, Mapping, Sequence
+from collections.abc import Callable, Iterable, Sequence
 from contextlib import ExitStack
 from dataclasses import dataclass, field
 from pathlib import Path
@@ -15,6 +15,7 @@ from pathlib import Path
 from pfplan.answers.sides import Side, follow, side_of
 from pfplan.common.errors import Status, Trouble
 from pfplan.common.networks import Network
+from pfplan.pf.reading_canonical_text import Flushes
 from pfplan.replays.runs import replayed
 from pfplan.traces.insertions import Heard, asking
 
@@ -29,7 +30,7 @@ class _Question:
     states: tuple[str, ...]
 
     def packets(self, interface: str) -> list[str]:
-        """A packet of each state, on an interface. One without flags changes no phase."""
+        """A packet of each state, on an interface. One without flags begins no connection anew."""
         parts = [it.partition(",") for it in self.states]
         return [f"{self.moment},{direction},{interface},{ends}," for direction, _, ends in parts]
 
@@ -113,7 +114,7 @@ def followed_again(
     rules: Path,
     trace: Path,
     users: Sequence[Network],
-    flushes: Mapping[str, bool] | None,
+    flushes: Flushes | None,
     entries: Sequence[str],
     holding: HeldStates,
     hear: Callable[[int, str], None] | None = None,
@@ -128,11 +129,11 @@ def followed_again(
 
 
 def states_held(
-    rules: Path, trace: Path, users: Sequence[Network], flushes: Mapping[str, bool], entries: Sequence[str]
+    rules: Path, trace: Path, users: Sequence[Network], flushes: Flushes, entries: Sequence[str]
 ) -> HeldStates:
     """Which states are held before the kills of a replay that leave it open."""
     holding = HeldStates()
-    if flushes and users:
+    if flushes.rules and users:
         with asking(trace, 0, entries) as asked:
             with replayed(rules, trace, asked, asked.heard(rules)) as lines:
                 side = side_of(rules.name, lines, users, None, None, flushes, asked.numbers, holding)

@@ -1,7 +1,7 @@
 """Counts what a ruleset answers to a capture while it comes, in memory that does not grow with time."""
 
 from collections import Counter, deque
-from collections.abc import Iterator, Mapping, Sequence
+from collections.abc import Iterator, Sequence
 from dataclasses import dataclass, field
 from pathlib import Path
 
@@ -10,7 +10,7 @@ from pfplan.answers.counting import Answers, Moments
 from pfplan.answers.sources import Sources
 from pfplan.answers.stepping import Step, Steps
 from pfplan.common.networks import Network
-from pfplan.pf.reading_canonical_text import flushes_of
+from pfplan.pf.reading_canonical_text import Flushes, flushes_of, items_of
 from pfplan.replays.live import Replaying
 from pfplan.traces.moments import MOST_STEPS, STEPS, step_of
 from pfplan.traces.records import Traces
@@ -69,7 +69,7 @@ class LiveSteps(Steps):
 class LiveMoments(Moments):
     """Counts records by moments, in memory that does not grow with time."""
 
-    def __init__(self, trace: Traces, answers: Answers, users: Sequence[Network], flushes: Mapping[str, bool]) -> None:
+    def __init__(self, trace: Traces, answers: Answers, users: Sequence[Network], flushes: Flushes) -> None:
         super().__init__(trace, answers, users, LiveSteps(), flushes)
         self.connections = Connections(users, self.steps.hear, None, flushes, REMEMBERED, MOST_OPEN)
 
@@ -91,13 +91,13 @@ class Overloads:
 class Side:
     """One ruleset: the program that answers, and what is counted of its answers."""
 
-    def __init__(self, name: str, rules: Path, items: Sequence[str], users: Sequence[Network]) -> None:
+    def __init__(self, name: str, rules: Path, shown: Sequence[str], users: Sequence[Network]) -> None:
         self.replaying = Replaying(name, rules)
-        self.answers = Answers(name, len(items))
+        self.answers = Answers(name, len(items_of(shown)))
         self.overloads = Overloads()
         self.refused_users = Sources()
         self._trace = Fed()
-        self.moments = LiveMoments(self._trace, self.answers, users, flushes_of(items))
+        self.moments = LiveMoments(self._trace, self.answers, users, flushes_of(shown))
         self._has_users = bool(users)
 
     def count(self, lines: list[str], texts: Sequence[str]) -> list[str]:

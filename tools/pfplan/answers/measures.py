@@ -14,7 +14,7 @@ from pfplan.answers.sides import Side, word_counts
 from pfplan.answers.tallies import tally, trace_texts
 from pfplan.common.errors import Status, Trouble
 from pfplan.common.networks import Network
-from pfplan.pf.reading_canonical_text import flushes_of, items_of
+from pfplan.pf.reading_canonical_text import flushes_of
 from pfplan.replays.runs import show_rules, stream_texts
 from pfplan.traces.insertions import Asking, Held, asking
 from pfplan.traces.records import BLOCK, WORDS, End, read_answer
@@ -159,7 +159,7 @@ class Measurer:
 
     def _count(self, rules: Path, report: Generator[str, None, None]) -> Measure:
         """Counts a report. The first that leaves nothing to be asked of the program is kept."""
-        flushes = flushes_of(items_of(show_rules(rules))) if self._users else None
+        flushes = flushes_of(show_rules(rules)) if self._users else None
         holding = HeldStates()
         records = trace_texts(self._trace, self._asked.plain)
         side = tally(

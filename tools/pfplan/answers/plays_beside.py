@@ -10,6 +10,7 @@ from typing import Any
 from pfplan.answers.doubts import interfaces_played, of_interfaces, of_missing
 from pfplan.common.outputs import make_folder
 from pfplan.pf.conversion import Ruleset, write_rules, write_ruleset
+from pfplan.pf.profiles import Profile, profile_of
 from pfplan.pf.reading_canonical_text import items_of
 from pfplan.replays.runs import show_rules
 from pfplan.traces.scenarios.fields import MOST_SEED
@@ -28,6 +29,7 @@ class PlaysBeside:
     sides: Sequence[Sequence[Played]]
     left_out: Sequence[int]  # things that can change the answer
     doubts: Sequence[str] = ()  # why it may be of something else than what was meant
+    profiles: Sequence[Profile] = ()  # of each rules text
 
     @property
     def plays(self) -> Sequence[Played]:
@@ -173,4 +175,5 @@ def _beside(
             *of_interfaces(items_of(ruleset.text.splitlines()), seen, ruleset.skipped),
         )
     ]
-    return PlaysBeside(scenario, names, sides, left_out, doubts)
+    profiles = [profile_of(it.text.splitlines()) for it in rulesets]
+    return PlaysBeside(scenario, names, sides, left_out, doubts, profiles)

@@ -7,7 +7,7 @@ they are. A record is taken apart only where it may be one of a user or is the f
 
 import ipaddress
 from collections import Counter
-from collections.abc import Callable, Iterator, Mapping, Sequence
+from collections.abc import Callable, Iterator, Sequence
 from dataclasses import dataclass, field
 from itertools import islice
 from pathlib import Path
@@ -16,6 +16,7 @@ from pfplan.answers.connections import Connections, Holding, Key
 from pfplan.answers.counting import Answers
 from pfplan.common.errors import Status, Trouble
 from pfplan.common.networks import Network
+from pfplan.pf.reading_canonical_text import Flushes
 from pfplan.traces.records import Traces
 from pfplan.traces.rows import Rows
 
@@ -47,7 +48,7 @@ def side_of(
     users: Sequence[Network],
     ended: Callable[[Key, int, str], None] | None = None,
     hear: Callable[[int, str], None] | None = None,
-    flushes: Mapping[str, bool] | None = None,
+    flushes: Flushes | None = None,
     numbers: Rows | None = None,
     holding: Holding | None = None,
 ) -> Side:
@@ -200,7 +201,7 @@ def _follow_record(sides: Sequence[Side], row: int, at: int, column: Sequence[st
         if is_of_user and reply.word != "skip":
             side.connections.follow(row, reply, column)
         if reply.word.startswith("kill:"):
-            side.connections.kill(row, moment, column[4], reply)
+            side.connections.kill(row, moment, column[4], reply, is_in=column[1] == "in")
 
 
 def word_counts(answers: Answers) -> Counter[str]:

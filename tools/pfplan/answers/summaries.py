@@ -18,6 +18,7 @@ from pfplan.common.inputs import Kind, check_trace, kind_of, regular
 from pfplan.common.networks import Network
 from pfplan.common.visible import visible
 from pfplan.pf.origins import Origins
+from pfplan.pf.profiles import Profile, profile_of
 from pfplan.pf.reading_canonical_text import flushes_of, items_of, settings_of
 from pfplan.replays.runs import show_rules, stream_blocks
 from pfplan.traces.accounts import Frames
@@ -95,6 +96,7 @@ class Summary:
     undecided: list[int] = field(default_factory=list)  # rules, not anchors, that no record has
     interfaces: Interfaces | None = None
     held: list[Held] = field(default_factory=list)
+    profile: Profile | None = None  # of the rules text, where it is known
     settings: dict[str, int] = field(default_factory=dict)  # the limits for all rules
     origins: Origins = field(default_factory=Origins)
     frames: Frames | None = None  # of the capture that the trace was made of
@@ -179,7 +181,7 @@ def summarize_blocks(blocks: Iterable[list[str]], name: Path | str, wanted: Want
         return summary_of(answers, None, shown, wanted)
     check_trace(wanted.trace)
     with regular(wanted.trace) as kept:
-        flushes = flushes_of(texts) if wanted.rules else None
+        flushes = flushes_of(shown) if wanted.rules else None
         steps = Steps(_step(kept, wanted.every))
         holding = HeldStates() if wanted.rules else None
         moments = Moments(Traces(kept, wanted.trace), answers, wanted.users, steps, flushes, holding)
@@ -210,6 +212,7 @@ def summary_of(answers: Answers, moments: Moments | None, shown: list[str], want
         answers.rows, by_rule, [answers.limits[it] for it in WORDS if it in answers.limits], dict(answers.overloads),
         answers.end, rules=rules, labels=dict(wanted.labels), undecided=_undecided(rules, by_rule),
         settings=settings_of(shown), origins=wanted.origins, frames=wanted.frames,
+        profile=profile_of(shown) if shown else None,
     )  # fmt: skip
     summary.doubts = of_frames(wanted.frames)
     if moments is None or moments.first is None:

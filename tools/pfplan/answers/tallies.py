@@ -8,7 +8,7 @@ last at which a limit was met. What comes of it is what `sides.follow` counts li
 import contextlib
 import re
 from collections import Counter
-from collections.abc import Generator, Iterator, Mapping, Sequence
+from collections.abc import Generator, Iterator, Sequence
 from dataclasses import dataclass
 from pathlib import Path
 
@@ -19,6 +19,7 @@ from pfplan.answers.sides import Met, Picks, Side
 from pfplan.common.errors import Status, Trouble
 from pfplan.common.inputs import HEADER
 from pfplan.common.networks import Network
+from pfplan.pf.reading_canonical_text import Flushes
 from pfplan.traces.records import BLOCK, LONGEST, Traces
 from pfplan.traces.rows import Rows
 
@@ -139,7 +140,7 @@ def tally(
     records: Iterator[str],
     report: Generator[str, None, None],
     users: Sequence[Network],
-    flushes: Mapping[str, bool] | None,
+    flushes: Flushes | None,
     numbers: Rows | None,
     name: str,
     holding: Holding | None = None,
@@ -262,7 +263,7 @@ def _follow_users(side: Side, block: _Block, picks: Picks, has_kills: bool) -> N
         if is_of_user and reply.word != "skip":
             connections.follow(row, reply, column)
         if row in killing:
-            connections.kill(row, int(column[0]), column[4], reply)
+            connections.kill(row, int(column[0]), column[4], reply, is_in=column[1] == "in")
 
 
 def _answers(side: Side) -> Tallies:

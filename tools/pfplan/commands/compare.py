@@ -6,6 +6,7 @@ import contextlib
 from pfplan.answers.comparisons import Asked, compare, names_of
 from pfplan.answers.plays_beside import PlaysBeside, play_apart
 from pfplan.commands.play_words import add_most, add_seeds
+from pfplan.commands.rule_words import add_profile
 from pfplan.commands.run_words import add_answer_words, write_answer
 from pfplan.commands.words import add_asked, file, number
 from pfplan.common.errors import Trouble
@@ -44,6 +45,7 @@ def add_words(parser: argparse.ArgumentParser) -> None:
     )
     add_seeds(parser)
     add_most(parser)
+    add_profile(parser)
     add_answer_words(parser)
 
 
@@ -53,6 +55,8 @@ def run(arguments: argparse.Namespace) -> int:
         raise Trouble("two rules texts or more are wanted, and then a trace (pfplan compare --help)")
     if is_scenario(arguments.trace):
         return _compare_plays(arguments)
+    if arguments.profile:
+        raise Trouble("--profile: the word is for a scenario; rules texts say it themselves")
     check_program()
     for path in arguments.rules:
         check_rules(path)
@@ -73,7 +77,8 @@ def _compare_plays(arguments: argparse.Namespace) -> int:
         check_readable(path)
     scenario = read_scenario(arguments.trace)
     check_expected(scenario, arguments.most)
-    rulesets = [convert(it, RuleOptions(by_records=True)) for it in arguments.rules]
+    options = RuleOptions(by_records=True, profile=arguments.profile)
+    rulesets = [convert(it, options) for it in arguments.rules]
     check_program()
     played = play_apart(
         scenario, play_folder.names_of(arguments.rules), rulesets, arguments.rules, arguments.seeds

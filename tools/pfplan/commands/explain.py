@@ -19,6 +19,7 @@ from pfplan.pages.story_texts import Story
 from pfplan.pf.conversion import convert
 from pfplan.pf.named_files import read_text
 from pfplan.pf.origins import Origins, origins_of
+from pfplan.pf.profiles import profile_of
 from pfplan.pf.reading_canonical_text import items_of
 from pfplan.replays.runs import show_rules
 from pfplan.traces.entries import marked
@@ -62,19 +63,21 @@ def run(arguments: argparse.Namespace) -> int:
     check_trace(arguments.trace)
     with regular(arguments.trace) as trace, regular(arguments.report) as report:
         shown = show_rules(arguments.rules)
-        story = Story(arguments.rules, trace, report, shown, _origins(arguments, items_of(shown)))
+        story = Story(arguments.rules, trace, report, shown, _origins(arguments, shown))
         lines = list(story.of_source(arguments.source) if arguments.source else story.of_row(arguments.row))
     with whole_file(arguments.out) as out:
         out.writelines(f"{it}\n" for it in lines)
     return Status.DONE
 
 
-def _origins(arguments: argparse.Namespace, items: Sequence[str]) -> Origins:
+def _origins(arguments: argparse.Namespace, shown: Sequence[str]) -> Origins:
     """Where the rules stand in the pf.conf. Trouble where the one that was given makes other rules."""
     if arguments.conf is None:
-        return origins_told(arguments.rules.with_name("summary.json"), items)
+        return origins_told(arguments.rules.with_name("summary.json"), items_of(shown))
     text = read_text(arguments.rules)
-    made = convert(arguments.conf, replace(options_of(arguments), by_records=marked(text) is not None))
+    options = options_of(arguments)
+    profile = options.profile or profile_of(shown)
+    made = convert(arguments.conf, replace(options, by_records=marked(text) is not None, profile=profile))
     if made.written != text:
         raise Trouble(f"{arguments.conf}: by these words it makes other rules than {arguments.rules}", Status.RULES)
     return origins_of(made)

@@ -8,6 +8,7 @@ from pathlib import Path
 from pfplan.commands.words import file, interface
 from pfplan.pf.conversion import RuleOptions
 from pfplan.pf.interfaces import Given
+from pfplan.pf.profiles import Profile
 from pfplan.pf.writing_lists import NAME
 
 
@@ -52,6 +53,23 @@ def _interface(text: str) -> tuple[str, str]:
 def _file(text: str) -> tuple[str, Path]:
     name, value = _pair(text)
     return name, file(value)
+
+
+def _profile(text: str) -> Profile:
+    try:
+        return Profile(text)
+    except ValueError:
+        names = " nor ".join(it.value for it in Profile)
+        raise argparse.ArgumentTypeError(f"'{text}' is neither {names}") from None
+
+
+def add_profile(parser: argparse.ArgumentParser) -> None:
+    """The word that says whose pf a pf.conf is answered by."""
+    parser.add_argument(
+        "--profile", type=_profile, metavar="openbsd-7.4|papers",
+        help="whose pf answers: that of OpenBSD 7.4, by a line of the rules text, which a pf.conf gets by itself; or "
+        "the machine of pfsrc's own (papers), without that line",
+    )  # fmt: skip
 
 
 def add_rule_words(parser: argparse.ArgumentParser) -> None:
@@ -108,6 +126,7 @@ def add_rule_words(parser: argparse.ArgumentParser) -> None:
         metavar="NAME=FILE",
         help="the rules of an anchor by name",
     )
+    add_profile(parser)
     add("--root", type=file, metavar="FOLDER", help="where files with absolute names are looked for: FOLDER/etc/..")
 
 
@@ -122,4 +141,5 @@ def options_of(arguments: argparse.Namespace) -> RuleOptions:
         arguments.ifconfig,
         arguments.root,
         arguments.strict,
+        profile=arguments.profile,
     )

@@ -30,7 +30,6 @@ from pfplan.pages.doubt_texts import doubt_lines
 from pfplan.pages.report_page import PAGE, Subject, write_answer
 from pfplan.pages.screens import Screen, forgotten_text
 from pfplan.pf.conversion import Ruleset, convert, machine_of, write_ruleset
-from pfplan.pf.reading_canonical_text import items_of
 from pfplan.replays.live import Capture
 from pfplan.replays.runs import show_rules
 from pfplan.traces.accounts import Frames, frames_of
@@ -154,7 +153,7 @@ def _started(
     make_folder(folder)
     write_ruleset(folder, ruleset)
     shown = show_rules(folder / "rules")
-    side = Side(path.name, folder / "rules", items_of(shown), users)
+    side = Side(path.name, folder / "rules", shown, users)
     stack.callback(side.replaying.stop)
     report = stack.enter_context(part_file(folder / "report")) if is_kept else None
     return Watched(path, ruleset, folder, shown, side, report)

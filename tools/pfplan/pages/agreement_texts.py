@@ -116,6 +116,7 @@ def text_of(found: Agreement) -> str:
 def _lines(found: Agreement) -> Iterator[str]:
     yield headline(found)
     yield span(found)
+    yield found.profile.told()
     for verdict, head in HEADS.items():
         kinds = found.kinds(verdict)
         yield ""
@@ -145,7 +146,8 @@ def page_of(found: Agreement, hider: Hider, differences: str) -> str:
     title = "pf and pfsrc on the packets of a log"
     is_good = found.count(Verdict.DIFFERS) == 0 if found.compared else None
     counts = [f"{head}: {counted(found.count(verdict), 'packet')}" for verdict, head in HEADS.items()]
-    parts: list[Child] = [tag("h1", title), soft(span(found)), answer(headline(found), is_good, bullets(counts))]
+    top = [tag("h1", title), soft(span(found)), soft(found.profile.told())]
+    parts: list[Child] = [*top, answer(headline(found), is_good, bullets(counts))]
     for verdict, head in HEADS.items():
         rows = [row for kind, pairs in found.kinds(verdict).items() for row in _rows(kind, pairs)]
         if rows:

@@ -74,6 +74,7 @@ def page_of(found: PlaysBeside, drawn: Mapping[str, Sequence[Markup]], why_none:
         if number
     ]
     parts: list[Child] = [tag("h1", title), *doubt_parts(found.doubts), soft(subject_of(found))]
+    parts.extend(soft(it.told()) for it in dict.fromkeys(found.profiles))
     if len(points) == 1:
         parts.append(
             answer(

@@ -133,6 +133,7 @@ def page_of(summary: Summary, subject: Subject, figures: Sequence[Markup], diffe
         tag("h1", title),
         *doubt_parts(summary.doubts),
         soft(span_of(summary)),
+        *([soft(summary.profile.told())] if summary.profile else []),
         *missing_parts(subject),
         answer_of(summary, subject),
     ]

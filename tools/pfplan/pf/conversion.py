@@ -16,6 +16,7 @@ from pfplan.pf.lexer import printable
 from pfplan.pf.linking_anchors import Linker
 from pfplan.pf.named_files import NamedFiles, read_text
 from pfplan.pf.numbers_of_pf import Numbers, PfRule
+from pfplan.pf.profiles import Profile, is_without_profile
 from pfplan.pf.reading_statements import parse
 from pfplan.pf.statements import Place, Setting, Statement, Table
 from pfplan.pf.writing_lists import Chooser, MadeTables
@@ -38,8 +39,8 @@ MOST_ALIKE = 20  # leftovers that change no answer, for one reason, each in a li
 
 @dataclass(frozen=True)
 class RuleOptions:
-    """What the command line says of a text: macros, addresses and interfaces by name, and files for tables, anchors and
-    ifconfig."""
+    """What the command line says of a text: macros, addresses and interfaces by name, files for tables, anchors and
+    ifconfig, and the profile; None for what the text says, else that of OpenBSD."""
 
     macros: tuple[tuple[str, str], ...] = ()
     addresses: tuple[tuple[str, Given], ...] = ()
@@ -50,6 +51,7 @@ class RuleOptions:
     root: Path | None = None
     strict: bool = False
     by_records: bool = False  # whether tables may get entries by records (traces/entries.py)
+    profile: Profile | None = None
 
 
 @dataclass(frozen=True)
@@ -150,11 +152,12 @@ def convert_text(text: str, name: str, options: RuleOptions, records: Sequence[s
     statements = linker.link(parsed.statements)
     if not statements and not teller.leftovers:
         raise Trouble(f"{name}: there is no statement in it", Status.RULES)
-    expander = _expander(statements, teller, sources, options, by_table(records))
+    profile = options.profile or (Profile.OWN if is_without_profile(text) else Profile.OPENBSD)
+    expander = _expander(statements, teller, sources, options, by_table(records), profile)
     expander.expand(statements)
     _note_unused(teller, statements, linker, options)
     made = expander.chooser.tables
-    lines = [*made.lines(), *expander.lines, *expander.settings.last_lines()]
+    lines = [*profile.lines(), *made.lines(), *expander.lines, *expander.settings.last_lines()]
     left, moving = _by_records(lines, expander, teller) if options.by_records else (lines, [])
     files = list(dict.fromkeys([name, *(it.file for it in teller.leftovers)]))
     leftovers = sorted(teller.leftovers, key=lambda it: (files.index(it.file), it.line))
@@ -207,11 +210,12 @@ def _expander(
     sources: NamedFiles,
     options: RuleOptions,
     recorded: dict[str, list[str]],
+    profile: Profile,
 ) -> Expander:
     machine = _machine(options)
     tables = MadeTables()
     tables.take(table_names(statements))
-    settings = Settings(teller)
+    settings = Settings(teller, profile)
     settings.look(it for it in walk(statements) if isinstance(it, Setting))
     maker = TableMaker(machine, sources, teller, dict(options.entries), recorded)
     overloaded = overloaded_tables(statements)

@@ -214,7 +214,7 @@ class Expander:
         if not combinations:
             return
         self._tell_parts(rule)
-        clause = carried_state(state, rule.place, self.teller, self._renamed(scope))
+        clause = carried_state(state, rule.place, self.settings, self._renamed(scope))
         direction = asked.direction or ("out" if any(it.kind == "binat-to" for it in asked.parts) else "")
         answer = rule.answer
         if rule.action == "block" and not answer and self.settings.block_policy != "drop":

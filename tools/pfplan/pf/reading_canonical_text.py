@@ -3,9 +3,10 @@ names, its limits, and what a kill of it flushes."""
 
 import re
 from collections.abc import Collection, Mapping, Sequence
-from dataclasses import dataclass
+from dataclasses import dataclass, field
 
 from pfplan.common.limits import BY_WORD, OF_RULES
+from pfplan.pf.profiles import Profile, profile_of
 
 _LOOPBACK = re.compile(r"lo[0-9]*|any")
 _TABLE = re.compile(r"<([A-Za-z0-9_.-]+)>")
@@ -49,10 +50,24 @@ def tables_of(text: str) -> list[str]:
     return list(dict.fromkeys(_TABLE.findall(_OVERLOAD.sub("", text))))
 
 
-def flushes_of(texts: Sequence[str]) -> dict[str, bool]:
-    """The rules whose kills flush, by `@N`, and whether globally."""
-    found = {f"@{number}": overload_of(text) for number, text in enumerate(texts)}
-    return {rule: it.is_global for rule, it in found.items() if it is not None and it.flushes}
+@dataclass(frozen=True, slots=True)
+class Flushes:
+    """What kills take besides the state past a limit: the rules with `flush`, by `@N`, and whether it is `flush
+    global`.
+
+    Of a source they take the states that it made. As pf has it they `go_by_ends`: of a state made by a packet in, they
+    take those of which the source is the end from which packets come in; of one made by a packet out, the other end.
+    """
+
+    rules: Mapping[str, bool] = field(default_factory=dict)
+    go_by_ends: bool = False
+
+
+def flushes_of(shown: Sequence[str]) -> Flushes:
+    """What kills flush by a canonical text."""
+    found = {f"@{number}": overload_of(text) for number, text in enumerate(items_of(shown))}
+    rules = {rule: it.is_global for rule, it in found.items() if it is not None and it.flushes}
+    return Flushes(rules, profile_of(shown) is Profile.OPENBSD)
 
 
 def limit_of(text: str, word: str) -> str:

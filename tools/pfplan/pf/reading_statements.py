@@ -11,6 +11,7 @@ from pfplan.common.limits import OF_ALL
 from pfplan.pf.cursor import DEEPEST_LIST, Cursor
 from pfplan.pf.lexer import Kind, Lexer, Token, printable, trouble
 from pfplan.pf.named_files import NamedFiles, read_text
+from pfplan.pf.profiles import Profile
 from pfplan.pf.reading_filters import (
     AFTER_HOSTS,
     HEAD,
@@ -291,7 +292,7 @@ class Parser:
 
     def _set(self, place: Place) -> Setting:
         self.at.take()
-        name = self.at.want_word(*SETTINGS)
+        name = self.at.take_word("profile") or self.at.want_word(*SETTINGS)
         pairs: tuple[tuple[str, int], ...] = ()
         options: list[StateOption] = []
         interfaces: tuple[str, ...] = ()
@@ -301,6 +302,8 @@ class Parser:
             pairs = self._pairs(self._limit if name == "limit" else self._timeout)
         elif name == "optimization":
             value = self.at.want_word(*OPTIMIZATIONS)
+        elif name == "profile":  # of a rules text alone
+            value = self.at.want_word(Profile.OPENBSD.value)
         elif name == "skip":
             self.at.want_word("on")
             interfaces = self.at.listed(self._skipped)

@@ -4,6 +4,7 @@ from collections.abc import Iterable
 from dataclasses import dataclass, field
 
 from pfplan.pf.left_out import OTHER_STATES, Reason, Teller, harmless, telling
+from pfplan.pf.profiles import Profile
 from pfplan.pf.reading_filters import TIMEOUTS_FOR_NOTHING
 from pfplan.pf.reading_statements import LIMITS
 from pfplan.pf.statements import Setting, State, StateOption
@@ -31,9 +32,11 @@ MOST_TABLES, MOST_ENTRIES = 1000, 200000  # what pf and pfsrc have where nothing
 
 @dataclass
 class Settings:
-    """Writes settings, and keeps the limits that they set, and the block policy of the rules behind."""
+    """Writes settings, and keeps the limits that they set, and the block policy of the rules behind. The profile is
+    written by who makes the text."""
 
     teller: Teller
+    profile: Profile = Profile.OPENBSD
     limits: dict[str, int] = field(default_factory=lambda: {"tables": MOST_TABLES, "table-entries": MOST_ENTRIES})
     block_policy: str = "drop"
     _adaptive: dict[str, int] = field(default_factory=dict)
@@ -48,6 +51,11 @@ class Settings:
             whole = {**_ADAPTIVE, **self._adaptive}
             start, end = whole["adaptive.start"], whole["adaptive.end"]
             self._is_adaptive_fit = start < end or start == end == 0
+
+    @property
+    def are_scaled(self) -> bool:
+        """Whether many states shorten timeouts, by the adaptive timeouts of all rules."""
+        return self._is_adaptive_fit and self._adaptive.get("adaptive.end") != 0
 
     def last_lines(self) -> list[str]:
         """The adaptive timeouts that the text leaves at their default, or that turn scaling off, as pf takes a start
@@ -69,7 +77,7 @@ class Settings:
             return self._timeouts(setting)
         if setting.name == "optimization":
             return [f"set timeout {{ {_OPTIMIZATIONS[_SAME.get(setting.value, setting.value)]} }}"]
-        if setting.name not in ("state-defaults", "skip"):
+        if setting.name not in ("profile", "state-defaults", "skip"):
             self.teller.tell_whole(setting, self._reason(setting))
         return []
 

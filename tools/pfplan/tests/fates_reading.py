@@ -69,11 +69,12 @@ class Connection:
 @dataclass
 class Reading:
     """Reads a trace with its report. `flushes` has the rules that flush, by `@N`, with `rule` or `global`. `replay`
-    answers the texts of the report of some records."""
+    answers the texts of the report of some records. The report is of pf's machine, or of pfsrc's own."""
 
     users: list[str]
     flushes: dict[str, str]
     replay: Callable[[list[str]], list[str]]
+    is_of_pf: bool = False
     connections: list[Connection] = field(default_factory=list)
     states: list[State] = field(default_factory=list)
     last: int = 0
@@ -169,7 +170,7 @@ class Reading:
             gone += [
                 it
                 for it in self.held(packet.moment, before)
-                if it not in mine and it.source == packet.source[0] and (flush == "global" or it.rule == packet.rule)
+                if it not in mine and self.is_beside(it, packet) and (flush == "global" or it.rule == packet.rule)
             ]
         assert len(gone) == packet.killed, (packet, gone)
         self.states = [it for it in self.states if it not in gone]
@@ -178,6 +179,12 @@ class Reading:
             is_hit = any(it.protocol == protocol and {it.inner, it.outer} == ends for it in gone)
             if is_hit and not connection.fate and not is_refused(connection.packets):
                 connection.fate = "killed"
+
+    def is_beside(self, state: State, packet: Packet) -> bool:
+        """Whether a flush at this packet may take a state: one that the packet's source made; in pf one whose end on
+        the side from which the packet came is that source."""
+        end = state.inner if packet.place[0] == "in" else state.outer
+        return end[0] == packet.source[0] if self.is_of_pf else state.source == packet.source[0]
 
 
 def packet_of(row: int, record: str, text: str) -> Packet:

@@ -31,7 +31,7 @@ def read_rules(path: str) -> tuple[dict[str, int], dict[str, int], list[str]]:
                 times.update({name: int(value) for name, value in re.findall(r"([a-z.]+) (\d+)", words)})
             elif words.startswith(("pass", "block")):
                 items.append(words)
-            elif words.startswith(("table", "#")):
+            elif words.startswith(("table", "#", "set profile ")):
                 pass
             elif words:
                 sys.stderr.write(f"rules: line {number}: Syntax\n")

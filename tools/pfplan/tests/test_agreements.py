@@ -11,11 +11,12 @@ from pfplan.answers.hiding import Hider
 from pfplan.common.errors import Status
 from pfplan.common.repository import DIFFERENCES, TOP
 from pfplan.pages.differences import explanation
+from pfplan.pf.profiles import Profile
 from pfplan.tests.logs import BLOCK, MATCH, PASS, REASONS, Packets, log_of, repeated, reported, with_log
 from pfplan.tests.packets import NONE, Logged, ethernet_capture, log_capture
 from pfplan.tests.support import Done, FolderCase, pfplan
 from pfplan.traces.pf_answers import Packet, PfAnswer
-from pfplan.traces.records import Record
+from pfplan.traces.records import Answer, Record, read_answer
 
 EXAMPLES = ("expired-state", "ipv6-flood", "rate-memory", "source-limits", "syn-flood", "udp-flood")
 CONF = """
@@ -109,6 +110,16 @@ class Agreements(Agreeing):
         self.assertEqual(pairs[("state-limit", "drop:max")], 1)
         self.assertEqual(pairs[("memory", "drop:states")], 2)
 
+    def test_the_profile_is_named(self) -> None:
+        conf, trace = self.write("pf.conf", CONF), self.trace(TRACE)
+        packets = self.packets(conf, trace)
+        words: dict[Profile, tuple[str, ...]] = {Profile.OPENBSD: (), Profile.OWN: ("--profile", "papers")}
+        for profile in Profile:
+            answer, done = self.agree(conf, packets, *words[profile])
+            self.assertEqual(answer["profile"], profile.value)
+            self.assertIn(profile.told(), done.out.splitlines())
+            self.assertIn(profile.told(), (self.folder / "answer" / "report.html").read_text())
+
     def test_numbers_are_those_of_anchors(self) -> None:
         conf, trace = self.write("pf.conf", CONF), self.trace(TRACE)
         packets = self.packets(conf, trace)
@@ -157,7 +168,7 @@ class Example(FolderCase):
         answer = (example / "answer" / "agree.txt").read_text("utf-8")
         self.assertEqual((done.status, done.out), (0, f"{answer}{self.folder / 'answer' / 'report.html'}\n"))
         shown = (example / "README.md").read_text("utf-8")
-        self.assertIn("".join(f"    {it}\n".replace("    \n", "\n") for it in answer.splitlines()[:11]), shown)
+        self.assertIn("".join(f"    {it}\n".replace("    \n", "\n") for it in answer.splitlines()[:12]), shown)
 
 
 class Differences(Agreeing):
@@ -306,6 +317,21 @@ class Parts(unittest.TestCase):
         for it in explaining.ALL:
             with self.subTest(it):
                 self.assertGreater(len(explanation(it)), 40)
+
+    def test_what_explains_goes_by_the_profile(self) -> None:
+        """What pf's machine does as pf is explained so only where the rules ask for pfsrc's own."""
+        syn = Record(1, "in", "em0", "tcp", "203.0.113.1", "1", "192.0.2.1", "80", "S")
+        for action, text, lines in (
+            ("pass", "kill:max-src-conn @1 overload=none killed=1", (explaining.WINDOWS, explaining.HANDSHAKE)),
+            ("block", "state @1", (explaining.WINDOWS, explaining.REUSE)),
+            ("pass", "state @1", (explaining.NUMBERS, explaining.REUSE)),
+        ):
+            answer = read_answer(f"1 {text}")
+            assert isinstance(answer, Answer)
+            judged = judging.Judged(judging.Verdict.DIFFERS, "", "", "")
+            for profile, line in zip(Profile, lines, strict=True):
+                known = explaining.Circumstances(1, 9, True, False, profile)
+                self.assertEqual(explaining.line_for(judged, PfAnswer(action, 0), syn, answer, known), line)
 
     def test_every_line_of_the_document_says_how_to_see_it(self) -> None:
         lines = DIFFERENCES.read_text("utf-8").splitlines()

@@ -6,12 +6,13 @@ import unittest
 from pathlib import Path
 from unittest import mock
 
-from pfplan.answers.changed_rules import Number, RulesText
+from pfplan.answers.changed_rules import ADAPTIVE, Number, RulesText
 from pfplan.answers.margins import moves_of, protocols_of, tenths, turns_of
 from pfplan.answers.measures import Measure
 from pfplan.answers.sizes import serves
 from pfplan.commands.words import share_word
 from pfplan.common.errors import Trouble
+from pfplan.tests.support import FolderCase
 
 STAND_IN = Path(__file__).resolve().parent / "stand_in.py"
 RULES = """set limit states 50
@@ -139,6 +140,26 @@ class Answers(unittest.TestCase):
             turns_of(self.measure(190), base, want, True), ("the wanted share is now served", "drop:states is now met")
         )
         self.assertEqual(turns_of(base, Measure(refused="line 0: TooManyEntries"), want, True), ())
+
+
+class Pairs(FolderCase):
+    """Adaptive values of rules, as pfsrc itself shows them."""
+
+    def pair_after(self, text: str, most: int) -> tuple[int, ...]:
+        """The adaptive values of the rule once its `max` is another."""
+        rules = RulesText(self.write("rules", text))
+        changed = RulesText(self.write("changed", rules.changed({rules.find("max"): most}).decode()))
+        return tuple(it.value for it in changed.options() if it.name in ADAPTIVE)
+
+    def test_derived_pair_follows(self) -> None:
+        """Those that pfctl derives from `max` follow it; given ones stay, and all do without the profile."""
+        profile = "set profile openbsd-7.4\n"
+        rule = "pass in proto tcp keep state (max 100{})\n"
+        pair = ", adaptive.start {}, adaptive.end {}".format
+        self.assertEqual(self.pair_after(profile + rule.format(""), 205), (120, 240))
+        self.assertEqual(self.pair_after(profile + rule.format(""), 9), ())
+        self.assertEqual(self.pair_after(profile + rule.format(pair(50, 120)), 205), (50, 120))
+        self.assertEqual(self.pair_after(rule.format(pair(60, 120)), 205), (60, 120))
 
 
 if __name__ == "__main__":

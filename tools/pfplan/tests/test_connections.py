@@ -16,7 +16,8 @@ from pfplan.answers.measures import measure
 from pfplan.answers.sides import follow, side_of
 from pfplan.answers.summaries import Wanted, summarize
 from pfplan.commands.words import networks
-from pfplan.pf.reading_canonical_text import flushes_of, items_of
+from pfplan.pf.profiles import Profile
+from pfplan.pf.reading_canonical_text import flushes_of
 from pfplan.replays.runs import Replay, run_replay, show_rules
 from pfplan.tests.fates_reading import Reading
 from pfplan.tests.support import FolderCase
@@ -165,15 +166,17 @@ class Fates(FolderCase):
         """One ruleset with one trace. Answers the fates."""
         drawer = Drawer(seed)
         text, flushes = drawer.ruleset()
+        profile = Profile.OPENBSD if seed % 2 else Profile.OWN
+        text = "".join(f"{it}\n" for it in profile.lines()) + text
         records = drawer.trace()
         users = drawer.random.choice(USERS)
         rules, trace, report = self.write("rules", text), self.trace(records), self.folder / "report"
         lines = self.replay(rules, records, report)
-        reading = Reading(users, flushes, lambda some: self.texts(rules, some))
+        reading = Reading(users, flushes, lambda some: self.texts(rules, some), profile is Profile.OPENBSD)
         wanted = reading.read(records, [it.partition(" ")[2] for it in lines[:-1]])
         found: list[tuple[tuple[str, ...], int, str]] = []
         named = networks(",".join(users))
-        told = flushes_of(items_of(show_rules(rules)))
+        told = flushes_of(show_rules(rules))
         side = side_of(
             "rules",
             iter(lines),

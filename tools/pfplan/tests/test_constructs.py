@@ -1,7 +1,8 @@
 """Each construct of pf.conf(5): what becomes of it. The cases are in constructs.txt, and docs/PFCONF.md names them.
 
-A case is `=== NAME WORDS`, a text, what `pfplan rules WORDS` writes behind `--- rules`, and what it says on
-standard error behind `--- errors`. Files that the texts name are in the folder constructs/.
+A case is `=== NAME WORDS`, a text, what `pfplan rules WORDS` writes behind `--- rules`, and what it says on standard
+error behind `--- errors`. The line of the profile is left out, unless the words name one or the text is a canonical
+one. Files that the texts name are in the folder constructs/.
 """
 
 import contextlib
@@ -19,6 +20,8 @@ from pfplan.common.repository import TOP, program
 
 HERE = Path(__file__).resolve().parent
 TEXTS = HERE / "constructs"
+PROFILE = "set profile openbsd-7.4"
+NOTHING = "# no rule and no setting is left"
 
 
 @dataclass(frozen=True)
@@ -40,8 +43,16 @@ def cases() -> list[Case]:
         text, _, errors = rest.partition("--- errors\n")
         text, _, rules = text.partition("--- rules\n")
         name, *words = head.split()
-        found.append(Case(name, tuple(words), text, rules, errors))
+        is_whole = "--profile" in words or name == "canonical_text"
+        found.append(Case(name, tuple(words), text, rules if is_whole else with_profile(rules), errors))
     return found
+
+
+def with_profile(rules: str) -> str:
+    """A rules text with the line that a pf.conf gets by itself: first, but behind the comment on entries by records."""
+    lines = [it for it in rules.splitlines() if it != NOTHING]
+    at = len(lines) > 0 and lines[0].startswith("# entries:")
+    return "".join(f"{it}\n" for it in [*lines[:at], PROFILE, *lines[at:]]) if rules else ""
 
 
 def answer(name: str, words: tuple[str, ...], text: str) -> tuple[int, str, str]:
@@ -85,13 +96,14 @@ class Constructs(unittest.TestCase):
         test_entries says so."""
         for case in cases():
             if (
-                not case.rules.removeprefix("# no rule and no setting is left\n")
+                not case.rules.removeprefix(f"{NOTHING}\n")
                 or case.name in ("on_group_unknown", "set_skip_groups")
                 or case.rules.startswith("# entries:")
             ):
                 continue
             with self.subTest(case.name):
-                _, rules, errors = answer("again", (), case.rules)
+                words = case.words if "--profile" in case.words else ()
+                _, rules, errors = answer("again", words, case.rules)
                 self.assertEqual(rules, case.rules)
                 self.assertRegex(
                     errors, r"^again: \d+ items?; left out: 0 that can change an answer, 0 that change none\n$"

@@ -9,6 +9,7 @@ from unittest import mock
 
 from pfplan.__main__ import main
 from pfplan.pages import pictures
+from pfplan.pf.profiles import Profile
 from pfplan.tests.support import FolderCase, pfplan
 from pfplan.traces.scenarios.returning import words_of
 
@@ -27,7 +28,11 @@ from = "203.0.113.7/32"
 hosts = 1
 rate = 8
 """
-RULES = "set limit states 60\nblock\npass in proto tcp to 192.0.2.1 port 80 keep state (max-src-states 50)\n"
+RULES = """set profile openbsd-7.4
+set limit states 60
+block
+pass in proto tcp to 192.0.2.1 port 80 keep state (max-src-states 50)
+"""
 
 
 class PlayedCommands(FolderCase):
@@ -89,6 +94,14 @@ class PlayedCommands(FolderCase):
         sides = json.loads(self.output("compare", self.rules, self.open, self.scenario, "--json"))["sides"]
         self.assertEqual([it["rules"] for it in sides], ["rules", "open"])
         self.assertLess(sides[0]["groups"][0]["served"], sides[1]["groups"][0]["served"] + 1)
+
+    def test_compare_names_the_profile(self) -> None:
+        """The rules' own, or that of the command line, which stands above it."""
+        page = self.folder / "page.html"
+        words: dict[Profile, tuple[str, ...]] = {Profile.OPENBSD: (), Profile.OWN: ("--profile", "papers")}
+        for profile in Profile:
+            self.output("compare", self.rules, self.open, self.scenario, "--page", page, *words[profile])
+            self.assertEqual([it for it in Profile if it.told() in page.read_text("utf-8")], [profile])
 
     def test_size_by_a_number_of_the_scenario(self) -> None:
         words = (

@@ -13,7 +13,12 @@ from pfplan.common.listings import NAME as LIST
 from pfplan.common.repository import TOP, program
 from pfplan.pf.conversion import RuleOptions, convert, convert_text
 from pfplan.pf.left_out import Leftover
+from pfplan.pf.profiles import Profile, profile_of
 from pfplan.pf.statements import Place
+from pfplan.replays.runs import show_rules
+
+
+PROFILE = "set profile openbsd-7.4"
 
 
 def text_of(text: str, **more: object) -> str:
@@ -45,6 +50,23 @@ class Rulesets(unittest.TestCase):
             ended = subprocess.run([program(), "check", f"{made}/rules"], capture_output=True, text=True, check=False)
             self.assertEqual(ended.stdout, "ok items=49 tables=5 entries=16\n")
 
+    def test_profile(self) -> None:
+        """A text gets the line of the profile once, and first; the word of the command line stands above what it
+        says, and without one a canonical text means what it says."""
+        own = "pass all\n"
+        for text, wanted in ((own, f"{PROFILE}\n{own}"), (f"{own}{PROFILE}\n{PROFILE}\n", f"{PROFILE}\n{own}")):
+            self.assertEqual(text_of(text), wanted)
+            self.assertEqual(text_of(text, profile=Profile.OPENBSD), wanted)
+            self.assertEqual(text_of(text, profile=Profile.OWN), own)
+        with tempfile.TemporaryDirectory() as folder:
+            for profile in Profile:
+                path = Path(folder, profile.value)
+                path.write_text("".join(f"{it}\n" for it in profile.lines()) + own, "utf-8")
+                shown = show_rules(path)
+                self.assertIs(profile_of(shown), profile)
+                made = text_of("".join(f"{it}\n" for it in shown))
+                self.assertIs(profile_of(made.splitlines()), profile)
+
     def test_labels(self) -> None:
         """Each item has its own label, by its number."""
         made = convert_text(
@@ -73,7 +95,7 @@ class Rulesets(unittest.TestCase):
 
     def test_strict(self) -> None:
         """The first thing that can change an answer is refused with its line, and one that can't is not."""
-        self.assertEqual(text_of("pass queue a\n", strict=True), "pass all\n")
+        self.assertEqual(text_of("pass queue a\n", strict=True), f"{PROFILE}\npass all\n")
         with self.assertRaises(Trouble) as raised:
             text_of("pass queue a\npass user 5\n", strict=True)
         self.assertIn("pf.conf: line 2: left out: pass user 5: can change an answer", raised.exception.message)

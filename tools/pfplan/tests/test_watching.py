@@ -27,6 +27,7 @@ from pfplan.commands.words import networks
 from pfplan.common.errors import Status
 from pfplan.common.repository import TOP
 from pfplan.pages.screens import plain_lines, screen_lines
+from pfplan.pf.reading_canonical_text import Flushes
 from pfplan.tests.packets import ETHERNET, ethernet, head, seen
 from pfplan.tests.support import Done, FolderCase, heed_interrupts, pfplan
 from pfplan.traces.moments import MOST_STEPS, step_of
@@ -350,7 +351,7 @@ class Counts(unittest.TestCase):
     def live_steps(self, lines: list[str], texts: list[str]) -> tuple[Any, int]:
         """The steps of a trace that is given in pieces, and the most there were at a time."""
         trace, answers, most = Fed(), Answers("report", 1), 0
-        moments = LiveMoments(trace, answers, (), {})
+        moments = LiveMoments(trace, answers, (), Flushes())
         for at in range(0, len(lines), 7):
             trace.put(lines[at : at + 7])
             moments.take(answers.take([f"{row} {text}" for row, text in enumerate(texts[at : at + 7], at + 1)]))
@@ -370,7 +371,7 @@ class Counts(unittest.TestCase):
         """Of many that never close, those that were quiet the longest go, and are counted as they were then."""
         ended: list[tuple[int, str]] = []
         connections = Connections(
-            networks("198.51.100.0/24"), lambda begin, outcome: ended.append((begin, outcome)), None, {}, 4, 10
+            networks("198.51.100.0/24"), lambda begin, outcome: ended.append((begin, outcome)), None, Flushes(), 4, 10
         )
         talker = ("198.51.100.1", "1", "192.0.2.1", "53", "")
         for row in range(1, 1001):
