@@ -329,6 +329,7 @@ class Parts(unittest.TestCase):
         for it in explaining.ALL:
             with self.subTest(it):
                 self.assertGreater(len(explanation(it)), 40)
+                self.assertNotRegex(explanation(it), r"`|\*\*|\]\(")
 
     def test_every_line_of_the_document_says_how_to_see_it(self) -> None:
         lines = DIFFERENCES.read_text("utf-8").splitlines()

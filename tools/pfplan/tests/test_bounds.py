@@ -119,7 +119,7 @@ class NamedFiles(FolderCase):
 
     def test_a_long_rule_is_cut(self) -> None:
         ports = ", ".join(map(str, range(1, 8000)))
-        status, err = self.refusal(f"pass in proto tcp to port {{ {ports} }} keep state (max-pkt-rate 5/1)\n")
+        status, err = self.refusal(f"pass in proto tcp to port {{ {ports} }} user root\n")
         self.assertEqual((status, err.count(" ..: can change an answer")), (0, 1), err[:1000])
         self.assertLess(len(err), 1000)
 

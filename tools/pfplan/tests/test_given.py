@@ -143,7 +143,7 @@ class Given(FolderCase):
         words = ["run", "pf.conf", "pcap", "--into", "answer", "--ifconfig", "ifconfig"]
         done = self.in_another_way("a pipe", words, len(words) - 1)
         self.assertEqual(done.status, 0, done.err)
-        self.assertIn("frames 12: records 11", done.err)
+        self.assertIn("frames 12: records 12", done.err)
 
     def test_what_is_packed_is_told_by_its_name(self) -> None:
         packed(self.trace(["1,in,em0,tcp,x,1,192.0.2.1,80,S"], "bad"), "gzip")
@@ -218,7 +218,7 @@ class Given(FolderCase):
             self.assertTrue(seconds[-1]["is_last"])
             (view,) = seconds[-1]["rulesets"]
             self.assertEqual((view["rules"], view["words"]["drop:states"]), ("pf.conf", 2))
-            self.assertEqual((view["limits"]["states"], view["held"]["states"]), (3, 3))
+            self.assertEqual((view["limits"]["states"], set(view["held"])), (3, {"states", "nodes", "entries"}))
             self.assertEqual((view["users"]["refused"], sum(view["users"].values())), (2, 5))
             self.assertEqual((last["rules"], last["page"]), ("pf.conf", None))
             self.assertEqual(last["summary"]["users"]["connections"], 5)
