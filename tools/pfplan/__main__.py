@@ -24,6 +24,11 @@ def main(words: Sequence[str] | None = None) -> int:
         _heed_endings()
         gc.set_threshold(UNWATCHED, 20, 20)
         arguments = parse(given)
+        if arguments.completion:
+            from pfplan.commands.completions import script_of
+
+            print(script_of(arguments.completion), end="")
+            return Status.DONE
         return int(arguments.run(arguments))
     except Trouble as trouble:
         message, status = trouble.message, trouble.status

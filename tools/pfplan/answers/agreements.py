@@ -23,8 +23,6 @@ from pfplan.traces.entries import records_at
 from pfplan.traces.pf_answers import Merged, PfAnswer, read_pf_answer
 from pfplan.traces.records import Answer, End, Record, Traces, line_blocks, read_answer, read_record
 
-# Differences that are told one by one.
-MOST = 10
 # What the packets of a connection have in common: the protocol, and both ends.
 Ends = tuple[str, frozenset[tuple[str, str]]]
 
@@ -47,7 +45,7 @@ class Difference:
 
 @dataclass
 class Agreement:
-    """What came of all packets: how many had which verdict, kind and words, and the first differences.
+    """What came of all packets: how many had which verdict, kind and words, and each that differs.
 
     `merged` says how many rows the log had, and `profile` whose pf the rules text asks for. `without_log` and
     `without_all` are rules of the text that keep states: a log lacks their packets, or those behind the first.
@@ -98,7 +96,9 @@ class Agreement:
             {"verdict": it.verdict.value, "kind": it.kind, "pf": it.pf, "pfsrc": it.pfsrc, "packets": count}
             for it, count in self.judged.most_common()
         ]
-        written: dict[str, Any] = json.loads(hider.text(json.dumps([asdict(it) for it in self.differences])))
+        written: list[dict[str, Any]] = json.loads(hider.text(json.dumps([asdict(it) for it in self.differences])))
+        for it in written:
+            it["explained_by"] = it["explained_by"].replace("`", "")
         return {
             "profile": self.profile.value,
             "rows": self.merged.rows,
@@ -160,7 +160,7 @@ class Comparing:
             self.moments.append(int(line.partition(",")[0]))
         if text.startswith("kill:"):
             self.kills.setdefault(text.split(" ")[1], number)
-        if judged.verdict is Verdict.DIFFERS and len(self.found) < MOST:
+        if judged.verdict is Verdict.DIFFERS:
             self.found.append(
                 Difference(number, read_record(line), _pf_of(said), _answer_of(number, text), judged.kind)
             )
@@ -207,7 +207,8 @@ def held_before(
 def _write_asking(trace: Path, rows: Sequence[int], asked: Path, entries: Sequence[str]) -> set[int]:
     """Writes the beginning of a trace with a record `held` before each of some rows. Answers those whose connection
     began before them."""
-    wanted = {row: _ends(read_record(line)) for row, line in _first_lines(trace, rows[-1]) if row in set(rows)}
+    asked_rows = set(rows)
+    wanted = {row: _ends(read_record(line)) for row, line in _first_lines(trace, rows[-1]) if row in asked_rows}
     connections = set(wanted.values())
     begins: dict[Ends, int] = {}
     with open(asked, "w", encoding="latin-1", newline="\n") as out:
@@ -239,7 +240,7 @@ def _ends(record: Record) -> Ends:
 
 
 def agreement_of(folder: Path, ruleset: Ruleset, merged: Merged) -> Agreement:
-    """Both sides of every packet, and more of the first that differ."""
+    """Both sides of every packet, and more of each that differs."""
     judge = Judge(ruleset.pf_rules)
     comparing = Comparing(folder, judge)
     progress = Progress("compare", merged.packets, "packets")

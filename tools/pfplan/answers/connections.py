@@ -2,8 +2,8 @@
 got.
 
 A connection is of who began it: with a SYN, and for other protocols with its first packet. A SYN that is repeated
-belongs to its connection, until another one of these ports can be told (`Connections` says when). RULES has its
-outcomes.
+belongs to its connection, and so does a packet of UDP, until another one of these ports can be told (`Connections` says
+when). RULES has its outcomes.
 """
 
 import ipaddress
@@ -44,8 +44,8 @@ MEANINGS = {
 # Seconds before the end of a trace in which a missing answer says nothing. A client repeats its SYN after 1 second and
 # after 2 more (RFC 6298, 2), so an answer to the first or the second may come within 3.
 LAST_SECONDS = 3
-# Seconds without a packet after which a SYN of the same ports begins another connection: a port may be used again after
-# twice the lifetime of a segment (RFC 9293, 3.4.1 and 3.6.1).
+# Seconds without a packet after which a SYN of the same ports, or a packet of UDP, begins another connection: a port
+# may be used again after twice the lifetime of a segment (RFC 9293, 3.4.1 and 3.6.1).
 ANOTHER = 240
 # Connections that are over are remembered up to this number, so that their last packets are not taken for those of
 # others.
@@ -234,7 +234,8 @@ class Connections:
     """Follows the connections of users, and counts those whose end is known.
 
     A SYN begins another connection where there is none of these ports, or it has been closed, or 4 minutes have passed
-    since its last packet, or its handshake was done and its state is not held any more. `hear(begin, outcome)` is
+    since its last packet, or its handshake was done and its state is not held any more. Of other protocols a packet
+    does so 4 minutes after the last one, if no state of it is held. `hear(begin, outcome)` is
     called for each that is over, and `ended(key, first row, outcome)`, which tells it from all others. Memory grows
     with the connections that are open at a time, where `most_open` does not bound them: of more, those that have been
     quiet the longest are counted as they are then, and let go (`forgotten`). `flushes` says what kills flush; None
@@ -301,7 +302,10 @@ class Connections:
             if flow.state == "open" and pair.is_tcp and ("F" in flags or "R" in flags):
                 flow.state = "closed"
             return
-        is_first = "S" in flags and "A" not in flags if pair.is_tcp else flow is None
+        if pair.is_tcp:
+            is_first = "S" in flags and "A" not in flags
+        else:
+            is_first = flow is None or word != "state" and moment - flow.seen >= ANOTHER
         if flow is None or is_first and (flow.is_over(moment, word) or self._is_of_other(flow, is_low)):
             flow = self._begin(pair, is_low, row, moment, is_first, reply)
             if flow.is_counted:

@@ -7,10 +7,10 @@ import socket
 import time
 from collections import Counter
 from collections.abc import Callable, Mapping, Sequence
-from dataclasses import dataclass, field
+from dataclasses import asdict, dataclass, field
 from pathlib import Path
 from types import FrameType
-from typing import TextIO
+from typing import Any, TextIO
 
 from pfplan.answers.live_counts import BLOCK, NAMED, Side
 from pfplan.answers.sources import Source
@@ -44,9 +44,21 @@ class View:
     refused_users: Sequence[Source] = ()
     forgotten: int = 0  # connections of users that were open
 
-    def refused(self, words: Mapping[str, int]) -> int:
-        """How many records a limit refused."""
-        return sum(count for word, count in words.items() if word.startswith("drop:"))
+    def to_json(self) -> dict[str, Any]:
+        """It for machines (man/pfplan.1)."""
+        return {
+            "rules": self.name,
+            "held": {"states": self.held.states, "nodes": self.held.nodes, "entries": self.held.entries},
+            "limits": dict(self.limits),
+            "words": dict(self.words),
+            "new_words": dict(self.new_words),
+            "states_killed": self.killed,
+            "sources_added": self.added,
+            "last_added": list(self.last_added),
+            "users": None if self.outcomes is None else dict(self.outcomes),
+            "users_refused_most": [asdict(it) for it in self.refused_users],
+            "forgotten": self.forgotten,
+        }
 
 
 @dataclass(frozen=True)
@@ -61,6 +73,17 @@ class Shown:
     views: Sequence[View] = field(default_factory=tuple)
     quiet: int = 0
     is_last: bool = False
+
+    def to_json(self) -> dict[str, Any]:
+        """It for machines (man/pfplan.1)."""
+        return {
+            "seconds": self.seconds,
+            "moment": self.moment,
+            "records": self.records,
+            "records_a_second": round(self.rate, 1),
+            "is_last": self.is_last,
+            "rulesets": [it.to_json() for it in self.views],
+        }
 
 
 # How many moments are kept at which it was asked how much is held.

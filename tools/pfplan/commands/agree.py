@@ -4,24 +4,29 @@ import argparse
 import json
 import sys
 import tempfile
+from collections.abc import Iterator
 from dataclasses import replace
 from pathlib import Path
 
-from pfplan.answers.agreements import agreement_of
+from pfplan.answers.agreements import Agreement, agreement_of
 from pfplan.answers.hiding import Hider
+from pfplan.answers.judging import Verdict
+from pfplan.commands.given_rules import ruleset_given
 from pfplan.commands.parser import Parser
 from pfplan.commands.rule_words import add_rule_words, options_of
-from pfplan.commands.words import file, folder
+from pfplan.commands.run_words import add_check, checked
+from pfplan.commands.words import file, folder, number
 from pfplan.common.errors import Status, Trouble
-from pfplan.common.inputs import check_readable
+from pfplan.common.figures import counted
+from pfplan.common.inputs import regular
 from pfplan.common.outputs import check_folder, part_file, whole_folder
 from pfplan.common.repository import DIFFERENCES, check_program
 from pfplan.pages.agreement_texts import page_of, text_of
 from pfplan.pages.differences import differences_beside
 from pfplan.pages.report_page import PAGE
-from pfplan.pf.conversion import Ruleset, convert, write_ruleset
+from pfplan.pf.conversion import Ruleset, write_ruleset
 from pfplan.replays.runs import replay_into
-from pfplan.traces.captures import make_trace
+from pfplan.traces.captures import Seen, make_trace
 from pfplan.traces.pf_answers import Merged, merge, packets_of
 
 DESCRIPTION = """Holds what a running pf said of the packets of its log beside what pfsrc says of them. On the firewall:
@@ -30,8 +35,8 @@ DESCRIPTION = """Holds what a running pf said of the packets of its log beside w
   pfctl -nvf /etc/pf.conf > pf.conf.txt    has the rules as pf numbers them
 
 Then pfplan agree pf.conf.txt pflog --into answer. It makes rules and trace, replays, and counts on how many packets
-both agree: the same action by the same rule, or a refusal by the same kind of limit. Of the first ten that differ it
-tells both sides, what was held, and what explains it. What is printed has no addresses in it (--addresses shows them):
+both agree: the same action by the same rule, or a refusal by the same kind of limit. Of those that differ it tells
+both sides, what was held, and what explains it. What is printed has no addresses in it (--addresses shows them):
 it can be sent to the makers of pfsrc as it is."""
 # The files that a folder gets.
 OURS = (
@@ -61,39 +66,52 @@ def add_words(parser: Parser) -> None:
         action="store_true",
         help="shows addresses; else each has a name of its own, a1, a2 ..",
     )
+    parser.add_argument(
+        "--top", type=number(0, 10_000), metavar="N", default=10,
+        help="how many of the packets that differ are told one by one (10); agree.json has them all",
+    )  # fmt: skip
+    add_check(parser, "a packet differs, or none can be compared")
     parser.add_argument("--partial", action="store_true", help="takes a log that is cut at its end, up to there")
     add_rule_words(parser)
 
 
 def run(arguments: argparse.Namespace) -> int:
     """Runs the command."""
-    check_readable(arguments.rules_from)
-    check_readable(arguments.log)
-    ruleset = convert(arguments.rules_from, replace(options_of(arguments), by_records=True))
+    ruleset = ruleset_given(arguments.rules_from, replace(options_of(arguments), by_records=True))
     check_folder(arguments.into, OURS)
     for name in ("pfsrc", "pfstrace"):
         check_program(name)
-    with whole_folder(arguments.into) as folder:
-        text = _fill(arguments, folder, ruleset)
+    with regular(arguments.log) as log, whole_folder(arguments.into) as folder:
+        found, text = _fill(arguments, log, folder, ruleset)
     sys.stdout.write(text)
     print(arguments.into / PAGE)
-    return Status.DONE
+    return checked(arguments, _reasons(found))
 
 
-def _fill(arguments: argparse.Namespace, folder: Path, ruleset: Ruleset) -> str:
-    """Writes all files of the folder, and answers the text that is printed."""
+def _reasons(found: Agreement) -> Iterator[str]:
+    """Why it does not hold that all agree."""
+    if not found.compared:
+        yield "no packet of the log can be compared"
+    if differing := found.count(Verdict.DIFFERS):
+        yield f"{counted(differing, 'packet')} of {found.compared:,} differ"
+
+
+def _fill(
+    arguments: argparse.Namespace, log: Path, folder: Path, ruleset: Ruleset
+) -> tuple[Agreement, str]:
+    """Writes all files of the folder, and answers what was found, with the text that is printed."""
     write_ruleset(folder, ruleset)
-    merged = _make_trace(arguments.log, folder, is_partial=arguments.partial)
+    merged = _make_trace(log, folder, is_partial=arguments.partial)
     replay_into(folder, folder / "trace.csv", ruleset.records)
     found = agreement_of(folder, ruleset, merged)
     hider = Hider(shows=arguments.shows_addresses)
-    text = hider.text(text_of(found))
-    page = page_of(found, hider, differences_beside(folder, arguments.into))
+    text = hider.text(text_of(found, arguments.top))
+    page = page_of(found, hider, differences_beside(folder, arguments.into), arguments.top)
     as_json = json.dumps(found.to_json(hider), indent=2) + "\n"
     for name, whole in (("agree.txt", text), ("agree.json", as_json), (PAGE, page)):
         with part_file(folder / name) as out:
             out.write(whole)
-    return text
+    return found, text
 
 
 def _make_trace(log: Path, folder: Path, *, is_partial: bool) -> Merged:
@@ -101,7 +119,7 @@ def _make_trace(log: Path, folder: Path, *, is_partial: bool) -> Merged:
     with tempfile.TemporaryDirectory(prefix="pfplan-") as made:
         trace, told = Path(made, "trace"), Path(made, "told")
         with part_file(trace) as trace_out, part_file(told) as told_out:
-            account = make_trace(log, (), trace_out, told=told_out, is_partial=is_partial, is_log=True)
+            account = make_trace([log], [Seen()], trace_out, told=told_out, is_partial=is_partial, is_log=True)
         for line in account:
             print(line, file=sys.stderr)
         with part_file(folder / "trace.csv") as trace_out, part_file(folder / "told.csv") as told_out:

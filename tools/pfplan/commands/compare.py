@@ -2,33 +2,34 @@
 
 import argparse
 import contextlib
+from dataclasses import replace
 
 from pfplan.answers.comparisons import Asked, compare, names_of
-from pfplan.answers.plays_beside import PlaysBeside, play_apart
+from pfplan.answers.plays_beside import PlaysBeside, json_of_side, play_apart
 from pfplan.commands.play_words import add_most, add_seeds
-from pfplan.commands.rule_words import add_profile
-from pfplan.commands.run_words import add_answer_words, write_answer
+from pfplan.commands.given_rules import rules_given, ruleset_given
+from pfplan.commands.rule_words import add_rule_words, options_of
+from pfplan.commands.run_words import add_answer_words, add_check, checked, in_doubt, write_answer
 from pfplan.commands.words import add_asked, file, number
-from pfplan.common.errors import Trouble
-from pfplan.common.inputs import check_readable, check_rules, regular
+from pfplan.common.errors import Status, Trouble
+from pfplan.common.figures import counted
+from pfplan.common.inputs import check_readable, check_trace, regular
 from pfplan.common.repository import check_program
 from pfplan.pages import comparison_texts, play_folder, play_pages, play_texts
 from pfplan.pages.differences import differences_beside
-from pfplan.pf.conversion import RuleOptions, convert
-from pfplan.traces.entries import entries_of_rules
 from pfplan.traces.scenarios.expecting import check_expected
 from pfplan.traces.scenarios.reading import is_scenario, read_scenario
 
 DESCRIPTION = """Replays one trace under several rulesets and tells how they differ: what became of the users,
 which limits were met, what is held; the first record at which they part and why; how many records had which word in
 the one and in the other; and which connections of users change their fate. The first ruleset is the one that the
-others are held against. Rules texts are wanted: pfplan rules makes one of a pf.conf."""
+others are held against. Of a pf.conf a rules text is made, and standard error says what is left out of it."""
 
 
 def add_words(parser: argparse.ArgumentParser) -> None:
     """The words of `compare`."""
     parser.description = DESCRIPTION
-    parser.add_argument("rules", nargs="+", type=file, metavar="RULES", help="two rules texts or more")
+    parser.add_argument("rules", nargs="+", type=file, metavar="RULES", help="two rules texts or more, or a pf.conf")
     parser.add_argument(
         "trace",
         type=file,
@@ -45,31 +46,37 @@ def add_words(parser: argparse.ArgumentParser) -> None:
     )
     add_seeds(parser)
     add_most(parser)
-    add_profile(parser)
+    add_check(parser, "something differs, or the answer is in doubt")
     add_answer_words(parser)
+    add_rule_words(parser)
 
 
-def run(arguments: argparse.Namespace) -> int:
+def run(arguments: argparse.Namespace) -> Status:
     """Compares rulesets and tells how they differ."""
     if len(arguments.rules) < 2:
-        raise Trouble("two rules texts or more are wanted, and then a trace (pfplan compare --help)")
+        raise Trouble("two rulesets or more are wanted, and then a trace (pfplan compare --help)")
     if is_scenario(arguments.trace):
         return _compare_plays(arguments)
-    if arguments.profile:
-        raise Trouble("--profile: the word is for a scenario; rules texts say it themselves")
     check_program()
-    for path in arguments.rules:
-        check_rules(path)
-    with regular(arguments.trace) as trace, contextlib.ExitStack() as stack:
-        paths = [stack.enter_context(regular(it)) for it in arguments.rules]
-        entries = [entries_of_rules(it, name) for it, name in zip(paths, arguments.rules)]
+    with contextlib.ExitStack() as stack:
+        given = [stack.enter_context(rules_given(it, options_of(arguments))) for it in arguments.rules]
+        trace = stack.enter_context(regular(arguments.trace))
+        check_trace(trace)
         wanted = Asked(arguments.users, arguments.held, arguments.top, bool(arguments.page))
-        found = compare(names_of(arguments.rules), paths, trace, entries, wanted)
+        names = names_of(arguments.rules)
+        found = compare(names, [it.path for it in given], trace, [it.records for it in given], wanted)
     found.trace = arguments.trace.name
-    return write_answer(arguments, found, comparison_texts.text_of, comparison_texts.page_of)
+    found.doubts[:0] = [f"{name}: {why}" for name, it in zip(names, given) for why in it.doubts()]
+    write_answer(arguments, found, comparison_texts.text_of, comparison_texts.page_of)
+    differing = (
+        f"{counted(it.differing, 'record')} have another word under {name} than under {names[0]}"
+        for name, it in zip(names[1:], found.against)
+        if it.differing
+    )
+    return checked(arguments, (*in_doubt(found.doubts), *differing))
 
 
-def _compare_plays(arguments: argparse.Namespace) -> int:
+def _compare_plays(arguments: argparse.Namespace) -> Status:
     """Plays a scenario against each ruleset, and tells how they differ."""
     if arguments.users:
         raise Trouble(f"--users: {arguments.trace} is a scenario, which says itself who the users are")
@@ -77,8 +84,7 @@ def _compare_plays(arguments: argparse.Namespace) -> int:
         check_readable(path)
     scenario = read_scenario(arguments.trace)
     check_expected(scenario, arguments.most)
-    options = RuleOptions(by_records=True, profile=arguments.profile)
-    rulesets = [convert(it, options) for it in arguments.rules]
+    rulesets = [ruleset_given(it, replace(options_of(arguments), by_records=True)) for it in arguments.rules]
     check_program()
     played = play_apart(
         scenario, play_folder.names_of(arguments.rules), rulesets, arguments.rules, arguments.seeds
@@ -87,4 +93,11 @@ def _compare_plays(arguments: argparse.Namespace) -> int:
     def page_of(played: PlaysBeside) -> str:
         return play_pages.page_of(played, *play_pages.drawn_of(played), differences_beside(arguments.page.parent))
 
-    return write_answer(arguments, played, play_texts.text_of, page_of)
+    write_answer(arguments, played, play_texts.text_of, page_of)
+    first, *others = map(json_of_side, played.sides)
+    differing = (
+        f"the play under {name} comes out otherwise than that under {played.names[0]}"
+        for name, it in zip(played.names[1:], others)
+        if it != first
+    )
+    return checked(arguments, (*in_doubt(played.doubts), *differing))

@@ -4,19 +4,21 @@ from __future__ import annotations
 
 import argparse
 import ipaddress
+import json
 from collections.abc import Sequence
 from dataclasses import replace
+from typing import Any
 
 from pfplan.answers.summaries import origins_told
+from pfplan.commands.given_rules import NO_WORDS, GivenRules, rules_given, ruleset_given
 from pfplan.commands.parser import Parser
 from pfplan.commands.rule_words import add_rule_words, options_of
 from pfplan.commands.words import file, number, output
 from pfplan.common.errors import Status, Trouble
-from pfplan.common.inputs import check_rules, check_trace, regular
+from pfplan.common.inputs import check_trace, regular
 from pfplan.common.outputs import whole_file
 from pfplan.common.repository import check_program
-from pfplan.pages.story_texts import Story
-from pfplan.pf.conversion import convert
+from pfplan.pages.story_texts import Story, Told
 from pfplan.pf.named_files import read_text
 from pfplan.pf.origins import Origins, origins_of
 from pfplan.pf.profiles import profile_of
@@ -41,7 +43,9 @@ def add_words(parser: Parser) -> None:
         metavar="TRACE",
         help="the trace that was replayed, or that came of the play",
     )
-    parser.add_argument("--rules", type=file, required=True, metavar="RULES", help="the rules text under which it was")
+    parser.add_argument(
+        "--rules", type=file, required=True, metavar="RULES", help="the rules under which it was: a text, or a pf.conf"
+    )
     parser.add_argument(
         "--conf",
         type=file,
@@ -52,6 +56,7 @@ def add_words(parser: Parser) -> None:
     what = parser.add_mutually_exclusive_group(required=True)
     what.add_argument("--source", type=_address, metavar="ADDRESS", help="tells of this source")
     what.add_argument("--row", type=number(1, 1_000_000_000), metavar="N", help="tells of this record")
+    parser.add_argument("--json", action="store_true", help="for machines")
     parser.add_argument("--out", type=output, metavar="FILE", help="where the text goes (standard output)")
     add_rule_words(parser)
 
@@ -59,25 +64,41 @@ def add_words(parser: Parser) -> None:
 def run(arguments: argparse.Namespace) -> int:
     """Tells the story."""
     check_program()
-    check_rules(arguments.rules)
-    check_trace(arguments.trace)
-    with regular(arguments.trace) as trace, regular(arguments.report) as report:
-        shown = show_rules(arguments.rules)
-        story = Story(arguments.rules, trace, report, shown, _origins(arguments, shown))
-        lines = list(story.of_source(arguments.source) if arguments.source else story.of_row(arguments.row))
+    # where a pf.conf is given beside the rules text, the words are about that one
+    options = NO_WORDS if arguments.conf else options_of(arguments)
+    with (
+        regular(arguments.trace) as trace,
+        regular(arguments.report) as report,
+        rules_given(arguments.rules, options) as rules,
+    ):
+        check_trace(trace)
+        shown = show_rules(rules.path)
+        story = Story(rules.path, trace, report, shown, _origins(arguments, rules, shown))
+        told = list(story.of_source(arguments.source)) if arguments.source else [story.of_row(arguments.row)]
     with whole_file(arguments.out) as out:
-        out.writelines(f"{it}\n" for it in lines)
+        if arguments.json:
+            out.write(json.dumps(_json_of(told), indent=1) + "\n")
+        else:
+            out.writelines(f"{line}\n" for it in told for line in it.lines)
     return Status.DONE
 
 
-def _origins(arguments: argparse.Namespace, shown: Sequence[str]) -> Origins:
+def _json_of(told: Sequence[Told]) -> dict[str, Any]:
+    """A story for machines: what is said of the source, with its runs, or of the record."""
+    head, *runs = (it.facts for it in told)
+    return head | {"runs": runs} if "source" in head else head
+
+
+def _origins(arguments: argparse.Namespace, rules: GivenRules, shown: Sequence[str]) -> Origins:
     """Where the rules stand in the pf.conf. Trouble where the one that was given makes other rules."""
+    if rules.made:
+        return origins_of(rules.made)
     if arguments.conf is None:
         return origins_told(arguments.rules.with_name("summary.json"), items_of(shown))
-    text = read_text(arguments.rules)
+    text = read_text(rules.path)
     options = options_of(arguments)
     profile = options.profile or profile_of(shown)
-    made = convert(arguments.conf, replace(options, by_records=marked(text) is not None, profile=profile))
+    made = ruleset_given(arguments.conf, replace(options, by_records=marked(text) is not None, profile=profile))
     if made.written != text:
         raise Trouble(f"{arguments.conf}: by these words it makes other rules than {arguments.rules}", Status.RULES)
     return origins_of(made)

@@ -1,17 +1,30 @@
 """The command `margins`: how sure an answer is."""
 
 import argparse
+from collections.abc import Iterator
+from dataclasses import replace
 from fractions import Fraction
 
-from pfplan.answers.margins import measure_margins
-from pfplan.commands.run_words import add_answer_words, add_machine_words, machines_of, write_answer
+from pfplan.answers.margins import Margins, measure_margins
+from pfplan.commands.given_rules import rules_given
+from pfplan.commands.rule_words import add_rule_words, options_of
+from pfplan.commands.run_words import (
+    add_answer_words,
+    add_check,
+    add_machine_words,
+    checked,
+    in_doubt,
+    machines_of,
+    too_few,
+    write_answer,
+)
 from pfplan.commands.words import add_asked, file, share_word
 from pfplan.common.errors import Trouble
-from pfplan.common.inputs import check_rules, check_trace, regular
+from pfplan.common.figures import counted
+from pfplan.common.inputs import check_trace, regular
 from pfplan.common.repository import check_program
 from pfplan.pages import margin_texts
 from pfplan.replays.machines import measure_words
-from pfplan.traces.entries import entries_of_rules
 from pfplan.traces.scenarios.reading import is_scenario
 
 DESCRIPTION = """Replays a trace under the rules, or plays a scenario, and again with each limit, maximum and
@@ -23,7 +36,7 @@ limit is met. Rules that state the same number of one option are moved together.
 def add_words(parser: argparse.ArgumentParser) -> None:
     """The words of `margins`."""
     parser.description = DESCRIPTION
-    parser.add_argument("rules", type=file, metavar="RULES", help="a rules text")
+    parser.add_argument("rules", type=file, metavar="RULES", help="a rules text, or a pf.conf")
     parser.add_argument(
         "trace", type=file, metavar="TRACE", help="the trace under which it is replayed, or the scenario that is played"
     )
@@ -35,30 +48,42 @@ def add_words(parser: argparse.ArgumentParser) -> None:
         metavar="SHARE",
         help="of the users' connections, as 99%% (99%%)",
     )
+    add_check(parser, "fewer are served than --want, an answer turns over, or is in doubt")
     add_answer_words(parser)
     add_machine_words(parser)
+    add_rule_words(parser)
 
 
 def run(arguments: argparse.Namespace) -> int:
     """Moves each number and tells which answers turn over."""
     where = machines_of(arguments)
     check_program()
-    check_rules(arguments.rules)
-    if not is_scenario(arguments.trace):
-        check_trace(arguments.trace)
-    elif arguments.users:
+    is_played = is_scenario(arguments.trace)
+    if is_played and arguments.users:
         raise Trouble(f"--users: {arguments.trace} is a scenario, which says itself who the users are")
     names = (arguments.trace.name, str(arguments.rules))
-    with regular(arguments.rules) as rules, regular(arguments.trace) as trace:
-        entries = entries_of_rules(rules, arguments.rules)
+    with rules_given(arguments.rules, options_of(arguments)) as rules, regular(arguments.trace) as trace:
+        if not is_played:
+            check_trace(trace)
         found = measure_margins(
-            rules,
+            rules.path,
             trace,
             arguments.users,
             arguments.want,
             where,
             measure_words(arguments.users, arguments.held),
             names,
-            entries,
+            rules.records,
         )
-    return write_answer(arguments, found, margin_texts.text_of, margin_texts.page_of)
+        found = replace(found, doubts=[*rules.doubts(), *found.doubts])
+    write_answer(arguments, found, margin_texts.text_of, margin_texts.page_of)
+    return checked(arguments, reasons_of(found))
+
+
+def reasons_of(found: Margins) -> Iterator[str]:
+    """Why the answer is not sure, or not a good one."""
+    yield from in_doubt(found.doubts)
+    if found.users:
+        yield from too_few(found.base.served, found.base.counted, found.want)
+    if found.turning:
+        yield f"an answer turns over in {counted(len(found.turning), 'run')} of {len(found.margins)}"

@@ -42,7 +42,7 @@ def add_words(parser: argparse.ArgumentParser) -> None:
 
 def _is_scenario(path: Path) -> bool:
     """Whether a file is a scenario. A run of a trace does not load their code: `size` starts many."""
-    if path.suffix != ".toml" and kind_of(path) is Kind.TRACE:
+    if path.suffix != ".toml" and kind_of(path) in (None, Kind.TRACE):
         return False
     from pfplan.traces.scenarios.reading import is_scenario
 

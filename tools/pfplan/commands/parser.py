@@ -4,10 +4,11 @@ import argparse
 import difflib
 import importlib
 import re
-from collections.abc import Iterator, Sequence
+from collections.abc import Collection, Iterator, Sequence
 from pathlib import Path
 from typing import Any, NoReturn
 
+from pfplan import VERSION
 from pfplan.commands.words import output
 from pfplan.common.errors import Trouble
 from pfplan.common.inputs import take, take_none
@@ -68,18 +69,22 @@ class Parser(argparse.ArgumentParser):
         return parsed, rest
 
 
-def make_parser(asked: str) -> Parser:
-    """The parser with every command, and with the words of the one that is asked for: the code of no other is
+def make_parser(asked: Collection[str]) -> Parser:
+    """The parser with every command, and with the words of those that are asked for: the code of no other is
     loaded."""
     parser = Parser(
         prog="pfplan",
         description="From a pf.conf and a capture, or a scenario, to an answer that one can look at.",
         epilog=ENDS,
     )
+    parser.add_argument("-V", "--version", action="version", version=f"pfplan {VERSION}", help="prints the version")
+    parser.add_argument(
+        "--completion", choices=("bash", "zsh"), metavar="SHELL", help="prints what completes words in bash or zsh"
+    )
     commands = parser.add_subparsers(dest="command", metavar="COMMAND", parser_class=Parser)
     for name, does in COMMANDS:
         words = commands.add_parser(name, help=does)
-        if name == asked:
+        if name in asked:
             code = importlib.import_module(f"pfplan.commands.{name}")
             words.description = f"{does[0].upper()}{does[1:]}."
             code.add_words(words)
@@ -89,7 +94,7 @@ def make_parser(asked: str) -> Parser:
 
 def parse(words: Sequence[str]) -> argparse.Namespace:
     """The words of the command line, read. Trouble with status 2 says which word is refused, and why."""
-    parser = make_parser(words[0] if words else "")
+    parser = make_parser(words[:1])
     names = [name for name, _ in COMMANDS]
     if words and not words[0].startswith("-") and words[0] not in names:
         near = difflib.get_close_matches(words[0], names, 1)
@@ -97,6 +102,8 @@ def parse(words: Sequence[str]) -> argparse.Namespace:
             f"'{words[0]}': no such command" + (f"; is {near[0]} meant?" if near else f"; there are {', '.join(names)}")
         )
     arguments = parser.parse_args(words)
+    if arguments.completion:
+        return arguments
     if arguments.command is None:
         raise Trouble(f"a command is wanted: {', '.join(names)} (pfplan --help)")
     _check_outputs(arguments)
@@ -108,13 +115,17 @@ def _check_outputs(arguments: argparse.Namespace) -> None:
     inputs from here on."""
     take_none()
     outputs: list[Path | None] = []
+    inputs: list[Path] = []
     for action in arguments.own._actions:
         given = getattr(arguments, action.dest, None)
         if action.type is output:
             outputs += [given] if given or action.dest == "out" else []
         else:
-            for path in _paths_in(given):
-                take(path)
+            inputs += _paths_in(given)
+    for path in inputs:
+        take(path)
+    if sum(str(it) == "-" for it in inputs) > 1:
+        raise Trouble("-: standard input can be one of the inputs, and not several")
     check_files(outputs or [None])
 
 

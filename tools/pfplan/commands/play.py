@@ -7,21 +7,22 @@ from collections.abc import Sequence
 from dataclasses import replace
 from pathlib import Path
 
-from pfplan.answers.plays_beside import play_into
+from pfplan.answers.plays_beside import PlaysBeside, play_into
+from pfplan.commands.given_rules import ruleset_given
 from pfplan.commands.parser import Parser
 from pfplan.commands.play_words import add_most, add_seeds
 from pfplan.commands.rule_words import add_rule_words, options_of
-from pfplan.commands.words import file, folder, number
+from pfplan.commands.run_words import checked, in_doubt, too_few
+from pfplan.commands.words import file, folder, number, words_in
 from pfplan.common.errors import Status, Trouble
 from pfplan.common.inputs import check_readable
 from pfplan.common.outputs import check_folder, whole_folder
 from pfplan.common.repository import check_program
 from pfplan.pages.doubt_texts import doubt_lines
 from pfplan.pages.play_folder import files_of, names_of, write_plays
-from pfplan.pages.play_texts import headline_of
+from pfplan.pages.play_texts import headline_of, users_of
 from pfplan.pages.record_texts import letters
 from pfplan.pages.report_page import PAGE
-from pfplan.pf.conversion import convert
 from pfplan.traces.scenarios.expecting import MOST, check_expected
 from pfplan.traces.scenarios.model import Scenario
 from pfplan.traces.scenarios.reading import read_scenario
@@ -66,20 +67,26 @@ def run(arguments: argparse.Namespace) -> int:
     return Status.DONE
 
 
-def run_play(arguments: argparse.Namespace) -> int:
-    """`run` with a scenario: plays it against one ruleset, into one folder."""
-    for word in ("users", "inside", "name", "zero", "margins"):
-        if getattr(arguments, word):
-            given = "if" if word == "name" else word
+def run_play(arguments: argparse.Namespace) -> Status:
+    """`run` with a scenario: plays it against one ruleset, into one folder. Served is who is served without
+    waiting."""
+    scenario = arguments.captures[0]
+    for word in ("users", "inside", "outside", "if", "zero", "margins"):
+        if getattr(arguments, word, None) or word in words_in(arguments.seen):
             raise Trouble(
-                f"--{given}: {arguments.capture} is a scenario, and the word is for traces"
+                f"--{word}: {scenario} is a scenario, and the word is for traces"
                 + ("; pfplan margins takes it" if word == "margins" else "")
             )
-    play_rules(read_scenario(arguments.capture), [arguments.rules_from], arguments, is_flat=True)
-    return Status.DONE
+    if len(arguments.captures) > 1:
+        raise Trouble(f"{scenario}: a scenario, which comes alone")
+    played = play_rules(read_scenario(scenario), [arguments.rules_from], arguments, is_flat=True)
+    connections, at_once, _ = users_of(played.plays[0])
+    return checked(arguments, (*in_doubt(played.doubts), *too_few(at_once, connections, arguments.want)))
 
 
-def play_rules(scenario: Scenario, paths: Sequence[Path], arguments: argparse.Namespace, is_flat: bool = False) -> None:
+def play_rules(
+    scenario: Scenario, paths: Sequence[Path], arguments: argparse.Namespace, is_flat: bool = False
+) -> PlaysBeside:
     """Plays a scenario against rulesets, writes the folder, and prints the answer and where the page is.
 
     Each ruleset has a folder of its own in it; one that `is_flat` has none.
@@ -87,7 +94,7 @@ def play_rules(scenario: Scenario, paths: Sequence[Path], arguments: argparse.Na
     check_expected(scenario, getattr(arguments, "most", MOST))
     names = names_of(paths)
     below = [""] if is_flat else names
-    rulesets = [convert(it, replace(options_of(arguments), by_records=True)) for it in paths]
+    rulesets = [ruleset_given(it, replace(options_of(arguments), by_records=True)) for it in paths]
     check_folder(arguments.into, files_of(below))
     check_program()
     with whole_folder(arguments.into) as made:
@@ -99,3 +106,4 @@ def play_rules(scenario: Scenario, paths: Sequence[Path], arguments: argparse.Na
     for letter, name, at in zip(letters(len(names)), names, range(len(names))):
         print(f"{letter}  {name}: {headline_of(played, at)}")
     print(arguments.into / PAGE)
+    return played

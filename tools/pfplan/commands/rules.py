@@ -1,18 +1,16 @@
 """The command `rules`: a rules text of a pf.conf, and what was left out of it."""
 
 import argparse
+import json
 import sys
-from collections.abc import Sequence
 from dataclasses import replace
 from pathlib import Path
 
+from pfplan.commands.given_rules import ruleset_given, tell_left_out
 from pfplan.commands.rule_words import add_rule_words, options_of
 from pfplan.commands.words import file, output
 from pfplan.common.errors import Status
-from pfplan.common.inputs import name_of
 from pfplan.common.outputs import is_file_place, whole_files
-from pfplan.pf.conversion import convert, convert_text
-from pfplan.pf.lexer import printable
 from pfplan.traces.entries import beside, write_entries
 
 DESCRIPTION = """Makes a rules text for ./pfsrc of a pf.conf as it stands in /etc, with no OpenBSD at hand, or of
@@ -37,6 +35,9 @@ def add_words(parser: argparse.ArgumentParser) -> None:
     parser.add_argument(
         "--out", type=output, metavar="FILE", help="where the rules text goes; nothing is standard output"
     )
+    parser.add_argument(
+        "--json", action="store_true", help="for machines: the text, its rules with their places, and what is left out"
+    )
     add_rule_words(parser)
 
 
@@ -44,24 +45,15 @@ def run(arguments: argparse.Namespace) -> int:
     """Writes the rules text, and tells on standard error what was left out. Nothing is written where the text is
     refused."""
     out: Path | None = arguments.out if is_file_place(arguments.out) else None
-    options = replace(options_of(arguments), by_records=out is not None)
-    if str(arguments.file) == "-":
-        ruleset = convert_text(sys.stdin.buffer.read().decode("utf-8", "surrogateescape"), "standard input", options)
-    else:
-        ruleset = convert(arguments.file, options)
-    outputs = (arguments.out, beside(out)) if out and ruleset.records else (arguments.out,)
+    options = replace(options_of(arguments), by_records=out is not None or arguments.json)
+    ruleset = ruleset_given(arguments.file, options)
+    has_entries = out is not None and bool(ruleset.records) and not arguments.json
+    outputs = (arguments.out, beside(out)) if out and has_entries else (arguments.out,)
     with whole_files(*outputs) as (file, *entries):
-        file.write(ruleset.written)
+        file.write(json.dumps(ruleset.to_json(), indent=1) + "\n" if arguments.json else ruleset.written)
         for it in entries:
             write_entries(it, ruleset.records)
-    if out and ruleset.records:
+    if out and has_entries:
         print(f"note: entries by records: {beside(out)}", file=sys.stderr)
-    _tell(arguments.file, ruleset.shown())
+    tell_left_out(arguments.file, ruleset)
     return Status.DONE
-
-
-def _tell(path: Path, lines: Sequence[str]) -> None:
-    *shown, count = lines
-    for it in shown:
-        print(it, file=sys.stderr)
-    print(f"{printable(name_of(path))}: {count}", file=sys.stderr)

@@ -3,29 +3,31 @@
 import argparse
 import contextlib
 import sys
+from collections.abc import Iterator, Sequence
 from dataclasses import replace
 from fractions import Fraction
 from pathlib import Path
 
 from pfplan.answers.doubts import of_missing
-from pfplan.answers.margins import measure_margins
+from pfplan.answers.margins import Margins, measure_margins
 from pfplan.answers.summaries import Summary, Wanted, summarize
-from pfplan.commands.interfaces import interface_of
+from pfplan.commands.given_rules import ruleset_given
+from pfplan.commands.interfaces import seen_on
 from pfplan.commands.parser import Parser
 from pfplan.commands.play import run_play
 from pfplan.commands.rule_words import add_rule_words, options_of
-from pfplan.commands.run_words import add_machine_words, machines_of
+from pfplan.commands.run_words import add_check, add_machine_words, checked, in_doubt, machines_of, too_few
 from pfplan.commands.words import add_capture_words, add_users, file, folder, number, share_word
-from pfplan.common.errors import Status, Trouble
-from pfplan.common.figures import share_text
-from pfplan.common.inputs import Kind, check_readable, kind_of, name_of, regular, unpacked
+from pfplan.common.errors import Trouble
+from pfplan.common.figures import counted, share_text
+from pfplan.common.inputs import Kind, check_readable, kind_of, name_of, regular
 from pfplan.common.outputs import check_folder, part_file, whole_folder
 from pfplan.common.repository import DIFFERENCES, check_program
 from pfplan.pages.doubt_texts import doubt_lines
 from pfplan.pages.report_page import PAGE, Subject, write_answer
 from pfplan.pages.rule_notes import frame_lines
 from pfplan.pages.timeline_pictures import FILES
-from pfplan.pf.conversion import RuleOptions, Ruleset, convert_named, machine_of, write_ruleset
+from pfplan.pf.conversion import Ruleset, machine_of, write_ruleset
 from pfplan.pf.lexer import printable
 from pfplan.pf.origins import origins_of
 from pfplan.replays.machines import Machines, measure_words
@@ -61,10 +63,12 @@ def add_words(parser: Parser) -> None:
         help="a pf.conf as it stands in /etc, what pfctl -nvf prints, or a rules text; - is standard input",
     )
     parser.add_argument(
-        "capture",
+        "captures",
+        nargs="+",
         type=file,
         metavar="CAPTURE",
-        help="a capture, also packed by gzip or zstd, a trace, or a scenario, which is played; - is standard input",
+        help="a capture, a trace, or a scenario, which is played; also packed by gzip or zstd; - is standard input. Of "
+        "several interfaces one capture for each, or one pcapng file",
     )
     parser.add_argument(
         "--into", type=folder, required=True, metavar="FOLDER", help="the folder; it is made where it is not there"
@@ -95,6 +99,7 @@ def add_words(parser: Parser) -> None:
         help="of the users' connections: with as many served the answer is a good one (99%%)",
     )
     parser.add_argument("--partial", action="store_true", help="takes a capture that is cut at its end, up to there")
+    add_check(parser, "fewer of the users are served than --want, an answer turns over (--margins), or is in doubt")
     add_machine_words(parser)
     add_rule_words(parser)
 
@@ -102,36 +107,39 @@ def add_words(parser: Parser) -> None:
 def run(arguments: argparse.Namespace) -> int:
     """Runs the command."""
     where = machines_of(arguments)
-    if str(arguments.rules_from) == str(arguments.capture) == "-":
-        raise Trouble("-: standard input gives the rules or the capture, and not both")
-    for path in (arguments.rules_from, arguments.capture):
-        if str(path) != "-":
-            check_readable(path)
-    if str(arguments.capture) != "-" and is_scenario(arguments.capture):
+    for path in (arguments.rules_from, *arguments.captures):
+        check_readable(path)
+    if is_scenario(arguments.captures[0]):
         return run_play(arguments)
+    if arguments.check and not arguments.users:
+        raise Trouble("--check wants --users: whose connections are to be served?")
     with contextlib.ExitStack() as stack:
-        ruleset = convert_named(
-            stack.enter_context(regular(arguments.rules_from)), arguments.rules_from, _options(arguments)
-        )
-        is_made = str(arguments.capture) == "-" or kind_of(arguments.capture) is not Kind.TRACE
+        ruleset = ruleset_given(arguments.rules_from, replace(options_of(arguments), by_records=True))
+        is_made = kind_of(arguments.captures[0]) is not Kind.TRACE
         check_folder(arguments.into, [it for it in OURS if it != "trace.csv" or is_made])
         check_program()
-        given = stack.enter_context(regular(arguments.capture))
-        capture = stack.enter_context(unpacked(given, name_of(arguments.capture)))
+        captures = [stack.enter_context(regular(it)) for it in arguments.captures]
         with whole_folder(arguments.into) as folder:
-            summary = _fill(arguments, where, folder, capture, ruleset)
+            summary, margins = _fill(arguments, where, folder, captures, ruleset)
     _tell(arguments, ruleset, summary)
-    return Status.DONE
+    return checked(arguments, _reasons(arguments, summary, margins))
 
 
-def _options(arguments: argparse.Namespace) -> RuleOptions:
-    return replace(options_of(arguments), by_records=True)
+def _reasons(arguments: argparse.Namespace, summary: Summary, margins: Margins | None) -> Iterator[str]:
+    """Why the answer is not a good one."""
+    yield from in_doubt(summary.doubts)
+    if summary.users:
+        yield from too_few(summary.users.outcomes["served"], summary.users.counted, arguments.want)
+    if margins and margins.turning:
+        yield f"an answer turns over in {counted(len(margins.turning), 'run')} of {len(margins.margins)}"
 
 
-def _fill(arguments: argparse.Namespace, where: Machines, folder: Path, capture: Path, ruleset: Ruleset) -> Summary:
-    """Writes all files of the folder, and answers the summary."""
+def _fill(
+    arguments: argparse.Namespace, where: Machines, folder: Path, captures: Sequence[Path], ruleset: Ruleset
+) -> tuple[Summary, Margins | None]:
+    """Writes all files of the folder, and answers the summary, with the margins where they are asked for."""
     write_ruleset(folder, ruleset)
-    trace, frames = _trace(arguments, capture, folder, ruleset)
+    trace, frames = _trace(arguments, captures, folder, ruleset)
     held = replay_into(folder, trace, ruleset.records, arguments.held)
     wanted = Wanted(
         trace, arguments.users, folder / "rules", ruleset.labels, origins_of(ruleset), frames, top=arguments.top
@@ -139,24 +147,22 @@ def _fill(arguments: argparse.Namespace, where: Machines, folder: Path, capture:
     summary = summarize(folder / "report", wanted)
     summary.doubts = of_missing(ruleset.leftovers) + summary.doubts
     summary.held = held
-    write_answer(folder, summary, _subject(arguments, where, folder, trace, ruleset), arguments.into)
-    return summary
+    subject = _subject(arguments, where, folder, trace, ruleset)
+    write_answer(folder, summary, subject, arguments.into)
+    return summary, subject.margins
 
 
 def _trace(
-    arguments: argparse.Namespace, given: Path, folder: Path, ruleset: Ruleset
+    arguments: argparse.Namespace, given: Sequence[Path], folder: Path, ruleset: Ruleset
 ) -> tuple[Path, Frames | None]:
-    """The trace that was given, or that of the capture with what became of its frames."""
-    if kind_of(given) is Kind.TRACE:
-        return given, None
-    machine = machine_of(arguments.ifconfig)
-    name = interface_of(arguments.name, given, [ruleset], machine)
-    inside, macs = arguments.inside or machine.inside(), machine.macs(name or "")
-    shown = name_of(arguments.capture)
+    """The trace that was given, or that of the captures with what became of their frames."""
+    if len(given) == 1 and kind_of(given[0]) is Kind.TRACE:
+        return given[0], None
+    seen = seen_on(arguments.seen, given, [ruleset], machine_of(arguments.ifconfig))
     with part_file(folder / "trace.csv") as out:
         account = make_trace(
-            given, inside, out, name=name, macs=macs, is_zero=arguments.zero, is_partial=arguments.partial,
-            shown=shown,
+            given, seen, out, is_zero=arguments.zero, is_partial=arguments.partial,
+            shown=", ".join(map(name_of, arguments.captures)),
         )  # fmt: skip
     for line in account:
         print(line, file=sys.stderr)
@@ -165,7 +171,8 @@ def _trace(
 
 def _subject(arguments: argparse.Namespace, where: Machines, folder: Path, trace: Path, ruleset: Ruleset) -> Subject:
     """What the page tells beside the summary."""
-    names = (Path(name_of(arguments.capture)).name, name_of(arguments.rules_from))
+    captures = ", ".join(Path(name_of(it)).name for it in arguments.captures)
+    names = (captures, name_of(arguments.rules_from))
     found = None
     if arguments.margins:
         words = measure_words(arguments.users, 0)

@@ -2,11 +2,13 @@
 
 import argparse
 import json
-from collections.abc import Callable, Sequence
+from collections.abc import Callable, Iterable, Iterator, Sequence
+from fractions import Fraction
 from typing import Any, Protocol, TypeVar
 
 from pfplan.commands.words import file, number, output
 from pfplan.common.errors import Status, Trouble
+from pfplan.common.figures import share_text
 from pfplan.common.inputs import check_readable
 from pfplan.common.outputs import whole_files
 from pfplan.pages.doubt_texts import doubt_lines
@@ -49,6 +51,32 @@ def machines_of(arguments: argparse.Namespace) -> Machines:
     if not machines.is_here:
         check_parallel()
     return machines
+
+
+def add_check(parser: argparse.ArgumentParser, what: str) -> None:
+    """The word by which the status tells whether the answer is a good one."""
+    parser.add_argument("--check", action="store_true", help=f"ends with status 1 if {what}")
+
+
+def checked(arguments: argparse.Namespace, reasons: Iterable[str]) -> Status:
+    """The status of an answer that was told. Trouble with status 1 where `--check` was given, and there are reasons why
+    it is not a good one."""
+    found = list(reasons) if arguments.check else []
+    if found:
+        raise Trouble(f"--check: {'; '.join(found)}", Status.REFUSED)
+    return Status.DONE
+
+
+def in_doubt(doubts: Sequence[str]) -> Iterator[str]:
+    """That an answer is in doubt, if it is."""
+    if doubts:
+        yield "the answer is in doubt"
+
+
+def too_few(served: int, connections: int, want: Fraction) -> Iterator[str]:
+    """That fewer of the users' connections are served than are wanted, if so."""
+    if served < want * connections:
+        yield f"{share_text(served, connections)} of the users are served, and {float(100 * want):g} % are wanted"
 
 
 class Answer(Protocol):

@@ -16,13 +16,14 @@ from pfplan.answers.measures import Measure
 from pfplan.answers.plays_measured import Subject
 from pfplan.answers.sizes import Vary, Wanted, size
 from pfplan.commands.play_words import add_most
+from pfplan.commands.given_rules import rules_given
+from pfplan.commands.rule_words import add_rule_words, options_of
 from pfplan.commands.run_words import add_answer_words, add_machine_words, machines_of, write_answer
 from pfplan.commands.words import add_asked, file, number, share_word
 from pfplan.common.errors import Status, Trouble
-from pfplan.common.inputs import check_rules, check_trace, regular
+from pfplan.common.inputs import check_trace, regular
 from pfplan.common.repository import check_program
 from pfplan.pages import map_texts, size_texts
-from pfplan.traces.entries import entries_of_rules
 from pfplan.traces.scenarios.reading import is_scenario
 
 DESCRIPTION = """Replays a trace, or plays a scenario, with several values of one number, and tells which of them
@@ -56,7 +57,7 @@ def vary_word(text: str) -> Vary:
 def add_words(parser: argparse.ArgumentParser) -> None:
     """The words of `size`."""
     parser.description = DESCRIPTION
-    parser.add_argument("rules", type=file, metavar="RULES", help="a rules text")
+    parser.add_argument("rules", type=file, metavar="RULES", help="a rules text, or a pf.conf")
     parser.add_argument(
         "trace", type=file, metavar="TRACE", help="the trace under which it is replayed, or the scenario that is played"
     )
@@ -77,6 +78,7 @@ def add_words(parser: argparse.ArgumentParser) -> None:
     add_most(parser)
     add_answer_words(parser)
     add_machine_words(parser)
+    add_rule_words(parser)
 
 
 def run(arguments: argparse.Namespace) -> int:
@@ -87,16 +89,15 @@ def run(arguments: argparse.Namespace) -> int:
         raise Trouble("--vary: one number, or two different ones for a map")
     where = machines_of(arguments)
     check_program()
-    check_rules(arguments.rules)
-    if not is_played:
-        check_trace(arguments.trace)
-    with regular(arguments.rules) as rules, regular(arguments.trace) as trace:
-        text = RulesText(rules)
+    with rules_given(arguments.rules, options_of(arguments)) as rules, regular(arguments.trace) as trace:
+        if not is_played:
+            check_trace(trace)
+        text = RulesText(rules.path)
         subject = Subject(text, arguments.trace if is_played else None, arguments.most)
-        doubts = of_replay(text.items(), trace, subject.scenario)
+        doubts = rules.doubts() + of_replay(text.items(), trace, subject.scenario)
         if not where.is_here:
             subject.check_elsewhere()
-        entries = entries_of_rules(rules, arguments.rules)
+        entries = rules.records
         name, users = arguments.trace.name, arguments.users
         wanted = Wanted(name, users, arguments.want, arguments.grid, arguments.runs, arguments.held)
         if len(arguments.vary) == 2:

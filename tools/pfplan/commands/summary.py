@@ -4,21 +4,21 @@ import argparse
 import concurrent.futures
 import contextlib
 import json
-import sys
 from dataclasses import replace
 
 from pfplan.answers.connections import RULES
-from pfplan.answers.summaries import Wanted, held_at, summarize, summarize_blocks
+from pfplan.answers.summaries import Wanted, held_at, summarize
+from pfplan.commands.given_rules import GivenRules, rules_given
 from pfplan.commands.parser import Parser
+from pfplan.commands.rule_words import add_rule_words, options_of
 from pfplan.commands.words import add_users, file, number, output
 from pfplan.common.errors import Status, Trouble
 from pfplan.common.inputs import check_trace, regular
 from pfplan.common.outputs import whole_file
 from pfplan.common.repository import check_program
 from pfplan.pages import summary_texts
-from pfplan.traces.entries import entries_of_rules
+from pfplan.pf.origins import origins_of
 from pfplan.traces.insertions import Held
-from pfplan.traces.records import blocks_of
 
 LEGEND = "\n".join(
     f"  {kind:<12}{rule}" + (" (with --rules: of which states)" if kind == "killed" else "")
@@ -28,7 +28,7 @@ DESCRIPTION = f"""Sums up a report of ./pfsrc replay.
 
 A connection is of who began it: with a SYN, and for other protocols with its first packet. A SYN that is repeated
 belongs to its connection, until that was closed, or was quiet for 4 minutes, or its handshake was done and its state
-is gone. The connection of a user is
+is gone; a packet of UDP, until it was quiet for 4 minutes and its state is gone. The connection of a user is
 {LEGEND}
 Where a connection has no first packet in the trace it is counted apart, as are those that others began."""
 
@@ -47,7 +47,8 @@ def add_words(parser: Parser) -> None:
         "--rules",
         type=file,
         metavar="RULES",
-        help="the rules that were replayed: adds the text of each rule, as ./pfsrc show prints it",
+        help="the rules that were replayed, or the pf.conf that they were made of: adds the text of each rule, as "
+        "./pfsrc show prints it",
     )
     add_users(parser, "the networks of the users (with --trace)")
     parser.add_argument(
@@ -72,6 +73,7 @@ def add_words(parser: Parser) -> None:
         "--partial", action="store_true", help="takes a report without its last line, as a fault in the trace leaves it"
     )
     parser.add_argument("--out", type=output, metavar="FILE", help="where the summary goes (standard output)")
+    add_rule_words(parser)
 
 
 def run(arguments: argparse.Namespace) -> int:
@@ -92,19 +94,27 @@ def run(arguments: argparse.Namespace) -> int:
     )
     with contextlib.ExitStack() as stack:
         held: concurrent.futures.Future[list[Held]] | None = None
-        if arguments.rules and arguments.trace:
-            check_trace(arguments.trace)
-            rules, trace = (stack.enter_context(regular(it)) for it in (arguments.rules, arguments.trace))
-            wanted = replace(wanted, trace=trace, rules=rules, rules_name=arguments.rules)
+        if arguments.trace:
+            trace = stack.enter_context(regular(arguments.trace))
+            check_trace(trace)
+            wanted = replace(wanted, trace=trace)
+        if arguments.rules:
+            rules = stack.enter_context(rules_given(arguments.rules, options_of(arguments)))
+            wanted = _with_rules(wanted, rules)
         if arguments.held:
             # this replay goes on beside the counting
             pool = stack.enter_context(concurrent.futures.ThreadPoolExecutor(1))
-            held = pool.submit(held_at, rules, trace, arguments.held, entries_of_rules(rules, arguments.rules))
-        if str(arguments.report) == "-":
-            summary = summarize_blocks(blocks_of(sys.stdin, "report"), "report", wanted)
-        else:
-            summary = summarize(arguments.report, wanted)
+            held = pool.submit(held_at, rules.path, trace, arguments.held, rules.records)
+        summary = summarize(stack.enter_context(regular(arguments.report)), wanted)
         summary.held = held.result() if held else []
+        summary.doubts[:0] = rules.doubts() if arguments.rules else []
     with whole_file(arguments.out) as out:
         out.write(json.dumps(summary.to_json(), indent=2) + "\n" if arguments.json else summary_texts.text_of(summary))
     return Status.DONE
+
+
+def _with_rules(wanted: Wanted, rules: GivenRules) -> Wanted:
+    """What is wanted, with the rules; where these were made of a pf.conf, with their lines of it."""
+    if rules.made is None:
+        return replace(wanted, rules=rules.path, rules_name=rules.name)
+    return replace(wanted, rules=rules.path, labels=rules.made.labels, origins=origins_of(rules.made))

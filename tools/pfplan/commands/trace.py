@@ -1,13 +1,14 @@
 """The command `trace`: a trace of a capture, which ./pfstrace makes, or of a scenario in which nobody reacts."""
 
 import argparse
+import contextlib
 import sys
 
-from pfplan.commands.interfaces import interface_of
+from pfplan.commands.interfaces import seen_on
 from pfplan.commands.parser import Parser
-from pfplan.commands.words import file, interface, networks, output
+from pfplan.commands.words import add_capture_words, file, output, words_in
 from pfplan.common.errors import Status, Trouble
-from pfplan.common.inputs import unpacked
+from pfplan.common.inputs import name_of, regular
 from pfplan.common.outputs import whole_files
 from pfplan.pf.conversion import machine_of
 from pfplan.traces.captures import make_trace
@@ -30,26 +31,16 @@ def add_words(parser: Parser) -> None:
     """The words of the command."""
     parser.description = DESCRIPTION
     parser.add_argument(
-        "capture", type=file, metavar="CAPTURE", help="a file of tcpdump or pflogd, - is standard input; or a scenario"
+        "captures", nargs="+", type=file, metavar="CAPTURE",
+        help="a file of tcpdump or pflogd, also packed by gzip or zstd, - is standard input; or a scenario",
     )
-    parser.add_argument(
-        "--inside", type=networks, metavar="PREFIX,..", action="extend", default=[],
-        help="the networks behind the firewall, and its own addresses: a packet to them from elsewhere is in, "
-        "one from them to elsewhere is out. A pflog tells the direction itself",
-    )  # fmt: skip
+    add_capture_words(parser, "--interface")
     parser.add_argument(
         "--ifconfig",
         type=file,
         metavar="FILE",
         help="what ifconfig prints on the firewall, in place of --inside; with --if it also tells the interface's own "
         "address",
-    )
-    parser.add_argument(
-        "--interface",
-        "--if",
-        type=interface,
-        metavar="NAME",
-        help="the interface of every record (em0); a record of a pflog has the one that the log tells",
     )
     parser.add_argument(
         "--told",
@@ -68,18 +59,19 @@ def add_words(parser: Parser) -> None:
 
 def run(arguments: argparse.Namespace) -> int:
     """Runs the command."""
-    if str(arguments.capture) != "-" and is_scenario(arguments.capture):
+    if is_scenario(arguments.captures[0]):
         _refuse_words(arguments)
-        write_plain(arguments.capture, arguments.out)
+        write_plain(arguments.captures[0], arguments.out)
         return Status.DONE
     machine = machine_of(arguments.ifconfig)
-    name = interface_of(arguments.interface, arguments.capture, [], machine)
-    inside, macs = arguments.inside or machine.inside(), machine.macs(name or "")
     outputs = (arguments.out, arguments.told) if arguments.told else (arguments.out,)
-    with unpacked(arguments.capture, arguments.capture) as capture, whole_files(*outputs) as (out, *told):
+    with contextlib.ExitStack() as stack:
+        captures = [stack.enter_context(regular(it)) for it in arguments.captures]
+        seen = seen_on(arguments.seen, captures, [], machine)
+        out, *told = stack.enter_context(whole_files(*outputs))
         made = make_trace(
-            capture, inside, out, name=name, macs=macs, told=told[0] if told else None,
-            is_zero=arguments.zero, is_partial=arguments.partial, shown=arguments.capture,
+            captures, seen, out, told=told[0] if told else None, is_zero=arguments.zero, is_partial=arguments.partial,
+            shown=", ".join(map(name_of, arguments.captures)),
         )  # fmt: skip
     for line in made:
         print(line, file=sys.stderr)
@@ -88,6 +80,8 @@ def run(arguments: argparse.Namespace) -> int:
 
 def _refuse_words(arguments: argparse.Namespace) -> None:
     """Trouble where a word is given that asks something of a capture."""
-    for word in ("inside", "ifconfig", "interface", "told", "zero"):
-        if getattr(arguments, word):
-            raise Trouble(f"--{word}: {arguments.capture} is a scenario, and the word is for captures")
+    for word in ("inside", "outside", "ifconfig", "interface", "told", "zero"):
+        if getattr(arguments, word, None) or word in words_in(arguments.seen):
+            raise Trouble(f"--{word}: {arguments.captures[0]} is a scenario, and the word is for captures")
+    if len(arguments.captures) > 1:
+        raise Trouble(f"{arguments.captures[0]}: a scenario, which comes alone")

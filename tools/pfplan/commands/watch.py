@@ -2,6 +2,7 @@
 
 import argparse
 import contextlib
+import json
 import os
 import sys
 import tempfile
@@ -15,36 +16,38 @@ from pfplan.answers.doubts import of_missing
 from pfplan.answers.live_counts import Side
 from pfplan.answers.summaries import Summary
 from pfplan.answers.watching import Signals, Watch, Watched
-from pfplan.commands.interfaces import interface_of
+from pfplan.commands.given_rules import ruleset_given
+from pfplan.commands.interfaces import seen_on
 from pfplan.commands.parser import Parser
 from pfplan.commands.run import OURS
 from pfplan.commands.rule_words import add_rule_words, options_of
 from pfplan.commands.words import add_capture_words, add_users, file, folder, number
 from pfplan.common.errors import Status, Trouble
 from pfplan.common.figures import share_text
-from pfplan.common.inputs import HEADER, check_readable
+from pfplan.common.inputs import HEADER
 from pfplan.common.networks import Network
 from pfplan.common.outputs import check_folder, make_folder, part_file, whole_folder
 from pfplan.common.repository import check_program
 from pfplan.pages.doubt_texts import doubt_lines
 from pfplan.pages.report_page import PAGE, Subject, write_answer
 from pfplan.pages.screens import Screen, forgotten_text
-from pfplan.pf.conversion import Ruleset, convert, machine_of, write_ruleset
+from pfplan.pf.conversion import Ruleset, machine_of, write_ruleset
+from pfplan.pf.reading_canonical_text import items_of
 from pfplan.replays.live import Capture
 from pfplan.replays.runs import show_rules
 from pfplan.traces.accounts import Frames, frames_of
-from pfplan.traces.captures import by_networks, check_account, way_words
+from pfplan.traces.captures import by_networks, check_account
 
 DESCRIPTION = """Runs limits beside the traffic of this minute, and does not touch the firewall:
 
   tcpdump -U -w - -i em0 | pfplan watch new.conf --if em0 --inside 192.0.2.0/24 --users 198.51.100.0/24
 
-The capture comes on standard input. On a terminal a screen is drawn again each second, elsewhere a line a second is
-printed: records a second, states held of the limit, what each limit would refuse, the sources that would be in overload
-tables, and the users that would be refused. Several rulesets are answered side by side. An interrupt or --seconds ends
-it, or the end of the capture. The clock is the capture's: while no packet comes, nothing expires. Memory grows with
-what is held, not with time. Of the users' connections at most 100,000 open ones are followed: of more, those that have
-been quiet the longest are forgotten, which is told."""
+The capture comes on standard input. (OpenBSD's tcpdump has no -U, and gives blocks of packets.) On a terminal a screen
+is drawn again each second, elsewhere a line a second is printed: records a second, states held of the limit, what each
+limit would refuse, the sources that would be in overload tables, and the users that would be refused. Several rulesets
+are answered side by side. An interrupt or --seconds ends it, or the end of the capture. The clock is the capture's:
+while no packet comes, nothing expires. Memory grows with what is held, not with time. Of the users' connections at most
+100,000 open ones are followed: of more, those that have been quiet the longest are forgotten, which is told."""
 TRACE = "the capture that was watched"
 
 
@@ -73,6 +76,9 @@ def add_words(parser: Parser) -> None:
     parser.add_argument(
         "--top", type=number(1, 1000), metavar="N", default=5, help="how many sources the summary names (5)"
     )
+    parser.add_argument(
+        "--json", action="store_true", help="for machines: a line of JSON each second, and at the end the summaries"
+    )
     add_rule_words(parser)
 
 
@@ -80,19 +86,15 @@ def run(arguments: argparse.Namespace) -> int:
     """Runs the command."""
     if sys.stdin.isatty():
         raise Trouble("a capture is wanted on standard input: tcpdump -U -w - -i em0 | pfplan watch ..")
-    for path in arguments.rules_from:
-        check_readable(path)
     machine = machine_of(arguments.ifconfig)
-    inside = arguments.inside or machine.inside()
     options = replace(options_of(arguments), by_records=True)
-    made = [convert(it, options) for it in arguments.rules_from]
+    made = [ruleset_given(it, options) for it in arguments.rules_from]
     names = _folders(arguments.rules_from)
     if arguments.into:
         check_folder(arguments.into, ["trace.csv", *(os.path.join(name, it) for name in names for it in OURS)])
     for name in ("pfsrc", "pfstrace"):
         check_program(name)
-    seen_on = interface_of(arguments.name, None, made, machine)
-    words = way_words(inside, machine.macs(seen_on or ""), seen_on)
+    seen = seen_on(arguments.seen, (), made, machine)
     with contextlib.ExitStack() as stack:
         top = stack.enter_context(whole_folder(arguments.into) if arguments.into else _for_now())
         with contextlib.ExitStack() as running:
@@ -101,10 +103,10 @@ def run(arguments: argparse.Namespace) -> int:
                 _started(running, *it, arguments.users, is_kept=bool(arguments.into))
                 for it in zip(arguments.rules_from, made, [top / it for it in names], strict=True)
             ]
-            capture = Capture(words)
+            capture = Capture([word for it in seen for word in it.words()])
             running.callback(capture.stop)
             trace = running.enter_context(_trace(top)) if arguments.into else None
-            watch = Watch(capture, watched, Screen(sys.stdout).show, trace, arguments.seconds)
+            watch = Watch(capture, watched, Screen(sys.stdout, as_json=arguments.json).show, trace, arguments.seconds)
             watch.run(signals)
             account, trouble = capture.account()
         summaries = [_summary(it, arguments, account) for it in watched]
@@ -114,7 +116,8 @@ def run(arguments: argparse.Namespace) -> int:
                 write_answer(it.folder, summary, subject, arguments.into / name)
     if not watch.is_unseen:
         _tell(arguments, watched, names, summaries)
-    return _end(watch, [*account, *by_networks(account, seen_on or "em0")], trouble, has_inside=bool(inside))
+    has_networks = any(it.has_networks for it in seen)
+    return _end(watch, [*account, *by_networks(account, seen)], trouble, has_inside=has_networks)
 
 
 @contextlib.contextmanager
@@ -189,6 +192,10 @@ def _tell(
 ) -> None:
     """The answer in a line for each ruleset, and where the page is; why it is in doubt stands first."""
     for it, below, summary in zip(watched, names, summaries, strict=True):
+        if arguments.json:
+            page = str(arguments.into / below / PAGE) if arguments.into else None
+            print(json.dumps({"rules": it.path.name, "page": page, "summary": summary.to_json()}))
+            continue
         name = f"{it.path.name}: " if len(watched) > 1 else ""
         for line in doubt_lines(summary.doubts):
             print(f"{name}{line}")

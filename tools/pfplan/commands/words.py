@@ -3,9 +3,11 @@
 import argparse
 import ipaddress
 import re
-from collections.abc import Callable
+from collections.abc import Callable, Sequence
+from dataclasses import dataclass, field, fields, replace
 from fractions import Fraction
 from pathlib import Path
+from typing import Any
 
 from pfplan.common.networks import Network, interface_name
 
@@ -78,19 +80,59 @@ def share_word(text: str) -> Fraction:
     return number / 100
 
 
-def add_capture_words(parser: argparse.ArgumentParser) -> None:
-    """The words that say of a capture which way its packets go, and where they are seen."""
+@dataclass
+class Named:
+    """What the command line says of an interface on which packets were seen."""
+
+    name: str | None = None
+    inside: list[Network] = field(default_factory=list)
+    outside: list[Network] = field(default_factory=list)
+
+
+def words_in(seen: Sequence[Named]) -> set[str]:
+    """The names of the words that were given of interfaces, without hyphens."""
+    return {it.name for named in seen for it in fields(named) if getattr(named, it.name)} - {"name"} | {
+        word for named in seen if named.name for word in ("if", "interface")
+    }
+
+
+class _Interface(argparse.Action):
+    """The name of an interface, behind which come the words of it, as of pfstrace."""
+
+    def __call__(self, parser: Any, namespace: Any, values: Any, option: Any = None) -> None:
+        seen = namespace.seen = [*namespace.seen]
+        if seen and seen[-1].name is None:
+            seen[-1] = replace(seen[-1], name=values)
+        else:
+            seen.append(Named(values))
+
+
+class _Networks(argparse.Action):
+    """Networks behind an interface, or in front of it: of the one that was named last."""
+
+    def __call__(self, parser: Any, namespace: Any, values: Any, option: Any = None) -> None:
+        *before, last = namespace.seen or [Named()]
+        way = str(option).removeprefix("--")
+        namespace.seen = [*before, replace(last, **{way: [*getattr(last, way), *values]})]
+
+
+def add_capture_words(parser: argparse.ArgumentParser, *names: str) -> None:
+    """The words that say of a capture which way its packets go, and where they are seen. `names` are more names of
+    `--if`."""
     parser.add_argument(
-        "--inside",
-        type=networks,
-        metavar="PREFIX,..",
-        action="extend",
-        default=[],
-        help="the networks behind the firewall, as pfplan trace takes them (by --ifconfig)",
-    )
+        "--inside", dest="seen", action=_Networks, type=networks, metavar="PREFIX,..", default=[],
+        help="the networks behind the firewall, and its own addresses: a packet to them from elsewhere is in, one from "
+        "them to elsewhere is out (those of --ifconfig). A pflog tells the direction itself",
+    )  # fmt: skip
     parser.add_argument(
-        "--if", dest="name", type=interface, metavar="NAME", help="the interface of every record of the capture"
-    )
+        "--outside", dest="seen", action=_Networks, type=networks, metavar="PREFIX,..", default=[],
+        help="of an inner interface, in place of --inside: the networks in front of it, as the local ones",
+    )  # fmt: skip
+    parser.add_argument(
+        "--if", *names, dest="seen", action=_Interface, type=interface, metavar="NAME", default=[],
+        help="the interface of every record of the capture; given again, it begins the words of another interface, "
+        "whose capture is the next one, or one pcapng file has them all",
+    )  # fmt: skip
 
 
 def add_users(parser: argparse.ArgumentParser, help_text: str) -> None:

@@ -20,6 +20,9 @@ HEADER = "time,dir,if,proto,src,sport,dst,dport,flags"
 _CAPTURES = (b"\xa1\xb2\xc3\xd4", b"\xd4\xc3\xb2\xa1", b"\xa1\xb2\x3c\x4d", b"\x4d\x3c\xb2\xa1", b"\x0a\x0d\x0d\x0a")
 _REPORT = re.compile(rb"(1 [a-z]+[a-z:+-]* (@\d+|-)|end rows=0 )")
 
+# Where a process has the files that it has open.
+_OPEN_FILES = ("/dev/fd/", "/dev/stdin", "/proc/self/fd/")
+
 
 class Kind(enum.Enum):
     """What a file holds, as far as its beginning shows."""
@@ -68,8 +71,10 @@ def take_none() -> None:
 
 def check_readable(path: Path) -> None:
     """Trouble with status 4 where the file is not there, is a folder, or may not be read. A pipe is not opened: it is
-    read once. The file is an input from here on."""
+    read once; of standard input (`-`) nothing is asked. The file is an input from here on."""
     take(path)
+    if str(path) == "-":
+        return
     try:
         mode = os.stat(path).st_mode
         if stat.S_ISREG(mode) or stat.S_ISDIR(mode):
@@ -93,13 +98,14 @@ def name_of(path: Path) -> str:
 def is_regular(path: Path) -> bool:
     """Whether the path leads to a file on a disk, and not to a pipe or a device. False where there is nothing."""
     try:
-        return stat.S_ISREG(os.stat(path).st_mode)
+        return str(path) != "-" and stat.S_ISREG(os.stat(path).st_mode)
     except OSError:
         return False
 
 
 def kind_of(path: Path) -> Kind | None:
-    """The kind of a file; None for a pipe or a device, of which nothing is read. Trouble as `check_readable`."""
+    """The kind of a file; None for standard input, a pipe or a device, of which nothing is read. Trouble as
+    `check_readable`."""
     check_readable(path)
     if not is_regular(path):
         return None
@@ -131,24 +137,41 @@ def check_trace(path: Path) -> None:
 
 
 def check_rules(path: Path) -> None:
-    """Trouble where the file can't be read (status 4) or is empty, a trace, a capture or a report (status 3)."""
+    """Trouble where the file can't be read (status 4) or is a trace, a capture or a report (status 3). An empty file
+    has no rule, as for pfctl."""
     kind = kind_of(path)
-    if kind in (Kind.EMPTY, Kind.TRACE, Kind.CAPTURE, Kind.REPORT):
+    if kind in (Kind.TRACE, Kind.CAPTURE, Kind.REPORT):
         raise Trouble(f"{path}: {_kind_text(kind)}, where rules are wanted", Status.RULES)
 
 
 @contextlib.contextmanager
 def regular(path: Path) -> Iterator[Path]:
-    """The file itself, or a copy of what a pipe gives, which goes at the end; `-` is standard input, and each is opened
-    once.
+    """The file itself, or a copy that goes at the end: of what a pipe gives, an open file or standard input (`-`), each
+    of which is read once, and of what gzip or zstd packed. Messages name the file that was given.
 
-    Trouble as `check_readable`, or where the copy fails.
+    Trouble: as `check_readable`; status 4 where the copy fails or the command that unpacks is not installed; status 1
+    where a file can't be unpacked.
     """
-    if str(path) != "-":
-        check_readable(path)
-    if str(path) != "-" and is_regular(path):
-        yield path
-        return
+    check_readable(path)
+    with contextlib.ExitStack() as stack:
+        found = path if is_regular(path) and not _is_open_file(path) else stack.enter_context(_copied(path))
+        command = packed_by(_beginning_of(found))
+        if command:
+            found = stack.enter_context(_unpacked(found, command, name_of(path)))
+        try:
+            yield found
+        except Trouble as trouble:
+            raise Trouble(trouble.message.replace(str(found), name_of(path)), trouble.status) from None
+
+
+def _is_open_file(path: Path) -> bool:
+    """Whether the name is that of an open file of this process, which no other process has."""
+    return str(path) == "-" or os.path.abspath(path).startswith(_OPEN_FILES)
+
+
+@contextlib.contextmanager
+def _copied(path: Path) -> Iterator[Path]:
+    """A copy of what a pipe, an open file or standard input gives."""
     with tempfile.NamedTemporaryFile(prefix="pfplan-") as copy:
         try:
             with _opened(path) as file:
@@ -156,7 +179,7 @@ def regular(path: Path) -> Iterator[Path]:
             copy.flush()
         except OSError as error:
             raise Trouble(
-                f"{path}: can't be copied into {tempfile.gettempdir()}: {reason_of(error)}", Status.FAILED
+                f"{name_of(path)}: can't be copied into {tempfile.gettempdir()}: {reason_of(error)}", Status.FAILED
             ) from None
         yield Path(copy.name)
 
@@ -172,18 +195,9 @@ def _opened(path: Path) -> Iterator[BinaryIO]:
 
 
 @contextlib.contextmanager
-def unpacked(path: Path, name: Path | str) -> Iterator[Path]:
-    """The file itself, or where gzip or zstd packed it, what they unpack, in a copy that goes at the end. `name` stands
-    in messages.
-
-    Trouble: status 1 where it can't be unpacked, 4 where the command is not installed. A pipe is left as it is.
-    """
-    command = _packed_by(path) if str(path) != "-" and is_regular(path) else ""
-    if not command:
-        yield path
-        return
-    if shutil.which(command) is None:
-        raise Trouble(f"{name}: packed by {command}, which is not here (Debian package {command})", Status.FAILED)
+def _unpacked(path: Path, command: str, name: str) -> Iterator[Path]:
+    """What a command unpacks of a file, in a copy. `name` stands in messages."""
+    check_unpacking(command, name)
     with tempfile.NamedTemporaryFile(prefix="pfplan-") as copy:
         with open(path, "rb") as file:
             done = subprocess.run([command, "-d", "-c"], stdin=file, stdout=copy, stderr=subprocess.PIPE, check=False)
@@ -193,11 +207,17 @@ def unpacked(path: Path, name: Path | str) -> Iterator[Path]:
         yield Path(copy.name)
 
 
-def _packed_by(path: Path) -> str:
-    """The command that packed a file, by its first bytes; nothing where none did."""
-    try:
-        with open(path, "rb") as file:
-            begin = file.read(4)
-    except OSError:
-        return ""
+def check_unpacking(command: str, name: str) -> None:
+    """Trouble with status 4 where the command that unpacks a file is not installed."""
+    if shutil.which(command) is None:
+        raise Trouble(f"{name}: packed by {command}, which is not here (Debian package {command})", Status.FAILED)
+
+
+def _beginning_of(path: Path) -> bytes:
+    with open(path, "rb") as file:
+        return file.read(4)
+
+
+def packed_by(begin: bytes) -> str:
+    """The command that packed a file, by its first four bytes; nothing where none did."""
     return "gzip" if begin.startswith(b"\x1f\x8b") else "zstd" if begin == b"\x28\xb5\x2f\xfd" else ""

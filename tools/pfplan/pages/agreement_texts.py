@@ -108,12 +108,12 @@ def points(found: Difference) -> list[tuple[str, str]]:
     return [it for it in (*texts, ("held", held_text(found)), ("explained by", explained_text(found))) if it[1]]
 
 
-def text_of(found: Agreement) -> str:
-    """The whole text."""
-    return "".join(f"{it}\n" for it in _lines(found))
+def text_of(found: Agreement, top: int) -> str:
+    """The whole text, with the first differences, up to so many."""
+    return "".join(f"{it}\n" for it in _lines(found, top))
 
 
-def _lines(found: Agreement) -> Iterator[str]:
+def _lines(found: Agreement, top: int) -> Iterator[str]:
     yield headline(found)
     yield span(found)
     yield found.profile.told()
@@ -129,10 +129,13 @@ def _lines(found: Agreement) -> Iterator[str]:
         (f"  {count:>10,}  pf {pf}, pfsrc {ours}" for (pf, ours), count in found.refusals().items()),
     )
     yield from _part("to know", (f"  {visible(it)}" for it in notes(found)))
-    for number, it in enumerate(found.differences, 1):
+    for number, it in enumerate(found.differences[:top], 1):
         yield ""
         yield f"difference {number}, packet {it.row}: {it.kind}"
         yield from (f"  {head:<13} {visible(text)}" for head, text in points(it))
+    if len(found.differences) > top:
+        yield ""
+        yield f"and {len(found.differences) - top:,} differences more, which agree.json has"
 
 
 def _part(title: str, lines: Iterator[str]) -> Iterator[str]:
@@ -141,8 +144,8 @@ def _part(title: str, lines: Iterator[str]) -> Iterator[str]:
         yield from ("", title, *shown)
 
 
-def page_of(found: Agreement, hider: Hider, differences: str) -> str:
-    """The page."""
+def page_of(found: Agreement, hider: Hider, differences: str, top: int) -> str:
+    """The page, with the first differences, up to so many."""
     title = "pf and pfsrc on the packets of a log"
     is_good = found.count(Verdict.DIFFERS) == 0 if found.compared else None
     counts = [f"{head}: {counted(found.count(verdict), 'packet')}" for verdict, head in HEADS.items()]
@@ -159,11 +162,11 @@ def page_of(found: Agreement, hider: Hider, differences: str) -> str:
         parts.append(
             section("Refused by a limit, by one of the two", table(["pf", "pfsrc", "packets"], refusals, "ssn"))
         )
-    if found.differences:
+    if found.differences[:top]:
         parts.append(
             section(
                 "The first differences",
-                *(_difference(number, it, hider) for number, it in enumerate(found.differences, 1)),
+                *(_difference(number, it, hider) for number, it in enumerate(found.differences[:top], 1)),
             )
         )
     to_know = [hider.text(it) for it in notes(found)]

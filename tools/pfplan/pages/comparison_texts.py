@@ -33,9 +33,8 @@ def rows_of(found: Comparison) -> Iterator[Row]:
         limits = [next((limit for limit in it.limits if limit.word == word), None) for it in measures]
         if any(limits):
             yield word, [f"{it.records:,}" if it else "0" for it in limits]
-            yield f"  {word}: first, last moment", [
-                f"{moment_text(it.first)}, {moment_text(it.last)}" if it else "-" for it in limits
-            ]
+            yield f"  {word}: first at", [moment_text(it.first) if it else "-" for it in limits]
+            yield f"  {word}: last at", [moment_text(it.last) if it else "-" for it in limits]
     if any(it.states_killed for it in measures):
         yield "states killed", [f"{it.states_killed:,}" for it in measures]
     for word in ("added", "full"):
@@ -61,6 +60,7 @@ def text_of(found: Comparison) -> str:
     lines = [f"{visible(found.trace)}: {counted(found.measures[0].records, 'record')}"]
     lines[0] += f"; users {found.users}" if found.users else ""
     lines += [f"  {letter}  {visible(name)}" for letter, name in zip(names, found.names)]
+    lines += ["", winner_text(found, names)] if found.users else []
     rows = list(rows_of(found))
     first = max(len(name) for name, _ in rows)
     widths = [max(len(cells[at]) for _, cells in rows) for at in range(len(names))]
@@ -155,25 +155,26 @@ def subject_of(found: Comparison) -> str:
 
 def answer_of(found: Comparison) -> Markup:
     """Which ruleset serves the most users."""
-    measures = found.measures
     if not found.users:
         return answer("No users were named (--users), so it is not told who was served.", None)
-    most = max(it.served for it in measures)
-    best = [name for name, it in zip(found.names, measures) if it.served == most]
-    connections = max(it.counted for it in measures)
-    share = share_text(most, connections)
-    if len(best) == len(found.names) and connections:
-        return answer(f"All serve alike: {most:,} of {connections:,} connections of users, {share}.", None)
     others = [
         f"{name}: {it.served:,} of {it.counted:,} ({share_text(it.served, it.counted)})"
-        for name, it in zip(found.names, measures)
+        for name, it in zip(found.names, found.measures)
     ]
+    are_alike = len({it.served for it in found.measures}) == 1
+    return answer(winner_text(found, found.names), None, *([] if are_alike else [bullets(others)]))
+
+
+def winner_text(found: Comparison, names: Sequence[str]) -> str:
+    """Which ruleset serves the most users, by these names."""
+    most = max(it.served for it in found.measures)
+    best = [name for name, it in zip(names, found.measures) if it.served == most]
+    connections = max(it.counted for it in found.measures)
+    share = share_text(most, connections)
+    if len(best) == len(names):
+        return f"All serve alike: {most:,} of {connections:,} connections of users, {share}."
     verb = "serves" if len(best) == 1 else "serve"
-    return answer(
-        f"{' and '.join(best)} {verb} the most users: {most:,} of {connections:,} connections, {share}.",
-        None,
-        bullets(others),
-    )
+    return f"{' and '.join(best)} {verb} the most users: {most:,} of {connections:,} connections, {share}."
 
 
 def table_of(found: Comparison) -> Markup:

@@ -1,6 +1,7 @@
 """docs/DIFFERENCES.md: its lines that explain why pf answers otherwise, and its copy beside a page."""
 
 import os
+import re
 import shutil
 from functools import cache
 from pathlib import Path
@@ -36,8 +37,14 @@ def cells_of(beginning: str) -> tuple[str, ...]:
 
 
 def explanation(beginning: str) -> str:
-    """The document's line in one: what is here, what is in pf, and which way pf differs."""
-    here, pf, answers, *see = cells_of(beginning)
+    """The document's line in one, as plain text: what is here, what is in pf, and which way pf differs."""
+    here, pf, answers, *see = map(_plain, cells_of(beginning))
     if not see:  # (a line of what is left out has three cells; the last cell says how to see it on a firewall)
         return f"left out: {here}; then a report is wrong about {pf}"
-    return f"here {here}; in pf {pf}; pf answers: {answers.replace('**', '')}"
+    return f"here {here}; in pf {pf}; pf answers: {answers}"
+
+
+def _plain(text: str) -> str:
+    """A text without the marks of Markdown."""
+    text = re.sub(r"\[([^\]]*)\]\([^)]*\)", r"\1", text.replace("`", ""))
+    return re.sub(r"\*{1,2}([^*\s][^*]*)\*{1,2}", r"\1", text)

@@ -8,14 +8,16 @@ from collections.abc import Iterable, Sequence
 from pfplan.pages.markup import Child, Markup, join, tag
 from pfplan.pages.pictures import Role
 
+# letters of a word that is never broken: an IPv6 prefix has 43
+LONGEST = 43
 # the page may load nothing and run nothing, whatever stands in it
 POLICY = "default-src 'none'; style-src 'unsafe-inline'; base-uri 'none'; form-action 'none'"
 COLOURS = """
 :root { color-scheme: light dark; --paper: #ffffff; --ink: #1c1c1c; --soft: #5a5a5a; --rule: #d9d9d9; \
 --panel: #f5f6f8; --link: #1f4e8c;
-  --held: #1f4e8c; --held-area: #c9d6e8; --new: #1f4e8c; --dropped: #c62828; --killed: #b86e00; --served: #2f7d3e; \
+  --held: #1f4e8c; --held-area: #c9d6e8; --new: #1f4e8c; --dropped: #c62828; --killed: #955700; --served: #2f7d3e; \
 --refused: #c62828;
-  --lost: #b86e00; --wanted: #5a5a5a; --good: #2f7d3e; --bad: #c62828; }
+  --lost: #955700; --wanted: #5a5a5a; --good: #2f7d3e; --bad: #c62828; }
 @media (prefers-color-scheme: dark) { :root { --paper: #16181c; --ink: #e8e8e8; --soft: #a8abb0; --rule: #3a3d43; \
 --panel: #1f2227;
   --link: #8fb8ec; --held: #7fb0ee; --held-area: #2a3d57; --new: #7fb0ee; --dropped: #ff7a70; --killed: #f0ad4e; \
@@ -23,9 +25,9 @@ COLOURS = """
   --refused: #e5675e; --lost: #f0ad4e; --wanted: #a8abb0; --good: #6cc47e; --bad: #ff7a70; } }
 @media print { :root { color-scheme: light; --paper: #ffffff; --ink: #000000; --soft: #444444; --rule: #bbbbbb; \
 --panel: #ffffff;
-  --link: #000000; --held: #1f4e8c; --held-area: #c9d6e8; --new: #1f4e8c; --dropped: #c62828; --killed: #b86e00; \
+  --link: #000000; --held: #1f4e8c; --held-area: #c9d6e8; --new: #1f4e8c; --dropped: #c62828; --killed: #955700; \
 --served: #2f7d3e;
-  --refused: #c62828; --lost: #b86e00; --wanted: #444444; --good: #2f7d3e; --bad: #c62828; } }
+  --refused: #c62828; --lost: #955700; --wanted: #444444; --good: #2f7d3e; --bad: #c62828; } }
 """
 PICTURES = (
     ".picture { display: block; width: 100%; max-width: 440px; height: auto; font: 11px system-ui, sans-serif; }\n"
@@ -48,6 +50,7 @@ h2 { font-size: 1.15rem; margin: 36px 0 8px; } h3 { font-size: 1rem; margin: 16p
 p, ul { margin: 6px 0; } ul { padding-left: 22px; } a { color: var(--link); }
 .soft { color: var(--soft); } .name, code { font-family: ui-monospace, monospace; font-size: 0.88em; \
 overflow-wrap: anywhere; }
+td.name, td code { overflow-wrap: break-word; } td.long, td code.long { overflow-wrap: anywhere; }
 .answer { background: var(--panel); border: 1px solid var(--rule); border-left: 6px solid var(--soft); \
 padding: 14px 18px; margin: 18px 0; }
 .answer.good { border-left-color: var(--good); } .answer.bad { border-left-color: var(--bad); }
@@ -134,7 +137,12 @@ def bullets(items: Iterable[Child]) -> Markup:
 
 def code(text: str) -> Markup:
     """A name, a rule or a word of the command line."""
-    return tag("code", text)
+    return tag("code", text, class_="long") if is_long(text) else tag("code", text)
+
+
+def is_long(text: str) -> bool:
+    """Whether a text has a word that is broken where a table has no room for it; no other is."""
+    return any(len(it) > LONGEST for it in text.split())
 
 
 def table(
@@ -149,7 +157,7 @@ def table(
     classes = {"n": "number", "s": "short", "c": "name", "t": "text"}
     top = tag("tr", *(tag("th", head, class_=classes[kind]) for head, kind in zip(heads, kinds)))
     body = [row_of(row, heads, [classes[kind] for kind in kinds], number in bold) for number, row in enumerate(rows)]
-    is_stacked = len(kinds) > 4 or "c" in kinds and len(kinds) > 2
+    is_stacked = len(kinds) > 3 or "c" in kinds and len(kinds) > 2
     return tag(
         "div",
         tag("table", tag("thead", top), tag("tbody", *body), class_="stack" if is_stacked else "grid"),
@@ -159,7 +167,10 @@ def table(
 
 def row_of(cells: Sequence[Child], heads: Sequence[str], classes: Sequence[str], is_bold: bool) -> Markup:
     """A row of a table."""
-    inner = [tag("td", cell, class_=name, data_head=head) for cell, head, name in zip(cells, heads, classes)]
+    inner = [
+        tag("td", cell, class_=f"{name} long" if isinstance(cell, str) and is_long(cell) else name, data_head=head)
+        for cell, head, name in zip(cells, heads, classes)
+    ]
     return tag("tr", *inner, class_="bold") if is_bold else tag("tr", *inner)
 
 

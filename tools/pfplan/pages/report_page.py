@@ -336,7 +336,7 @@ def limits_parts(summary: Summary) -> Iterator[Child]:
     if summary.overloads.get("full"):
         extra.append(soft(f"Sources for which the tables had no room: {summary.overloads['full']:,}."))
     heads = ["word", "limit, and where it stands", "times", "when", "in seconds", "states killed"]
-    yield section("Limits met", table(heads, rows, "ccnsnn"), *extra)
+    yield section("Limits met", table(heads, rows, "ccntnn"), *extra)
 
 
 def users_parts(summary: Summary) -> Iterator[Child]:

@@ -1,6 +1,7 @@
 """What `watch` shows: on a terminal a screen that is drawn again each second, elsewhere a line a second for each
 ruleset."""
 
+import json
 import os
 import shutil
 from collections import Counter
@@ -127,14 +128,18 @@ def plain_lines(shown: Shown) -> Iterator[str]:
 class Screen:
     """Where it is shown. OSError where the reader of a pipe has gone away."""
 
-    def __init__(self, stream: TextIO) -> None:
+    def __init__(self, stream: TextIO, *, as_json: bool = False) -> None:
+        """With `as_json` each second is a line of JSON, also on a terminal."""
         self._stream = stream
-        self._is_terminal = stream.isatty() and os.environ.get("TERM", "") not in ("", "dumb")
+        self._as_json = as_json
+        self._is_terminal = not as_json and stream.isatty() and os.environ.get("TERM", "") not in ("", "dumb")
         self._is_begun = False
 
     def show(self, shown: Shown) -> None:
         """Shows it in place of what was shown before, or below it where there is no terminal."""
-        if self._is_terminal:
+        if self._as_json:
+            self._stream.write(json.dumps(shown.to_json()) + "\n")
+        elif self._is_terminal:
             self._draw(list(screen_lines(shown)))
         else:
             self._stream.write("".join(f"{it}\n" for it in plain_lines(shown)))

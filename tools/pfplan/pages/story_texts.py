@@ -4,13 +4,15 @@ from __future__ import annotations
 
 import ipaddress
 from collections.abc import Iterator, Sequence
+from dataclasses import asdict, dataclass, field
 from pathlib import Path
+from typing import Any
 
 from pfplan.answers.asking_anew import Asked, ask
 from pfplan.answers.connections import Members
 from pfplan.answers.episodes import Episode, Event, episodes, events, is_opening
 from pfplan.common.errors import Status, Trouble
-from pfplan.common.figures import counted
+from pfplan.common.figures import SINCE_1970, counted, moment_text
 from pfplan.common.visible import visible
 from pfplan.pages.record_texts import WHY, record_text
 from pfplan.pf.origins import Origins
@@ -19,6 +21,22 @@ from pfplan.traces.records import Record
 
 MOST = 40  # runs that are told
 MOST_ASKED = 4  # of each kind of refusal the first is asked anew, up to this number of kinds
+
+# What became of a source whose handshake took it past a limit, by the word behind `overload=`.
+ENTERED = {
+    "added": "the source was put into the rule's overload table",
+    "held": "the source was in the rule's overload table already",
+    "full": "the tables had no room for the source",
+    "none": "the rule has no overload table",
+}
+
+
+@dataclass
+class Told:
+    """What is told of a source, of a run of its records, or of one record: for machines, and in lines for people."""
+
+    facts: dict[str, Any]
+    lines: list[str] = field(default_factory=list)
 
 
 class Story:
@@ -35,23 +53,29 @@ class Story:
         self._asked: set[str] = set()
         self._shown: set[str] = set()
 
-    def of_source(self, address: str) -> Iterator[str]:
-        """The lines of a source's story. Trouble where it has no record."""
+    def of_source(self, address: str) -> Iterator[Told]:
+        """A source's story, run by run. Trouble where it has no record."""
         members = Members((ipaddress.ip_network(address),))
         runs = episodes(events(self._trace, self._report, lambda it: members.has(it.source)))
         if not runs:
             raise Trouble(f"{self._trace}: no record has the source {address}", Status.REFUSED)
         total = sum(it.records for it in runs)
-        yield f"{address}: {counted(total, 'packet')}, {_when(runs[0].first.record.time, runs[-1].last)}"
+        first, last = runs[0].first.record.time, runs[-1].last
+        head = Told({"source": address, "packets": total, "first_moment": first, "last_moment": last})
+        head.lines.append(f"{address}: {counted(total, 'packet')}, {_when(first, last)}")
+        yield head
         for at, it in enumerate(runs):
             if len(runs) > MOST and MOST // 2 <= at < len(runs) - MOST // 2:
                 if at == MOST // 2:
-                    yield f"  .. and {len(runs) - MOST} more turns between what is let in and what is not"
+                    left = len(runs) - MOST
+                    yield Told(
+                        {"more_runs": left}, [f"  .. and {left} more turns between what is let in and what is not"]
+                    )
                 continue
-            yield from self._run(it)
+            yield self._run(it)
 
-    def of_row(self, row: int) -> Iterator[str]:
-        """The lines of a record's story. Trouble where the trace has no such row."""
+    def of_row(self, row: int) -> Told:
+        """A record's story. Trouble where the trace has no such row."""
         count = 0
 
         def is_wanted(record: Record) -> bool:
@@ -62,77 +86,87 @@ class Story:
         found = next(events(self._trace, self._report, is_wanted), None)
         if found is None:
             raise Trouble(f"{self._trace}: row {row}: the trace has {counted(count, 'record')}", Status.REFUSED)
-        yield f"row {row}, second {found.record.time}: {visible(record_text(found.record))}"
-        yield from self._decision(found)
+        told = Told({"row": row, "moment": found.record.time, "record": asdict(found.record)})
+        told.lines.append(f"row {row}, {_second(found.record.time)}: {visible(record_text(found.record))}")
+        self._decision(found, told)
         if found.answer.word == "block" or found.answer.word.startswith("drop:"):
-            yield from self._anew(found)
+            self._anew(found, told)
+        return told
 
-    def _run(self, run: Episode) -> Iterator[str]:
-        """The lines of a run of like answers."""
+    def _run(self, run: Episode) -> Told:
+        """What is told of a run of like answers."""
         first = run.first
-        yield ""
         when, packets = _when(first.record.time, run.last), counted(run.records, "packet")
-        yield f"{when}: {packets}, the first in row {first.row}: {visible(record_text(first.record))}"
+        told = Told(
+            {
+                "first_moment": first.record.time, "last_moment": run.last, "packets": run.records, "row": first.row,
+                "record": asdict(first.record),
+            }
+        )  # fmt: skip
+        told.lines += ["", f"{when}: {packets}, the first in row {first.row}: {visible(record_text(first.record))}"]
         if run.is_let_in:
             made = f", and {counted(run.made, 'state')} made" if run.made else ""
-            yield f"  let in by {self._rule(first.answer.rule)}{made}"
-            return
-        yield from self._decision(first)
-        opening = run.opened
-        word = first.answer.word
-        if (
-            opening is not None
-            and word not in self._asked
-            and len(self._asked) < MOST_ASKED
-            and not word.startswith("kill:")
-        ):
+            told.facts |= {"word": "in", "states_made": run.made} | self._rule_facts(first.answer.rule)
+            told.lines.append(f"  let in by {self._rule(first.answer.rule)}{made}")
+            return told
+        self._decision(first, told)
+        opening, word = run.opened, first.answer.word
+        if opening and word not in self._asked and len(self._asked) < MOST_ASKED and not word.startswith("kill:"):
             self._asked.add(word)
-            yield from self._anew(opening)
+            self._anew(opening, told)
+        return told
 
-    def _decision(self, event: Event) -> Iterator[str]:
-        """What decided on a packet, and what went with it."""
-        answer = event.answer
-        yield f"  {answer.word}: {WHY.get(answer.word, 'the answer to a record of an administrator')}"
+    def _decision(self, event: Event, told: Told) -> None:
+        """Tells what decided on a packet, and what went with it."""
+        answer, lines = event.answer, told.lines
+        told.facts |= {"word": answer.word} | self._rule_facts(answer.rule)
+        lines.append(f"  {answer.word}: {WHY.get(answer.word, 'the answer to a record of an administrator')}")
         if answer.rule != "-":
-            yield f"  by {self._rule(answer.rule)}"
+            lines.append(f"  by {self._rule(answer.rule)}")
         if answer.word == "block" and not is_opening(event.record):
-            yield "  It belonged to no state that was held then: its connection had been refused or killed,"
-            yield "  or its state had run out."
+            lines.append("  It belonged to no state that was held then: its connection had been refused or killed,")
+            lines.append("  or its state had run out.")
         if answer.word.startswith("kill:"):
-            entered = {
-                "added": "the source was put into the rule's overload table",
-                "held": "the source was in the rule's overload table already",
-                "full": "the tables had no room for the source",
-                "none": "the rule has no overload table",
-            }
-            yield f"  {counted(answer.killed, 'state')} killed with it; {entered.get(answer.overload, '')}"
+            told.facts |= {"states_killed": answer.killed, "overload": answer.overload}
+            lines.append(f"  {counted(answer.killed, 'state')} killed with it; {ENTERED.get(answer.overload, '')}")
         if answer.word.startswith(("drop:", "kill:")):
-            yield from self._limits(answer.rule, answer.word)
+            self._limits(answer.rule, answer.word, told)
 
-    def _limits(self, rule: str, word: str) -> Iterator[str]:
-        """The numbers of the limits that a word names."""
+    def _limits(self, rule: str, word: str, told: Told) -> None:
+        """Tells the numbers of the limits that a word names."""
         own = limit_of(self._text(rule), word)
         of_all = limit_of_all(self._settings, word)
+        if own or of_all:
+            told.facts["limit"] = own or of_all
         if own:
-            yield f"  the rule says {own}"
+            told.lines.append(f"  the rule says {own}")
         elif of_all:
-            yield f"  the rules say {of_all}{_behind(self._origins.limits.get(of_all.split(' ')[2], ''))}"
+            place = self._origins.limits.get(of_all.split(" ")[2], "")
+            told.lines.append(f"  the rules say {of_all}{_behind(place)}")
 
-    def _anew(self, event: Event) -> Iterator[str]:
-        """What was held, and when it would have been let in, by a replay."""
+    def _anew(self, event: Event, told: Told) -> None:
+        """Tells what was held, and when it would have been let in, by a replay."""
         found = ask(self._rules, self._trace, event)
-        yield f"  Held before row {event.row}: {_held(found)}."
-        second = event.record.time
+        held = {"states": found.states, "nodes": found.nodes, "entries": found.entries}
+        told.facts["tried_again"] = {
+            "row": event.row, "held_before": held, "let_in": found.let_in, "last_moment_tried": found.tried,
+        }  # fmt: skip
+        told.lines.append(f"  Held before row {event.row}: {_held(found)}.")
+        packet, second = f"packet of row {event.row}", event.record.time
         if found.let_in is None:
-            yield f"  The packet of row {event.row} is not let in at the end of any later second, up to {found.tried}."
+            last = moment_text(found.tried)
+            told.lines.append(f"  The {packet} is not let in at the end of any later second, up to {last}.")
         elif found.let_in == second:
-            yield f"  At the end of the same second the packet of row {event.row} would have been let in."
+            told.lines.append(f"  At the end of the same second the {packet} would have been let in.")
         else:
             later = counted(found.let_in - second, "second")
-            yield (
-                f"  The packet of row {event.row} would have been let in at the end of second {found.let_in}, {later} "
-                "later."
+            told.lines.append(
+                f"  The {packet} would have been let in at the end of {_second(found.let_in)}, {later} later."
             )
+
+    def _rule_facts(self, name: str) -> dict[str, str | None]:
+        """A rule for machines: its number, text and line of the pf.conf."""
+        return {"rule": name, "rule_text": self._text(name) or None, "place": self._origins.of(name) or None}
 
     def _rule(self, name: str) -> str:
         """A rule as it is told: with its line of the pf.conf, and the first time with its text."""
@@ -164,4 +198,11 @@ def _held(found: Asked) -> str:
 
 
 def _when(first: int, last: int) -> str:
-    return f"second {first}" if first == last else f"seconds {first} to {last}"
+    if first == last:
+        return _second(first)
+    return f"{'seconds ' if last < SINCE_1970 else ''}{moment_text(first)} to {moment_text(last)}"
+
+
+def _second(moment: int) -> str:
+    """A moment in a sentence: a date and a time of day, or `second 12`."""
+    return moment_text(moment) if moment >= SINCE_1970 else f"second {moment}"

@@ -5,6 +5,7 @@ from collections import Counter
 from collections.abc import Sequence
 from dataclasses import dataclass, field
 from pathlib import Path
+from typing import Any
 
 from pfplan.common.errors import Status, Trouble
 from pfplan.common.inputs import check_rules, name_of
@@ -80,6 +81,19 @@ class Ruleset:
         """The text that a file of it has."""
         return self.text or "# no rule and no setting is left\n"
 
+    def to_json(self) -> dict[str, Any]:
+        """All of it for machines (man/pfplan.1)."""
+        return {
+            "rules": self.written,
+            "entries": list(self.records),
+            "items": [
+                {"rule": f"@{number}", "file": printable(it.file), "line": it.line, "label": self.labels.get(number)}
+                for number, it in enumerate(self.origins)
+            ],
+            "left_out": [it.to_json() for it in self.leftovers],
+            "notes": list(self.notes),
+        }
+
     def shown(self) -> list[str]:
         """The lines for standard error: what was left out, what else is to know, and how much there is of each."""
         changing = sum(it.changes_answer for it in self.leftovers)
@@ -118,16 +132,13 @@ def _shown(leftovers: Sequence[Leftover]) -> list[str]:
 def convert(path: Path, options: RuleOptions) -> Ruleset:
     """The rules text of a file. Trouble with status 3 at a syntax error, and with status 4 where the file can't be
     read."""
-    check_rules(path)
-    text = read_text(path)
-    return convert_text(text, str(path), options, entries_of_text(text, path))
+    return convert_named(path, path, options)
 
 
 def convert_named(path: Path, given: Path, options: RuleOptions) -> Ruleset:
     """The rules text of a file that may be a copy of the pipe or the standard input that was `given`, by whose name it
     is told. Trouble as `convert`."""
-    if path == given:
-        return convert(path, options)
+    check_rules(path)
     text = read_text(path)
     return convert_text(text, name_of(given), options, entries_of_text(text, given))
 
@@ -150,8 +161,6 @@ def convert_text(text: str, name: str, options: RuleOptions, records: Sequence[s
     anchors = {anchor.strip("/"): path for anchor, path in options.anchors}
     linker = Linker(sources, teller, dict(options.macros), anchors)
     statements = linker.link(parsed.statements)
-    if not statements and not teller.leftovers:
-        raise Trouble(f"{name}: there is no statement in it", Status.RULES)
     profile = options.profile or (Profile.OWN if is_without_profile(text) else Profile.OPENBSD)
     expander = _expander(statements, teller, sources, options, by_table(records), profile)
     expander.expand(statements)

@@ -356,7 +356,11 @@ class Expander:
         self._check_name(anchor, scope)
         counts = any_counts(anchor.body)
         heads = self._combinations(anchor, anchor.filter, scope, counts)
-        if counts and (len(heads) > 1 or id(anchor.body) in self._opened):
+        if counts and len(heads) > 1:
+            why = f"its head has a list and stands for {len(heads)} anchors, whose rules would count states apart"
+            self.teller.tell_whole(anchor, telling(why))
+            return
+        if counts and id(anchor.body) in self._opened:
             self.teller.tell_whole(
                 anchor, telling("it has the same rules as another anchor, and they would count states apart")
             )

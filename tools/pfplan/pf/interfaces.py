@@ -75,10 +75,11 @@ class Machine:
         """The loopback interfaces; `lo0` where ifconfig was not given."""
         return [it.name for it in self.interfaces.values() if it.is_loopback] if self.interfaces else ["lo0"]
 
-    def locations(self, text: str) -> list[Location] | None:
+    def locations(self, text: str, *, is_dynamic: bool = False) -> list[Location] | None:
         """What `em0`, `em0:network`, `egress:0`, `self` and their like stand for; None where the name is not known.
 
-        (pf.conf(5), PARAMETERS, "from source")
+        In parentheses (`is_dynamic`) the kernel takes no link-local address for the first one of `:0`. (pf.conf(5),
+        PARAMETERS, "from source")
         """
         name, *modifiers = text.split(":")
         if text in self.given:
@@ -95,12 +96,17 @@ class Machine:
             names = [name] if name in self.interfaces else self.members(name) or []
         if not all(it in self.interfaces for it in names) or not names:
             return None
-        return [found for it in names for found in _locations_on(self.interfaces[it], modifiers)]
+        return [found for it in names for found in _locations_on(self.interfaces[it], modifiers, is_dynamic)]
 
     def macs(self, name: str) -> list[str]:
         """The addresses to which the frames of an interface go: its own, and those of each carp(4) on it. None where it
         has none."""
         return [it.mac for it in self.interfaces.values() if it.mac and name in (it.name, it.parent)]
+
+    def networks_on(self, name: str) -> list[Network]:
+        """The networks of an interface, without link-local ones."""
+        found = self.interfaces[name].addresses if name in self.interfaces else []
+        return list(dict.fromkeys(it.network for it in found if not it.address.is_link_local))
 
     def inside(self) -> list[Network]:
         """What is behind the firewall, with its own addresses: the networks of interfaces that are neither loopback nor
@@ -121,7 +127,7 @@ def _locations_of(given: Iterable[Given], modifiers: list[str]) -> list[Location
     return _first_of_each_family(found) if "0" in modifiers else found
 
 
-def _locations_on(interface: Interface, modifiers: list[str]) -> list[Location]:
+def _locations_on(interface: Interface, modifiers: list[str], is_dynamic: bool) -> list[Location]:
     found: list[Location] = []
     for it in interface.addresses:
         is_local = it.address.version == 6 and it.address.is_link_local
@@ -136,6 +142,8 @@ def _locations_on(interface: Interface, modifiers: list[str]) -> list[Location]:
                 found.append(Location(ipaddress.ip_network(it.peer)))
         else:
             found.append(Location(ipaddress.ip_network(it.address), interface.name if is_local else ""))
+    if "0" in modifiers and is_dynamic:
+        found = [it for it in found if not it.zone]
     return _first_of_each_family(found) if "0" in modifiers else found
 
 
@@ -210,6 +218,11 @@ def prefix_of(text: str, length: int | None) -> Network | None:
         return ipaddress.ip_network(address if length is None else f"{address}/{length}", strict=False)
     except ValueError:
         return None
+
+
+def cut(network: Network, length: int) -> Network:
+    """A network, as wide as a length makes it."""
+    return network.supernet(new_prefix=length) if length < network.prefixlen else network
 
 
 def shown(network: Network) -> str:

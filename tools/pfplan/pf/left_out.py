@@ -1,6 +1,7 @@
 """What is left out of a rules text, why, whether that can change an answer, and which way."""
 
 from dataclasses import dataclass, field
+from typing import Any
 
 from pfplan.common.errors import Status, Trouble
 from pfplan.common.limits import OF_RULES
@@ -12,6 +13,8 @@ BLOCKS_MORE = "pf blocks more"
 PASSES_MORE = "pf passes more"
 OTHER_STATES = "pf makes other states"
 EITHER_WAY = "pf may block or pass more"
+# characters of what is left out that are told
+LONGEST = 400
 _COUNTS = (*OF_RULES, "adaptive.start", "adaptive.end")
 
 
@@ -30,6 +33,18 @@ class Leftover:
     changes_answer: bool
     way: str = ""
     is_missing: bool = False
+
+    def to_json(self) -> dict[str, Any]:
+        """It for machines."""
+        return {
+            "file": printable(self.file),
+            "line": self.line,
+            "text": printable(self.text),
+            "reason": self.reason,
+            "changes_answer": self.changes_answer,
+            "way": self.way,
+            "is_missing": self.is_missing,
+        }
 
     def shown(self) -> str:
         """The line that tells it."""
@@ -195,7 +210,8 @@ class Teller:
     def tell(self, place: Place, text: str, reason: Reason, of: Statement | None = None) -> None:
         """Tells a thing once, however often the statement that it is a part of is expanded."""
         way = reason.way or way_of(of) if reason.changes else ""
-        leftover = Leftover(place.file, place.line, text, reason.text, reason.changes, way, reason.is_missing)
+        shown = text if len(text) <= LONGEST else f"{text[:LONGEST]} .."
+        leftover = Leftover(place.file, place.line, shown, reason.text, reason.changes, way, reason.is_missing)
         if leftover in self._seen:
             return
         self._seen.add(leftover)

@@ -4,11 +4,13 @@ from dataclasses import dataclass, field
 from pathlib import Path
 
 from pfplan.common.errors import Status, Trouble
-from pfplan.common.inputs import check_readable
+from pfplan.common.inputs import check_readable, is_regular
 from pfplan.pf.lexer import Budget, printable
 from pfplan.pf.statements import Place
 
 MOST_BYTES = 64 << 20  # of one file
+# What pipes gave.
+_given: dict[Path, bytes] = {}
 
 
 @dataclass
@@ -73,10 +75,15 @@ class NamedFiles:
 
 
 def read_text(path: Path) -> str:
-    """The text of a file. Trouble with status 4 where it can't be read, 3 where it is too long."""
+    """The text of a file. Trouble with status 4 where it can't be read, 3 where it is too long. What a pipe gave is
+    kept: it is read once."""
     check_readable(path)
-    with open(path, "rb") as file:
-        data = file.read(MOST_BYTES + 1)
+    data = _given.get(path)
+    if data is None:
+        with open(path, "rb") as file:
+            data = file.read(MOST_BYTES + 1)
+        if not is_regular(path):
+            _given[path] = data
     if len(data) > MOST_BYTES:
         raise Trouble(f"{path}: more than {MOST_BYTES} bytes", Status.RULES)
     return data.decode("utf-8", "surrogateescape")

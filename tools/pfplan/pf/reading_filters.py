@@ -5,7 +5,7 @@ import re
 
 from pfplan.common.limits import OF_RULES
 from pfplan.pf.cursor import Cursor
-from pfplan.pf.lexer import Kind, trouble
+from pfplan.pf.lexer import Kind, printable, trouble
 from pfplan.pf.services import TCP, UDP, port_of, protocol_of
 from pfplan.pf.statements import ANY_HOST, Filter, Host, HostKind, Interface, Part, Port, Side, State, StateOption
 
@@ -176,6 +176,8 @@ class FilterReader:
         if self.at.is_word(*HEAD, *AFTER_HOSTS, "port"):
             raise self.at.wanted("a host")
         name = self.at.want_name("a host")
+        if set(name.split(":")[1:]) & {"network", "broadcast"} and self.at.is_mark("/"):
+            raise trouble(self.at.token, f"'{printable(name)}/': a network or a broadcast address takes no length")
         if self.at.take_mark("-"):
             return Host(HostKind.RANGE, name, self.at.want_name("the last address of the range"), negated=negated)
         return Host(HostKind.NAME, name, length=self._length(), negated=negated)

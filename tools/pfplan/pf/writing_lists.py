@@ -7,7 +7,7 @@ from collections.abc import Iterable, Sequence
 from dataclasses import dataclass, field, replace
 
 from pfplan.common.networks import Network
-from pfplan.pf.interfaces import Location, Machine, prefix_of, shown
+from pfplan.pf.interfaces import Location, Machine, cut, prefix_of, shown
 from pfplan.pf.left_out import Reason, Teller, beyond, harmless, telling
 from pfplan.pf.statements import Filter, Host, HostKind, Interface, Port, Statement
 from pfplan.pf.writing_tables import TableMaker
@@ -240,13 +240,13 @@ class Chooser:
         return [Choice(f"{sign}<{self.tables.name(host.text + length, fitting)}>")]
 
     def _locations(self, host: Host) -> list[Location] | Gap:
-        found = self.machine.locations(host.text)
+        found = self.machine.locations(host.text, is_dynamic=host.kind is HostKind.DYNAMIC)
         if found is None:
             return self._no_address(host, "")
         if host.length is None:
             return found
         return [
-            Location(_cut(it.network, host.length), it.zone) for it in found if host.length <= it.network.max_prefixlen
+            Location(cut(it.network, host.length), it.zone) for it in found if host.length <= it.network.max_prefixlen
         ]
 
     def _no_address(self, host: Host, family: str) -> Gap:
@@ -263,10 +263,6 @@ class Chooser:
         if not ports:
             return NO_CHOICE
         return [choice for it in ports for choice in _port(it, counts)]
-
-
-def _cut(network: Network, length: int) -> Network:
-    return network.supernet(new_prefix=length) if length < network.prefixlen else network
 
 
 def _split(choices: list[Choice], part: str, counts: bool) -> Options:

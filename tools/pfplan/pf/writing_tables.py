@@ -7,13 +7,15 @@ from pathlib import Path
 
 from pfplan.common.errors import Status, Trouble
 from pfplan.common.networks import Network
-from pfplan.pf.interfaces import Machine, prefix_of, shown
+from pfplan.pf.interfaces import Machine, cut, prefix_of, shown
 from pfplan.pf.left_out import Teller, telling
 from pfplan.pf.lexer import printable
 from pfplan.pf.named_files import NamedFiles, read_text
 from pfplan.pf.statements import Host, HostKind, Table
 
 MOST_TOLD = 10  # entries of a file that are no addresses, each in a line
+# what an interface or a host may be called, and no address that is written wrong
+_NAME = re.compile(r"(?=[^:]*[A-Za-z])[A-Za-z0-9_.-]{1,255}(:(network|broadcast|peer|0))*")
 _COMMENT = re.compile(r"[#;].*")
 
 
@@ -73,7 +75,12 @@ class TableMaker:
 
     def _tell_entry(self, table: Table, host: Host) -> None:
         text = ("!" if host.negated else "") + host.shown().removeprefix("! ")
-        self.teller.tell(table.place, printable(f"entry {text} of <{table.name}>"), telling("it is no address"))
+        reason = telling("it is no address")
+        if host.kind is not HostKind.RANGE and _NAME.fullmatch(host.text):
+            what = "PREFIX" if ":network" in host.text else "ADDRESS"
+            help_ = f"its address is not there; give it with --address {host.text}={what}"
+            reason = telling(help_, is_missing=True)
+        self.teller.tell(table.place, printable(f"entry {text} of <{table.name}>"), reason)
 
     def _add_file(self, table: Table, name: str, path: Path, entries: dict[Network, bool]) -> None:
         """The entries of a file. Those that are no addresses are told one by one only as far as that helps a reader,
@@ -111,9 +118,11 @@ class TableMaker:
         if host.kind is HostKind.RANGE:
             return None
         found = self.machine.locations(host.text)
-        if found is None or host.length is not None:
+        if found is None:
             return None
-        return [it.network for it in found]
+        if host.length is None:
+            return [it.network for it in found]
+        return [cut(it.network, host.length) for it in found if host.length <= it.network.max_prefixlen]
 
     def _files(self, table: Table) -> tuple[list[Path], bool]:
         """The files of a table, and whether all were there."""

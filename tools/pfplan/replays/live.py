@@ -6,6 +6,7 @@ answers are read before more is sent: so neither side waits for the other, and m
 """
 
 import os
+import stat
 import subprocess
 import tempfile
 from collections.abc import Iterable, Sequence
@@ -13,7 +14,7 @@ from pathlib import Path
 from typing import IO, NoReturn
 
 from pfplan.common.errors import Status, Trouble, reason_of
-from pfplan.common.inputs import HEADER
+from pfplan.common.inputs import HEADER, check_unpacking, packed_by
 from pfplan.common.repository import program
 from pfplan.traces.records import End, read_answer
 
@@ -21,16 +22,18 @@ from pfplan.traces.records import End, read_answer
 PIECE = 8192
 
 
-def started(words: Sequence[str], errors: IO[bytes], *, is_fed: bool) -> "subprocess.Popen[bytes]":
+def started(
+    words: Sequence[str], errors: IO[bytes], *, is_fed: bool, source: IO[bytes] | None = None
+) -> "subprocess.Popen[bytes]":
     """A program of the pipeline. It is in a group of its own: an interrupt from the terminal is for us, who end the
     others in order.
 
-    Its standard input is ours, or where `is_fed` a pipe. Trouble with status 70 where it can't be run.
+    Its standard input is `source`, else ours, or where `is_fed` a pipe. Trouble with status 70 where it can't be run.
     """
     try:
         return subprocess.Popen(
             words,
-            stdin=subprocess.PIPE if is_fed else None,
+            stdin=subprocess.PIPE if is_fed else source,
             stdout=subprocess.PIPE,
             stderr=errors,
             bufsize=0,
@@ -73,7 +76,12 @@ class Capture:
 
     def __init__(self, words: Sequence[str]) -> None:
         self._errors = tempfile.TemporaryFile(prefix="pfplan-")
-        self._process = started([program("pfstrace"), "--line-buffered", *words], self._errors, is_fed=False)
+        self._unpacking = _unpacking(self._errors)
+        source = self._unpacking.stdout if self._unpacking else None
+        words = [program("pfstrace"), "--line-buffered", *words]
+        self._process = started(words, self._errors, is_fed=False, source=source)
+        if source:
+            source.close()  # pfstrace has it
         assert self._process.stdout is not None
         self._lines = Lines(self._process.stdout)
         self._is_begun = False
@@ -97,6 +105,9 @@ class Capture:
         if self._process.poll() is None:
             self._is_stopped = True
             self._process.terminate()
+        if self._unpacking:
+            self._unpacking.terminate()
+            self._unpacking.wait()
 
     def account(self) -> tuple[list[str], Trouble | None]:
         """What it told of its frames, once all is read, and what was wrong: a capture that ends within a packet, or
@@ -109,6 +120,17 @@ class Capture:
         failed = status not in (Status.REFUSED, Status.WORDS)
         why = lines.pop() if lines else f"ended with status {status} and said nothing"
         return lines, Trouble(f"standard input: pfstrace: {why}", Status.FAILED if failed else Status.REFUSED)
+
+
+def _unpacking(errors: IO[bytes]) -> "subprocess.Popen[bytes] | None":
+    """What unpacks a file on standard input that gzip or zstd packed. A pipe is not looked into."""
+    if not stat.S_ISREG(os.fstat(0).st_mode):
+        return None
+    command = packed_by(os.pread(0, 4, os.lseek(0, 0, os.SEEK_CUR)))
+    if not command:
+        return None
+    check_unpacking(command, "standard input")
+    return started([command, "-d", "-c"], errors, is_fed=False)
 
 
 class Replaying:

@@ -118,7 +118,7 @@ class Reading:
     def follow(self, packet: Packet) -> None:
         """Puts a packet to its connection, or begins one, and notes a fate that is certain by now."""
         connection = self.latest(packet)
-        if connection is None or packet.protocol == "tcp" and packet.opens() and is_another(connection, packet):
+        if connection is None or packet.opens() and is_another(connection, packet):
             if connection is not None:
                 connection.fate = connection.fate or self.fate_at_end(connection)
             is_begun = packet.opens()
@@ -202,7 +202,9 @@ def packet_of(row: int, record: str, text: str) -> Packet:
 
 
 def is_another(connection: Connection, packet: Packet) -> bool:
-    """Whether a SYN between the ends of a connection is none of it."""
+    """Whether a SYN between the ends of a connection, or a packet of UDP, is none of it."""
+    if packet.protocol != "tcp":
+        return packet.word != "state" and packet.moment - connection.seen >= 240
     packets, fate = connection.packets, connection.fate
     if fate not in ("", "killed", "cut") or packet.moment - connection.seen >= 240:
         return True

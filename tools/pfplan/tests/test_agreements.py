@@ -69,6 +69,11 @@ WORDS = ("new", "state", "state", "block", "block", "block", "new", "new", "drop
          "drop:max", "drop:states", "drop:states", "skip")  # fmt: skip
 
 
+def plain(line: str) -> str:
+    """A line of the document, as JSON has it."""
+    return line.replace("`", "")
+
+
 class Agreeing(FolderCase):
     """Calls of `agree` in a folder, and what it counts."""
 
@@ -205,7 +210,7 @@ class Differences(Agreeing):
         ):
             with self.subTest(at=at, told=told):
                 found, _ = self.differing(at, told)
-                self.assertEqual((found["row"], found["kind"], found["explained_by"]), (at, kind, line))
+                self.assertEqual((found["row"], found["kind"], found["explained_by"]), (at, kind, plain(line)))
 
     def test_each_reason_of_a_drop(self) -> None:
         for name in set(REASONS) - {"match", "state-limit", "src-limit", "memory"}:
@@ -216,7 +221,7 @@ class Differences(Agreeing):
                 )
                 self.assertIn(f"pf {name}, pfsrc state", done.out)
         found, _ = self.differing(3, Logged(PASS, 3, "web", 0, REASONS.index("state-mismatch")))
-        self.assertEqual(found["explained_by"], explaining.WINDOWS)
+        self.assertEqual(found["explained_by"], plain(explaining.WINDOWS))
 
     def test_what_is_told_of_a_difference(self) -> None:
         found, done = self.differing(13, Logged(PASS, 3, "web", 0, rewritten=True))
@@ -229,7 +234,7 @@ class Differences(Agreeing):
             "  held          6 states, 2 source nodes, 1 table entry",
         ):
             self.assertIn(line, done.out.splitlines())
-        self.assertEqual(found["explained_by"], explaining.TRANSLATION)
+        self.assertEqual(found["explained_by"], plain(explaining.TRANSLATION))
 
     def test_no_address_unless_asked_for(self) -> None:
         _, done = self.differing(4, Logged(BLOCK, 1))
@@ -240,13 +245,31 @@ class Differences(Agreeing):
         _, done = self.differing(4, Logged(BLOCK, 1), "--addresses")
         self.assertIn("in em0 tcp 203.0.113.66:4002 to 192.0.2.1:80 flags S", done.out)
 
-    def test_the_first_ten(self) -> None:
+    def test_all_that_differs(self) -> None:
+        """The text tells the first ten, or as many as are asked for, and the JSON all."""
         conf, trace = self.write("pf.conf", CONF), self.trace(
             [tcp(1, "203.0.113.2", port, 443) for port in range(1, 21)]
         )
         packets = [(record, Logged(BLOCK, 2)) for record, _ in self.packets(conf, trace)]
-        answer, _ = self.agree(conf, packets)
-        self.assertEqual((answer["differ"], [it["row"] for it in answer["differences"]]), (20, list(range(1, 11))))
+        for words, shown in (((), 10), (("--top", 3), 3), (("--top", 20), 20)):
+            answer, done = self.agree(conf, packets, *words)
+            self.assertEqual((answer["differ"], [it["row"] for it in answer["differences"]]), (20, list(range(1, 21))))
+            self.assertTrue(all(it["held"] for it in answer["differences"]))
+            self.assertEqual(done.out.count("\ndifference "), shown)
+            self.assertEqual(f"and {20 - shown} differences more" in done.out, shown < 20)
+            page = (self.folder / "answer" / "report.html").read_text("utf-8")
+            self.assertEqual(page.count(". Packet "), shown)
+
+    def test_check(self) -> None:
+        conf, trace = self.write("pf.conf", CONF), self.trace([tcp(1, "203.0.113.2", 1, 443)])
+        packets = [(record, Logged(BLOCK, 2)) for record, _ in self.packets(conf, trace)]
+        log = self.folder / "pflog"
+        for given, status in ((packets, 1), (self.packets(conf, trace), 0)):
+            log.write_bytes(log_capture(given))
+            done = pfplan("agree", conf, log, "--into", self.folder / "answer", "--check")
+            self.assertEqual(done.status, status, done.err)
+            self.assertIn("pf and pfsrc agree on", done.out)
+            self.assertEqual("--check: 1 packet of 1 differ" in done.err, status == 1)
 
     def test_a_state_from_before_the_log(self) -> None:
         conf, trace = self.write("pf.conf", CONF), self.trace(
@@ -317,6 +340,7 @@ class Parts(unittest.TestCase):
         for it in explaining.ALL:
             with self.subTest(it):
                 self.assertGreater(len(explanation(it)), 40)
+                self.assertNotRegex(explanation(it), r"`|\*\*|\]\(")
 
     def test_what_explains_goes_by_the_profile(self) -> None:
         """What pf's machine does as pf is explained so only where the rules ask for pfsrc's own."""

@@ -113,7 +113,15 @@ class NamedFiles(FolderCase):
         status, err = self.refusal(
             "table <t>\nblock from <t>\n", "--entries", f"t={self.write('words', '10.0.0.1 ' + words)}"
         )
-        self.assertEqual((status, err.count("it is no address"), err.count("490 entries of <t>")), (0, 10, 1))
+        self.assertEqual(
+            (status, err.count("give it with --address word"), err.count("490 entries of <t>")), (0, 10, 1)
+        )
+
+    def test_a_long_rule_is_cut(self) -> None:
+        ports = ", ".join(map(str, range(1, 8000)))
+        status, err = self.refusal(f"pass in proto tcp to port {{ {ports} }} user root\n")
+        self.assertEqual((status, err.count(" ..: can change an answer")), (0, 1), err[:1000])
+        self.assertLess(len(err), 1000)
 
     def test_many_labels_are_one_line(self) -> None:
         status, err = self.refusal("".join(f'pass in proto tcp to port {it} label "l{it}"\n' for it in range(1, 5001)))
@@ -146,6 +154,7 @@ class Names(FolderCase):
         self.assertNotIn("\x1b", done.out + done.err + (self.folder / f"into{name}" / "report.html").read_text("utf-8"))
 
     def test_an_empty_rules_file(self) -> None:
+        """It is an empty ruleset, as for pfctl."""
         empty, trace = self.write("empty", ""), self.trace(["0,in,em0,udp,203.0.113.1,1000,192.0.2.1,53,"])
         report, users = self.report(["new @0"]), ("--users", "203.0.113.0/24")
         for words in (
@@ -154,8 +163,9 @@ class Names(FolderCase):
             ("summary", report, "--rules", empty),
         ):  # fmt: skip
             done = pfplan(*words, env={"PFSRC": str(STAND_IN)})
-            wanted = f"pfplan {words[0]}: {empty}: an empty file, where rules are wanted\n"
-            self.assertEqual((done.status, done.err), (Status.RULES, wanted))
+            # what is asked of it may be refused, and not that it is empty
+            self.assertNotIn("where rules are wanted", done.err)
+            self.assertIn(done.status, (0, 1), (words, done.err))
 
 
 if __name__ == "__main__":

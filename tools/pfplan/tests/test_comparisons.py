@@ -206,6 +206,14 @@ class Commands(FolderCase):
         self.assertIn("B  drop:states @0: as many states are held as set limit states allows", ended.out)
         self.assertIn("connections of users whose fate changes: 1 of 2", ended.out)
         self.assertIn("    set limit states 9", ended.out)
+        # who serves the most stands above the table, and moments since 1970 leave it narrow enough
+        above, _, _ = ended.out.partition("users' connections")
+        self.assertIn("A serves the most users: 2 of 2 connections, 100 %.", above)
+        late = self.trace([f"{1_700_000_000 + int(it[0])}{it[1:]}" for it in self.records], "since-1970")
+        ended = pfplan("compare", *self.rules, self.rules[1], late, "--users", "198.51.100.0/24", env=ENV)
+        table, _, _ = ended.out.partition("\n\nA and B")
+        self.assertIn("  drop:states: first at", table)
+        self.assertLess(max(map(len, table.splitlines())), 110)
 
     def test_json_and_page(self) -> None:
         page = self.folder / "page.html"
@@ -242,8 +250,8 @@ class Commands(FolderCase):
         bad = self.write("bad", "nonsense\n")
         empty = self.write("empty", "")
         rows: tuple[tuple[tuple[object, ...], int, str], ...] = (
-            ((self.rules[0], trace), 2, "two rules texts or more are wanted"),
-            ((self.rules[0], bad, trace), 3, "bad: line 1: Syntax"),
+            ((self.rules[0], trace), 2, "two rulesets or more are wanted"),
+            ((self.rules[0], bad, trace), 3, "bad: line 1: 'nonsense': wanted a statement"),
             ((self.rules[0], self.folder / "none", trace), 4, "none: no such file"),
             ((self.rules[0], self.folder, trace), 4, "a folder, where a file is wanted"),
             ((self.rules[0], trace, trace), 3, "a trace, where rules are wanted"),

@@ -162,6 +162,18 @@ class Fates(FolderCase):
                 seen,
             )
 
+    def test_a_port_of_udp_used_again(self) -> None:
+        """After 4 minutes without a packet and without a state a packet begins another connection."""
+        ends, back = "udp,198.51.100.1,5000,192.0.2.1,53,", "udp,192.0.2.1,53,198.51.100.1,5000,"
+        other = "400,in,em0,udp,203.0.113.1,1,192.0.2.1,53,"
+        for later, word, counted in ((239, "new @0", 1), (240, "new @0", 2), (300, "state @0", 1)):
+            trace = self.trace([f"0,in,em0,{ends}", f"0,out,em0,{back}", f"{later},in,em0,{ends}", other])
+            report = self.report(["new @0", "state @0", word, "new @0"])
+            users = summarize(report, Wanted(trace, networks("198.51.100.0/24"))).users
+            assert users is not None
+            self.assertEqual((users.connections, users.outcomes["served"]), (counted, 1))
+            self.assertEqual(users.outcomes["unanswered"], counted - 1)
+
     def check(self, seed: int) -> list[str]:
         """One ruleset with one trace. Answers the fates."""
         drawer = Drawer(seed)

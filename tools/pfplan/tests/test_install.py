@@ -104,7 +104,8 @@ class Install(FolderCase):
             self.assertEqual(page.read_bytes(), (TOP / "man" / f"{name}.1").read_bytes())
         home = self.prefix / "lib" / "pfplan"
         self.assertEqual(
-            sorted(it.name for it in home.iterdir()), ["docs", "man", "pfplan", "pfsrc", "pfstrace", "tools"]
+            sorted(it.name for it in home.iterdir()),
+            ["completion", "docs", "man", "pfplan", "pfsrc", "pfstrace", "tools"],
         )
         self.assertEqual(
             [it for it in home.rglob("*") if not it.stat().st_mode & 0o044 or it.name in ("tests", "__pycache__")], []

@@ -7,6 +7,7 @@ import shutil
 import subprocess
 import tempfile
 from collections.abc import Iterable, Iterator, Sequence
+from dataclasses import dataclass
 from pathlib import Path
 from typing import IO, TextIO
 
@@ -34,50 +35,73 @@ def check_capture(path: Path, name: Path | str | None = None) -> None:
             raise Trouble(f"{name}: a text, where a capture is wanted", Status.REFUSED)
 
 
-def make_trace(
-    capture: Path, inside: Sequence[Network], out: TextIO, *, name: str | None = None, macs: Sequence[str] = (),
-    told: TextIO | None = None, is_zero: bool = False, is_partial: bool = False, shown: Path | str | None = None,
-    is_log: bool = False,
-) -> list[str]:  # fmt: skip
-    """Writes the trace of a capture, and answers the lines of the account. Trouble where the capture is refused: what
-    was written until then is not whole.
+@dataclass(frozen=True)
+class Seen:
+    """Where packets of a capture were seen: on which interface (that of pfstrace, em0, where it is None), with which
+    addresses on its Ethernet, by which directions are sure, and which networks are behind it, or in front of an inner
+    one (`outside`)."""
 
-    `name` is the interface of every record, and `macs` are its addresses on its Ethernet, by which directions are sure.
+    name: str | None = None
+    macs: Sequence[str] = ()
+    inside: Sequence[Network] = ()
+    outside: Sequence[Network] = ()
+
+    def words(self) -> list[str]:
+        """The words of pfstrace by which its packets have a direction and an interface."""
+        lists = (("--mac", self.macs), ("--inside", self.inside), ("--outside", self.outside))
+        words = [it for name, values in lists if values for it in (name, ",".join(map(str, values)))]
+        return [*(["--interface", self.name] if self.name else []), *words]
+
+    @property
+    def has_networks(self) -> bool:
+        """Whether networks tell directions."""
+        return bool(self.inside or self.outside)
+
+
+def make_trace(
+    captures: Sequence[Path], seen: Sequence[Seen], out: TextIO, *, told: TextIO | None = None, is_zero: bool = False,
+    is_partial: bool = False, shown: Path | str | None = None, is_log: bool = False,
+) -> list[str]:  # fmt: skip
+    """Writes the trace of a capture for each interface, or of one for all, and answers the lines of the account.
+    Trouble where a capture is refused: what was written until then is not whole.
+
     `told` gets pf's own answers. With `is_zero` moments count from the first record's. With `is_partial` a capture that
-    is cut is taken up to there. `shown` stands in messages for a copy of what was given. `is_log` says that a log of
-    pflog(4) is wanted, which needs no networks.
+    is cut is taken up to there. `shown` stands in messages for what was given. `is_log` says that a log of pflog(4) is
+    wanted, which needs no networks.
     """
-    shown = shown or capture
-    if str(capture) != "-":
-        check_capture(capture, shown)
+    shown = shown or ", ".join(map(str, captures))
+    for it in captures:
+        check_capture(it, shown if len(captures) == 1 else it)
     check_program("pfstrace")
-    words = [program("pfstrace"), *way_words(inside, macs, name)]
-    # a name that begins with a hyphen is no option behind a folder's
-    named = [] if str(capture) == "-" else [f"./{capture}" if str(capture).startswith("-") else str(capture)]
     with contextlib.ExitStack() as stack:
         answers = ["--told", stack.enter_context(_answers(told))] if told else []
-        with _running([*words, *answers, *named], capture, shown, is_partial) as (lines, account):
+        words = [program("pfstrace"), *answers, *_words(captures, seen)]
+        with _running(words, shown, is_partial) as (lines, account):
             out.writelines(from_zero(lines) if is_zero else lines)
-        check_account(account, shown, has_inside=is_log or bool(inside))
-    return account + by_networks(account, name or "em0")
+        check_account(account, shown, has_inside=is_log or any(it.has_networks for it in seen))
+    return account + by_networks(account, seen)
 
 
-def way_words(inside: Sequence[Network], macs: Sequence[str], name: str | None) -> list[str]:
-    """The words of pfstrace by which packets have a direction and an interface."""
-    words = ["--mac", ",".join(macs)] if macs else []
-    words += ["--inside", ",".join(map(str, inside))] if inside else []
-    return words + (["--interface", name] if name else [])
+def _words(captures: Sequence[Path], seen: Sequence[Seen]) -> Iterator[str]:
+    """The words that name interfaces and captures: one capture alone is that of all interfaces."""
+    # a name that begins with a hyphen is no option behind a folder's
+    names = [f"./{it}" if str(it).startswith("-") else str(it) for it in captures]
+    for at, it in enumerate(seen):
+        yield from it.words()
+        yield from names[at : at + 1] if len(names) > 1 else ()
+    yield from names if len(names) == 1 else ()
 
 
-def by_networks(account: Sequence[str], name: str) -> list[str]:
+def by_networks(account: Sequence[str], seen: Sequence[Seen]) -> list[str]:
     """What is to be said where only the networks of --inside tell directions, or say the other one, by the account of
     pfstrace."""
     counts = next((found for line in account if (found := _BY_NETWORKS.match(line))), None)
     if counts is None:
         return []
     alone, against = (int(it) for it in counts.groups())
+    name = ", ".join(it.name or "em0" for it in seen if not it.outside)
     said = []
-    if alone:
+    if alone and name:
         said.append(
             f"directions of {alone} packets are by networks alone: all turned if {name} is an inner interface. "
             "With --ifconfig FILE and --if NAME its own address (lladdr) tells them"
@@ -118,7 +142,7 @@ def _answers(told: TextIO) -> Iterator[str]:
 
 @contextlib.contextmanager
 def _running(
-    words: Sequence[str], capture: Path, shown: Path | str, is_partial: bool
+    words: Sequence[str], shown: Path | str, is_partial: bool
 ) -> Iterator[tuple[IO[str], list[str]]]:
     """What pfstrace prints, and once it has ended well the lines of its account. Trouble where it can't be run, or
     fails.
@@ -126,11 +150,10 @@ def _running(
     It prints whole rows up to where a capture is cut; with `is_partial` these are taken.
     """
     account: list[str] = []
-    given = None if str(capture) == "-" else subprocess.DEVNULL
     with tempfile.TemporaryFile("w+", errors="replace", prefix="pfplan-") as errors:
         try:
             process = subprocess.Popen(
-                words, stdin=given, stdout=subprocess.PIPE, stderr=errors, text=True, encoding="latin-1"
+                words, stdin=subprocess.DEVNULL, stdout=subprocess.PIPE, stderr=errors, text=True, encoding="latin-1"
             )
         except OSError as error:
             raise Trouble(f"{words[0]}: can't be run: {reason_of(error)}", Status.FAILED) from None

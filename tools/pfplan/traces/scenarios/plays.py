@@ -11,7 +11,7 @@ from random import Random
 
 from pfplan.common.inputs import Kind, check_readable, kind_of
 from pfplan.common.outputs import part_file
-from pfplan.traces.captures import make_trace
+from pfplan.traces.captures import Seen, make_trace
 from pfplan.traces.moments import step_of
 from pfplan.traces.records import End
 from pfplan.traces.scenarios.askers import Manner, Question
@@ -195,7 +195,7 @@ def traces_of(scenario: Scenario) -> Iterator[dict[str, Path]]:
             else:
                 found[it.name] = Path(folder, it.name)
                 with part_file(found[it.name]) as out:
-                    account = make_trace(it.file, list(it.inside), out, name=it.interface, is_zero=True)
+                    account = make_trace([it.file], [Seen(it.interface, (), it.inside)], out, is_zero=True)
                 for line in account:
                     print(f"{it.name}: {line}", file=sys.stderr)
         yield found

@@ -119,7 +119,7 @@ def is_scenario(path: Path) -> bool:
     """Whether a file is meant as a scenario and not as a trace: by its name, or by what stands in it."""
     if path.suffix == ".toml":
         return True
-    if kind_of(path) is not Kind.OTHER:
+    if kind_of(path) is not Kind.OTHER:  # (nor is it known of a pipe)
         return False
     try:
         with open(path, "rb") as file:
