@@ -32,7 +32,6 @@ from pfplan.pages.doubt_texts import doubt_lines
 from pfplan.pages.report_page import PAGE, Subject, write_answer
 from pfplan.pages.screens import Screen, forgotten_text
 from pfplan.pf.conversion import Ruleset, machine_of, write_ruleset
-from pfplan.pf.reading_canonical_text import items_of
 from pfplan.replays.live import Capture
 from pfplan.replays.runs import show_rules
 from pfplan.traces.accounts import Frames, frames_of

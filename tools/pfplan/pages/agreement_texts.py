@@ -149,8 +149,8 @@ def page_of(found: Agreement, hider: Hider, differences: str, top: int) -> str:
     title = "pf and pfsrc on the packets of a log"
     is_good = found.count(Verdict.DIFFERS) == 0 if found.compared else None
     counts = [f"{head}: {counted(found.count(verdict), 'packet')}" for verdict, head in HEADS.items()]
-    top = [tag("h1", title), soft(span(found)), soft(found.profile.told())]
-    parts: list[Child] = [*top, answer(headline(found), is_good, bullets(counts))]
+    heads = [tag("h1", title), soft(span(found)), soft(found.profile.told())]
+    parts: list[Child] = [*heads, answer(headline(found), is_good, bullets(counts))]
     for verdict, head in HEADS.items():
         rows = [row for kind, pairs in found.kinds(verdict).items() for row in _rows(kind, pairs)]
         if rows:
