@@ -44,7 +44,7 @@ class Captures(FolderCase):
         )
         given = ("--inside", "192.0.2.0/24", "--inside", "2001:db8::/32,198.51.100.7", "--if", "vlan3")
         self.assertEqual(self.call(script, *given), Done(0, made, "frames 3: records 2\n"))
-        words = ["--inside", "192.0.2.0/24,2001:db8::/32,198.51.100.7/32", "--interface", "vlan3", NAME]
+        words = ["--interface", "vlan3", "--inside", "192.0.2.0/24,2001:db8::/32,198.51.100.7/32", NAME]
         self.assertEqual(self.read("words").splitlines(), words)
         self.assertEqual(
             self.call(script, *given, "--zero"), Done(0, "time,dir\n0,in\n2,out\n", "frames 3: records 2\n")
@@ -77,7 +77,7 @@ class Captures(FolderCase):
                 self.assertEqual(
                     self.call(script, "--ifconfig", "ifconfig", "--if", name), Done(0, "time,dir\n5,in\n", "")
                 )
-                self.assertEqual(self.read("words"), f"{macs}--inside 192.0.2.0/24 --interface {name} {NAME}\n")
+                self.assertEqual(self.read("words"), f"--interface {name} {macs}--inside 192.0.2.0/24 {NAME}\n")
 
     def test_directions_by_networks_alone(self) -> None:
         counts = "directions: by pflog 0, by a cooked header 0, by --mac {}, by networks {}; networks contradict {}"
@@ -109,10 +109,10 @@ class Captures(FolderCase):
         self.assertEqual((done, self.read("words")), (Done(0, "time,dir\n5,in\n", ""), "./-r\n"))
 
     def test_standard_input(self) -> None:
-        done = self.call(f'echo "$*" > words; cat > given; {ONE}', capture="-", stdin="a capture")
-        self.assertEqual(
-            (done, self.read("words"), self.read("given")), (Done(0, "time,dir\n5,in\n", ""), "\n", "a capture")
-        )
+        """pfstrace gets a copy of it, which is gone at the end."""
+        done = self.call(f'echo "$1" > words; cat "$1" > given; {ONE}', capture="-", stdin="\x01 a capture")
+        self.assertEqual((done, self.read("given")), (Done(0, "time,dir\n5,in\n", ""), "\x01 a capture"))
+        self.assertFalse(os.path.exists(self.read("words").strip()))
 
     def test_told(self) -> None:
         script = f'printf \'{ANSWERS}\\n1,block,7,a,0\\n\' > "$2"; echo "$1 $3" > words; {ONE}'
@@ -231,8 +231,8 @@ class Captures(FolderCase):
     def test_words(self) -> None:
         for words, why in (
             (("--inside", "192.0.2.300"), "--inside: '192.0.2.300' is no prefix"),
-            (("--outside", "192.0.2.0/24"), "'--outside': no such word; is --out meant? (pfplan trace --help)"),
-            (("--if", "any"), "--interface/--if: 'any' is no name of an interface"),
+            (("--outsid", "192.0.2.0/24"), "'--outsid': no such word; is --outside meant? (pfplan trace --help)"),
+            (("--if", "any"), "--if/--interface: 'any' is no name of an interface"),
             (("--out", self.capture), f"{self.capture}: it is the input {self.capture}, which no output may replace"),
             (("--told", self.capture), f"{self.capture}: it is the input {self.capture}, which no output may replace"),
         ):
