@@ -9,6 +9,7 @@ from typing import Protocol
 
 from pfplan.common.figures import counted, share_text
 from pfplan.common.inputs import Kind, kind_of
+from pfplan.pf.profiles import Profile
 from pfplan.pf.reading_canonical_text import interfaces_of
 from pfplan.traces.accounts import NEITHER_WAY, Frames
 from pfplan.traces.records import ORDERS, Traces
@@ -102,6 +103,14 @@ def of_directions(items: Sequence[str], begun: Mapping[tuple[str, str], int]) ->
 def of_replay(items: Sequence[str], trace: Path, scenario: Scenario | None) -> list[str]:
     """The doubts of a replay of a trace, or of a play, under rules of these texts."""
     return of_interfaces(items, interfaces_played(scenario) if scenario else interfaces_in(trace))
+
+
+def of_profiles(names: Sequence[str], profiles: Sequence[Profile]) -> list[str]:
+    """The doubt of rulesets that ask for different machines: what differs may come of that."""
+    if len(set(profiles)) < 2:
+        return []
+    said = ", ".join(f"{name} by {it.value}" for name, it in zip(names, profiles, strict=True))
+    return [f"the rulesets ask for different machines, {said}: --profile gives all of them one"]
 
 
 def interfaces_in(trace: Path) -> set[str]:

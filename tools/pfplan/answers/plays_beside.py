@@ -7,7 +7,7 @@ from dataclasses import asdict, dataclass, replace
 from pathlib import Path
 from typing import Any
 
-from pfplan.answers.doubts import interfaces_played, of_interfaces, of_missing
+from pfplan.answers.doubts import interfaces_played, of_interfaces, of_missing, of_profiles
 from pfplan.common.outputs import make_folder
 from pfplan.pf.conversion import Ruleset, write_rules, write_ruleset
 from pfplan.pf.profiles import Profile, profile_of
@@ -176,4 +176,4 @@ def _beside(
         )
     ]
     profiles = [profile_of(it.text.splitlines()) for it in rulesets]
-    return PlaysBeside(scenario, names, sides, left_out, doubts, profiles)
+    return PlaysBeside(scenario, names, sides, left_out, [*of_profiles(names, profiles), *doubts], profiles)

@@ -5,6 +5,7 @@ import contextlib
 from dataclasses import replace
 
 from pfplan.answers.comparisons import Asked, compare, names_of
+from pfplan.answers.doubts import of_profiles
 from pfplan.answers.plays_beside import PlaysBeside, json_of_side, play_apart
 from pfplan.commands.play_words import add_most, add_seeds
 from pfplan.commands.given_rules import rules_given, ruleset_given
@@ -17,6 +18,8 @@ from pfplan.common.inputs import check_readable, check_trace, regular
 from pfplan.common.repository import check_program
 from pfplan.pages import comparison_texts, play_folder, play_pages, play_texts
 from pfplan.pages.differences import differences_beside
+from pfplan.pf.profiles import profile_of
+from pfplan.replays.runs import show_rules
 from pfplan.traces.scenarios.expecting import check_expected
 from pfplan.traces.scenarios.reading import is_scenario, read_scenario
 
@@ -65,8 +68,10 @@ def run(arguments: argparse.Namespace) -> Status:
         wanted = Asked(arguments.users, arguments.held, arguments.top, bool(arguments.page))
         names = names_of(arguments.rules)
         found = compare(names, [it.path for it in given], trace, [it.records for it in given], wanted)
+        profiles = [profile_of(show_rules(it.path)) for it in given]
     found.trace = arguments.trace.name
-    found.doubts[:0] = [f"{name}: {why}" for name, it in zip(names, given) for why in it.doubts()]
+    missing = [f"{name}: {why}" for name, it in zip(names, given) for why in it.doubts()]
+    found.doubts[:0] = [*of_profiles(names, profiles), *missing]
     write_answer(arguments, found, comparison_texts.text_of, comparison_texts.page_of)
     differing = (
         f"{counted(it.differing, 'record')} have another word under {name} than under {names[0]}"

@@ -258,7 +258,7 @@ class Commands(FolderCase):
             ((*self.rules, self.rules[0]), 1, "no header of a trace"),
             ((*self.rules, empty), 1, "an empty file, where a trace is wanted"),
             ((*self.rules, trace, "--user", "10.0.0.0/8"), 2, "is --users meant?"),
-            ((*self.rules, trace, "--profile", "papers"), 2, "--profile: the word is for a scenario"),
+            ((*self.rules, trace, "--profile", "openbsd-7.5"), 2, "'openbsd-7.5' is neither"),
         )
         for words, status, said in rows:
             out = self.folder / "out"

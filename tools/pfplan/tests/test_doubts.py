@@ -5,7 +5,7 @@ import struct
 import unittest
 from pathlib import Path
 
-from pfplan.answers.doubts import of_directions, of_frames, of_interfaces
+from pfplan.answers.doubts import of_directions, of_frames, of_interfaces, of_profiles
 from pfplan.commands.interfaces import interface_of
 from pfplan.commands.words import share_word
 from pfplan.common.errors import Trouble
@@ -13,6 +13,7 @@ from pfplan.common.repository import TOP
 from pfplan.pages.play_folder import names_of
 from pfplan.pf.conversion import RuleOptions, Ruleset, convert_text
 from pfplan.pf.interfaces import Machine, read_ifconfig
+from pfplan.pf.profiles import Profile
 from pfplan.tests.support import FolderCase, pfplan
 from pfplan.traces.accounts import Frames
 from pfplan.traces.capture_names import is_log, names_in
@@ -207,6 +208,11 @@ class Reasons(unittest.TestCase):
         self.assertEqual(len(of_directions(items, {("out", "80"): 9, ("in", "80"): 3})), 1)
         self.assertEqual(len(of_directions(items, {("in", "54"): 9})), 1)
         self.assertEqual(of_directions(items, {("out", "8080"): 9}), [])
+
+    def test_profiles(self) -> None:
+        self.assertEqual(of_profiles(("a", "b"), (Profile.OWN, Profile.OWN)), [])
+        said = "the rulesets ask for different machines, a by papers, b by openbsd-7.4: --profile gives all of them one"
+        self.assertEqual(of_profiles(("a", "b"), (Profile.OWN, Profile.OPENBSD)), [said])
 
 
 if __name__ == "__main__":
