@@ -19,7 +19,8 @@ from pfplan.tests.support import FolderCase, pfplan
 from pfplan.traces.insertions import Held, asking
 from pfplan.traces.rows import Rows
 
-RULES = """set timeout { tcp.first 3, udp.first 2, interval 1, src.track 4 }
+RULES = """set profile openbsd-7.4
+set timeout { tcp.first 3, udp.first 2, interval 1, src.track 4 }
 table <bad> persist { 203.0.113.9 }
 block in quick from <bad>
 pass in proto tcp to any port 80 keep state (max 9, max-src-conn 2, overload <bad> flush)
