@@ -7,6 +7,7 @@ import os
 import re
 import subprocess
 import sys
+import tempfile
 import threading
 import unittest
 from collections.abc import Sequence
@@ -287,9 +288,12 @@ class General(unittest.TestCase):
 
     def completed(self, *words: str) -> list[str]:
         """What bash completes of the last word."""
-        script = 'eval "$1"; shift; COMP_WORDS=("$@"); COMP_CWORD=$(($# - 1)); _pfplan; echo "${COMPREPLY[*]}"'
-        call = ["bash", "-c", script, "bash", pfplan("--completion", "bash").out, *words]
-        return subprocess.run(call, capture_output=True, text=True, check=True).stdout.split()
+        script = 'source "$1"; shift; COMP_WORDS=("$@"); COMP_CWORD=$(($# - 1)); _pfplan; echo "${COMPREPLY[*]}"'
+        with tempfile.NamedTemporaryFile("w", encoding="utf-8", prefix="pfplan-test-") as file:
+            file.write(pfplan("--completion", "bash").out)
+            file.flush()
+            call = ["bash", "-c", script, "bash", file.name, *words]
+            return subprocess.run(call, capture_output=True, text=True, check=True).stdout.split()
 
     def test_completion(self) -> None:
         self.assertEqual(self.completed("pfplan", "s"), ["scenario", "summary", "size"])
