@@ -69,7 +69,7 @@ def run(arguments: argparse.Namespace) -> int:
     with (
         regular(arguments.trace) as trace,
         regular(arguments.report) as report,
-        rules_given(arguments.rules, options) as rules,
+        rules_given(arguments.rules, options, has_report=True) as rules,
     ):
         check_trace(trace)
         shown = show_rules(rules.path)

@@ -14,6 +14,8 @@ from pfplan.common.errors import Status, Trouble
 from pfplan.common.inputs import check_rules, name_of, regular
 from pfplan.pf.conversion import RuleOptions, Ruleset, convert_named, write_rules
 from pfplan.pf.lexer import printable
+from pfplan.pf.named_files import read_text
+from pfplan.pf.profiles import says_profile
 from pfplan.replays.runs import show_rules
 from pfplan.traces.entries import entries_of_rules
 
@@ -36,22 +38,24 @@ class GivenRules:
 
 
 @contextlib.contextmanager
-def rules_given(path: Path, options: RuleOptions = NO_WORDS) -> Iterator[GivenRules]:
+def rules_given(path: Path, options: RuleOptions = NO_WORDS, *, has_report: bool = False) -> Iterator[GivenRules]:
     """The rules text of a file. One that pfsrc takes stays as it is, unless words of the command line say something of
-    it; of any other one is made, and standard error says what is left out.
+    it, where there is a report of it, or it says whose pf it asks for (`says_profile`). Of any other one is made, as of
+    a pf.conf, and standard error says what is left out.
 
     Trouble as `regular`, and with status 3 where the text is neither a rules text nor a pf.conf.
     """
     with contextlib.ExitStack() as stack:
         kept = stack.enter_context(regular(path))
         check_rules(kept)
-        if options == NO_WORDS and _is_taken(kept):
+        if options == NO_WORDS and (has_report or says_profile(read_text(kept))) and _is_taken(kept):
             yield GivenRules(path, kept, entries_of_rules(kept, path))
             return
         made = convert_named(kept, path, replace(options, by_records=True))
         place = Path(stack.enter_context(tempfile.TemporaryDirectory(prefix="pfplan-")), "rules")
         write_rules(place, made)
-        tell_left_out(path, made)
+        if made.leftovers or made.notes:
+            tell_left_out(path, made)
         try:
             yield GivenRules(path, place, made.records, made)
         except Trouble as trouble:

@@ -99,7 +99,7 @@ def run(arguments: argparse.Namespace) -> int:
             check_trace(trace)
             wanted = replace(wanted, trace=trace)
         if arguments.rules:
-            rules = stack.enter_context(rules_given(arguments.rules, options_of(arguments)))
+            rules = stack.enter_context(rules_given(arguments.rules, options_of(arguments), has_report=True))
             wanted = _with_rules(wanted, rules)
         if arguments.held:
             # this replay goes on beside the counting

@@ -28,11 +28,17 @@ _CANONICAL = re.compile(
     r"set limit \{ states \d+, src-nodes \d+, tables \d+, table-entries \d+ \}\n"
     r"set timeout \{ tcp\.first \d+, [^{}\n]*, adaptive\.start \d+, adaptive\.end \d+ \}\n(set profile )?"
 )
+_LINE = re.compile(r"^\s*set\s+profile\s", re.MULTILINE)
 
 
 def profile_of(shown: Sequence[str]) -> Profile:
     """The profile of a canonical text, as `./pfsrc show` prints it."""
     return Profile.OPENBSD if Profile.OPENBSD.lines()[0] in shown else Profile.OWN
+
+
+def says_profile(text: str) -> bool:
+    """Whether a text says whose pf it asks for: by the line, or since it is a canonical one, with or without it."""
+    return _LINE.search(text) is not None or _CANONICAL.match(text) is not None
 
 
 def is_without_profile(text: str) -> bool:

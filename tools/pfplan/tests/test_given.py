@@ -13,6 +13,7 @@ import unittest
 from collections.abc import Sequence
 from pathlib import Path
 
+from pfplan.commands.given_rules import rules_given
 from pfplan.common.repository import TOP, program
 from pfplan.tests.packets import Logged, ethernet_capture, log_capture
 from pfplan.tests.support import Done, FolderCase, pfplan
@@ -277,6 +278,23 @@ def packed(path: Path, way: str) -> Path:
     made = path.with_name(path.name + ".zst")
     subprocess.run(["zstd", "-q", "-f", str(path), "-o", str(made)], check=True)
     return made
+
+
+class Profiles(FolderCase):
+    """Whose pf a text is answered by, where no word of the command line says it."""
+
+    def lines(self, text: str, *, has_report: bool = False) -> list[str]:
+        """What a command replays of a text."""
+        with rules_given(self.write("rules", text), has_report=has_report) as given:
+            return given.path.read_text("utf-8").splitlines()
+
+    def test_whose_pf(self) -> None:
+        line = "set profile openbsd-7.4"
+        self.assertIn(line, self.lines("pass\n"))
+        self.assertEqual(self.lines("pass\n", has_report=True), ["pass"])
+        self.assertEqual(self.lines(f"pass\n{line}\n"), ["pass", line])
+        shown = subprocess.run([program(), "show", str(self.write("own", "pass\n"))], stdout=subprocess.PIPE, check=True)
+        self.assertNotIn(line, self.lines(shown.stdout.decode("ascii")))
 
 
 class General(unittest.TestCase):
