@@ -293,8 +293,9 @@ class Profiles(FolderCase):
         self.assertIn(line, self.lines("pass\n"))
         self.assertEqual(self.lines("pass\n", has_report=True), ["pass"])
         self.assertEqual(self.lines(f"pass\n{line}\n"), ["pass", line])
-        shown = subprocess.run([program(), "show", str(self.write("own", "pass\n"))], stdout=subprocess.PIPE, check=True)
-        self.assertNotIn(line, self.lines(shown.stdout.decode("ascii")))
+        words = [program(), "show", str(self.write("own", "pass\n"))]
+        shown = subprocess.run(words, stdout=subprocess.PIPE, text=True, check=True).stdout
+        self.assertNotIn(line, self.lines(shown))
 
 
 class General(unittest.TestCase):

@@ -125,7 +125,8 @@ class Layout(FolderCase):
         with tempfile.TemporaryDirectory(prefix="pfplan-test-", ignore_cleanup_errors=True) as home:
             words = [CHROMIUM, "--headless", "--no-sandbox", "--disable-gpu", f"--user-data-dir={home}", "--dump-dom"]
             try:
-                done = subprocess.run([*words, place.as_uri()], capture_output=True, text=True, check=False, timeout=300)
+                called = [*words, place.as_uri()]
+                done = subprocess.run(called, capture_output=True, text=True, check=False, timeout=300)
             except subprocess.TimeoutExpired:
                 self.skipTest("Chromium does not end here, so nobody measures the pages")
         if done.returncode:
