@@ -80,6 +80,13 @@ def drawn_rules(draw: random.Random) -> str:
     return "\n".join(lines) + "\n"
 
 
+def drawn_profile(draw: random.Random) -> str:
+    """The profile of OpenBSD 7.4, mostly with SYN cookies: they go on and off often."""
+    start = draw.randint(1, 100)
+    chosen = draw.choice(["never", "always", "adaptive", f"adaptive (start {start}%, end {draw.randrange(start)}%)"])
+    return f"set profile openbsd-7.4\nset syncookies {chosen}\n"
+
+
 def drawn_step(draw: random.Random) -> int:
     """How many seconds pass: mostly none or few, sometimes many."""
     kind = draw.random()

@@ -18,6 +18,11 @@ class Measure:
     system: float
     peak: int
 
+    @property
+    def processor(self) -> float:
+        """All processor seconds. The system knows their sum exactly, and how they divide only from samples."""
+        return self.user + self.system
+
 
 def held_most(process: int) -> int:
     """The most memory that a process has held so far, in KiB; 0 once it has ended."""

@@ -10,8 +10,9 @@ HEADER = [b"time", b"dir", b"if", b"proto", b"src", b"sport", b"dst", b"dport", 
 TOKEN_KINDS = {"Syntax", "Unsupported", "Number", "Duplicate"}
 RULE_KINDS = {
     "GlobalConn", "GlobalRetention", "OverloadAlone", "AdaptivePair", "PortWithoutProto", "StateOnBlock", "TooDeep", "TooManyRules", "ConstOverload",
+    "NeedsProfile", "CookiePair",
 }
-TEXT_KINDS = {"AdaptivePair", "TooManyTables", "TooManyEntries"}
+TEXT_KINDS = {"AdaptivePair", "TooManyTables", "NeedsProfile", "TooManyEntries"}
 # What an administrator does, and the columns that say with what; the others are empty.
 COMMANDS = {b"expire": (3, 6), b"add": (3, 5), b"delete": (3, 5), b"held": ()}
 

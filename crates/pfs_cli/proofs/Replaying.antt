@@ -1,7 +1,7 @@
 -- From the records of a trace to a replay, and what is kept of a rules text.
 use borrow.Author.Tests.{clash}
 use Rattle.std.proofs.Common.{◌≡◌, ◌≢◌, ◌≤◌, ◌<◌, ◌∙◌, ℕ, List, [], length, Option, Some, None, Bool, true, false, refl, sym, ap, subst, arith, inl, inr}
-use Rattle.std.specs.Prelude.{Ok, Err, nat_lt}
+use Rattle.std.specs.Prelude.{Result, Ok, Err, nat_lt}
 use Rattle.std.specs.Fmt.{option_append}
 use Rattle.std.specs.Io.KnownBytes.{Consumes}
 use Rattle.std.proofs.lemmas.Bool.Decides.{nat_tests}
@@ -28,6 +28,11 @@ use Rattle.pfs_cli.specs.Halting.{IsHalt}
 use Rattle.pfs_cli.specs.declared.joined.Halt.TheVariants as halt
 use Rattle.pfs_cli.specs.Refusing.{RefusesRules, RefusesText, IsFeedFault}
 use Rattle.pfs_cli.specs.Replays.{Replays}
+use Rattle.pfs_cli.specs.Refusing.{AnswersRun}
+use Rattle.pfs_cli.specs.Tallies.{IsTallyOf, IsTallyOfReplay, LeavesOfReplay, LeavesOfRun, MayHaveNone, tally_of}
+use Rattle.pfs_cli.specs.declared.records.Stop.{Stop}
+use Rattle.pfs_cli.specs.declared.tallies.Tally.{Tally}
+use Rattle.pfs_engine_machine.specs.declared.events.Event.{Event}
 
 -- a faulty trace leaves its report
 pub run-fault : (conf : Conf) (rs ts t : List ℕ) (f : TraceFault) → Reads rs conf → Tells conf (trace_of conf ts) t (Err (stop.Fault f)) → Replays rs ts t (Err (replay_fault f))
@@ -149,3 +154,72 @@ told-refused text e f h is = rw is at h
 pub lent-gives : (xs bs : List ℕ) (before after behind given : Option (List ℕ)) → before ≡ Some xs → Consumes before after bs → behind ≡ after → given ≡ option_append (Some bs) behind → given ≡ Some xs
 lent-gives xs bs before None behind given is read same g = absurd (rw is at read)
 lent-gives xs bs before (Some ys) behind given is read same g = rw same at g ∙ ap Some (sym (rw is at read))
+
+-- ---- its tally
+
+-- a replay of a run that leaves such events, by the fault that is reported
+fault-leaves : (f : TraceFault) (others : List Event) → others ≡ [] → LeavesOfReplay (Err (replay_fault f)) others
+fault-leaves (trace.Columns row) others none = none
+fault-leaves (trace.Field row column) others none = none
+fault-leaves (trace.TimeFell row) others none = none
+fault-leaves (trace.Table row) others none = none
+fault-leaves trace.TooManyRows others none = none
+
+feed-leaves : (f : ReplayFault) (others : List Event) → IsFeedFault f → LeavesOfReplay (Err f) others
+feed-leaves f others kind = elim kind [
+  | inl e ↦ rw e tt
+  | inr m ↦ elim m [ inl e ↦ rw e tt | inr e ↦ rw e tt ]
+]
+
+run-leaves : (outcome : Result Unit Stop) (result : Result Unit ReplayFault) (others : List Event) → AnswersRun outcome result → LeavesOfRun outcome others → LeavesOfReplay result others
+run-leaves (Ok u) (Ok v) others answers left = left
+run-leaves (Ok u) (Err f) others answers left = rw answers tt
+run-leaves (Err s) (Ok v) others answers left = absurd answers
+run-leaves (Err (stop.Fault f)) (Err g) others answers left = rw answers (fault-leaves f others left)
+run-leaves (Err stop.Source) (Err g) others answers left = feed-leaves g others answers
+run-leaves (Err stop.Memory) (Err g) others answers left = feed-leaves g others answers
+run-leaves (Err stop.Write) (Err g) others answers left = rw answers tt
+
+-- the tally of a run is that of its replay
+pub run-tally : (conf : Conf) (rs ts t : List ℕ) (outcome : Result Unit Stop) (result : Result Unit ReplayFault) (tally : Tally) → Reads rs conf → AnswersRun outcome result
+    → IsTallyOf true conf (trace_of conf ts) t (LeavesOfRun outcome) tally → IsTallyOfReplay rs ts t result tally
+run-tally conf rs ts t outcome result tally reads answers is = inr (
+  conf,
+  reads,
+  record {
+    taken = is.taken;
+    others = is.others;
+    works = is.works;
+    all = is.all;
+    left = run-leaves outcome result is.others answers is.left;
+    written = is.written;
+    each = is.each;
+    told = is.told;
+  },
+)
+
+-- a feed that gives no more is not tallied
+pub cut-tally : (rs ts : List ℕ) (f : ReplayFault) (tally : Tally) → IsFeedFault f → tally ≡ tally_of [] → IsTallyOfReplay rs ts [] (Err f) tally
+cut-tally rs ts f tally kind none = inl (may, refl, none)
+  where
+    may : MayHaveNone (Err f)
+    may = elim kind [
+      | inl e ↦ rw e tt
+      | inr m ↦ elim m [ inl e ↦ rw e tt | inr e ↦ rw e tt ]
+    ]
+
+refused-none : (rs : List ℕ) (f : ReplayFault) → RefusesText rs f → MayHaveNone (Err f)
+refused-none rs (fault.Rules f) told = tt
+refused-none rs (fault.Columns row) told = absurd told
+refused-none rs (fault.Field row column) told = absurd told
+refused-none rs (fault.TimeFell row) told = absurd told
+refused-none rs (fault.Table row) told = absurd told
+refused-none rs fault.TooManyRows told = absurd told
+refused-none rs fault.Read told = tt
+refused-none rs fault.Write told = absurd told
+refused-none rs fault.Memory told = tt
+refused-none rs fault.Endless told = tt
+
+-- nor are rules that give no configuration
+pub refused-tally : (rs ts : List ℕ) (f : ReplayFault) (tally : Tally) → RefusesText rs f → tally ≡ tally_of [] → IsTallyOfReplay rs ts [] (Err f) tally
+refused-tally rs ts f tally told none = inl (refused-none rs f told, refl, none)

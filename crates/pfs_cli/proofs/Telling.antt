@@ -1,6 +1,6 @@
 -- What holds between two records of a run, and how a run ends.
 use borrow.Author.Tests.{clash}
-use Rattle.std.proofs.Common.{◌≡◌, ◌≤◌, ◌<◌, ◌+◌, ◌++◌, ◌∙◌, ℕ, List, [], ◌∷◌, length, take, drop, Option, Some, None, true, false, refl, sym, ap, arith, subst, append_assoc, length-append, inl, inr}
+use Rattle.std.proofs.Common.{◌≡◌, ◌≤◌, ◌<◌, ◌+◌, ◌++◌, ◌∙◌, ℕ, List, [], ◌∷◌, length, take, drop, Option, Some, None, Bool, true, false, refl, sym, ap, arith, subst, append_assoc, length-append, inl, inr}
 use Rattle.std.specs.Prelude.{◌⊎◌, Result, Ok, Err, nat_lt, option_map}
 use Rattle.std.proofs.lemmas.List.{append-nil, take-append-drop}
 use Rattle.std.proofs.Math.Seq.{take-append_seam}
@@ -32,6 +32,10 @@ use Rattle.pfs_trace.specs.Traces.{Fields, Trace, events_from, events_of, trace_
 use Rattle.pfs_trace.specs.Reading.{records_left, records_of}
 use Rattle.pfs_cli_formats.specs.Reports.{lines_from, lines_of, end_line_of, report, report_of, AreFirstLines, BeginsReport}
 use Rattle.pfs_cli.specs.Headers.{ReadsHeader}
+use Rattle.pfs_cli.specs.Tallies.{LeavesOfRun, tally_of}
+use Rattle.pfs_cli.specs.Tallying.{TalliesEvent}
+use Rattle.pfs_cli.specs.declared.tallies.Tally.{Tally}
+use Rattle.pfs_cli.proofs.Tallied.{TalliedSoFar, tallied-more, tallied-none}
 use Rattle.pfs_cli.specs.Turns.{Tells, TellsRows, WantsMemory, WritesLine, TakesEvent, TakesRecord}
 use Rattle.pfs_trace.proofs.Rest.{records_left-more, records_left-end}
 use Rattle.pfs_cli_formats.proofs.Runs.{machine_after-more, lines_of-more, lines_of-none, outcomes-front, lines_from-front}
@@ -120,42 +124,51 @@ pub record ToldSoFar {S : Type 0} (rem : S → Option (List ℕ)) (conf : Conf) 
   pub holds : m ≡ machine_after conf (start conf) seen
   pub split : trace ≡ behind seen (events_from conf rows m.last (records_left default_config rdr.state left))
 
-pub so_far-start : {S : Type 0} (rem : S → Option (List ℕ)) (conf : Conf) (before : Option (List ℕ)) (rdr : Reader S) (xs : List ℕ) → source_of rem rdr ≡ Some xs
-    → ToldSoFar rem conf (events_from conf 0 None (records_left default_config rdr.state xs)) before before 0 (start conf) rdr
+-- and its tally
+abbrev pub SoFar : {S : Type 0} → Bool → (S → Option (List ℕ)) → Conf → Trace → Option (List ℕ) → Option (List ℕ) → ℕ → Machine → Reader S → Tally → Type 0
+SoFar counts rem conf trace before now rows m rdr tally = (h : ToldSoFar rem conf trace before now rows m rdr) × TalliedSoFar counts conf h.seen tally
+
+pub so_far-start : {S : Type 0} (counts : Bool) (rem : S → Option (List ℕ)) (conf : Conf) (before : Option (List ℕ)) (rdr : Reader S) (xs : List ℕ) (tally : Tally) → source_of rem rdr ≡ Some xs → tally ≡ tally_of []
+    → SoFar counts rem conf (events_from conf 0 None (records_left default_config rdr.state xs)) before before 0 (start conf) rdr tally
 unfolding machine_after
-so_far-start rem conf before rdr xs source = record {
-  seen = [];
-  left = xs;
-  source = source;
-  appended = rw (lines_of-none conf) (Appends-nothing before);
-  count = refl;
-  holds = refl;
-  split = refl;
-}
+so_far-start counts rem conf before rdr xs tally source none = (
+  record {
+    seen = [];
+    left = xs;
+    source = source;
+    appended = rw (lines_of-none conf) (Appends-nothing before);
+    count = refl;
+    holds = refl;
+    split = refl;
+  },
+  tallied-none counts conf tally none,
+)
 
 -- the text of events and a line more
-lines-more : (conf : Conf) (seen : List Event) (rows : ℕ) (m : Machine) (e : Event) → length seen ≡ rows → m ≡ machine_after conf (start conf) seen
+pub lines-more : (conf : Conf) (seen : List Event) (rows : ℕ) (m : Machine) (e : Event) → length seen ≡ rows → m ≡ machine_after conf (start conf) seen
     → lines_of conf (seen ++ e ∷ []) ≡ lines_of conf seen ++ row_text (rows + 1) (step conf m e).0
 lines-more conf seen rows m e n h = lines_of-more conf seen e ∙ rw (n, ← h) refl
 
-pub so_far-more : {S : Type 0} (rem : S → Option (List ℕ)) (conf : Conf) (trace : Trace) (before now after : Option (List ℕ)) (rows : ℕ) (m v : Machine) (a b : Reader S) (f : Fields) (e : Event) (t : List ℕ)
-    → ToldSoFar rem conf trace before now rows m a → a.config ≡ default_config → rows < run_limit → ReadRecord rem a b true f
-    → event_at conf (rows + 1) m.last f ≡ Ok e → Appends now after t → TakesEvent conf (rows + 1) m e t (Ok tt) v
-    → ToldSoFar rem conf trace before after (rows + 1) v b
-so_far-more rem conf trace before now after rows m v a b f e t h config few r judged grown (text, held) =
+pub so_far-more : {S : Type 0} (counts : Bool) (rem : S → Option (List ℕ)) (conf : Conf) (trace : Trace) (before now after : Option (List ℕ)) (rows : ℕ) (m v : Machine) (a b : Reader S) (f : Fields) (e : Event) (t : List ℕ)
+    (was tally : Tally) → SoFar counts rem conf trace before now rows m a was → a.config ≡ default_config → rows < run_limit → ReadRecord rem a b true f
+    → event_at conf (rows + 1) m.last f ≡ Ok e → Appends now after t → TakesEvent conf (rows + 1) m e t (Ok tt) v → TalliesEvent counts conf m e (Ok tt) was tally
+    → SoFar counts rem conf trace before after (rows + 1) v b tally
+so_far-more counts rem conf trace before now after rows m v a b f e t was tally (h, s) config few r judged grown (text, held) (w, is, added) =
     let (z, at_z, next) = read-more rem a b f h.left config h.source r in
-    let new : v ≡ (step conf m e).1 = held refl in
-    record {
-      seen = h.seen ++ e ∷ [];
-      left = z;
-      source = at_z;
-      appended = rw (lines-more conf h.seen rows m e h.count h.holds, ← text) (Appends-more before now after (lines_of conf h.seen) t h.appended grown);
-      count = simp length-append (omega (arith, h.count));
-      holds = new ∙ (ap (λ (u : Machine). (step conf u e).1) h.holds ∙ sym (machine_after-more conf (start conf) h.seen e));
-      split = h.split ∙ rw (next, events_from-more conf rows m.last f (records_left default_config b.state z) e few judged, new, last-step conf m e)
-          (ap (λ (es : List Event). (es, (events_from conf (rows + 1) (Some e.time) (records_left default_config b.state z)).1))
-          (sym (append_assoc h.seen (e ∷ []) (events_from conf (rows + 1) (Some e.time) (records_left default_config b.state z)).0)));
-    }
+    let new : v ≡ (step conf m e).1 = held refl in (
+      record {
+        seen = h.seen ++ e ∷ [];
+        left = z;
+        source = at_z;
+        appended = rw (lines-more conf h.seen rows m e h.count h.holds, ← text) (Appends-more before now after (lines_of conf h.seen) t h.appended grown);
+        count = simp length-append (omega (arith, h.count));
+        holds = new ∙ (ap (λ (u : Machine). (step conf u e).1) h.holds ∙ sym (machine_after-more conf (start conf) h.seen e));
+        split = h.split ∙ rw (next, events_from-more conf rows m.last f (records_left default_config b.state z) e few judged, new, last-step conf m e)
+            (ap (λ (es : List Event). (es, (events_from conf (rows + 1) (Some e.time) (records_left default_config b.state z)).1))
+            (sym (append_assoc h.seen (e ∷ []) (events_from conf (rows + 1) (Some e.time) (records_left default_config b.state z)).0)));
+      },
+      tallied-more counts conf h.seen m e w was tally s h.holds is added,
+    )
 
 -- how a run may end
 abbrev pub Ends : Conf → Trace → Option (List ℕ) → Option (List ℕ) → Result Unit Stop → Type 0
@@ -188,7 +201,7 @@ pub ends-source : {S : Type 0} (rem : S → Option (List ℕ)) (conf : Conf) (tr
 ends-source rem conf trace before now rows m a h = (lines_of conf h.seen, h.appended, first-lines rem conf trace before now rows m a h)
 
 -- the report, where no record is left
-told-all : {S : Type 0} (rem : S → Option (List ℕ)) (conf : Conf) (trace : Trace) (before now : Option (List ℕ)) (rows : ℕ) (m : Machine) (a b : Reader S) (f : Fields) (h : ToldSoFar rem conf trace before now rows m a)
+pub told-all : {S : Type 0} (rem : S → Option (List ℕ)) (conf : Conf) (trace : Trace) (before now : Option (List ℕ)) (rows : ℕ) (m : Machine) (a b : Reader S) (f : Fields) (h : ToldSoFar rem conf trace before now rows m a)
     → a.config ≡ default_config → ReadRecord rem a b false f → trace ≡ (h.seen, None)
 told-all rem conf trace before now rows m a b f h config r =
     h.split ∙ rw (read-end rem a b f h.left config h.source r, events_from-end conf rows m.last) (ap (λ (es : List Event). (es, None)) (append-nil h.seen))
@@ -231,12 +244,17 @@ ends-end rem conf trace before now after rows m a b f (Err stop.Write) t h confi
       (drop k line, rw all (cut-end (lines_of conf h.seen) t line k cut_line)),
     )
 
+-- the events, where there is one record more than there may be
+pub limit-all : {S : Type 0} (rem : S → Option (List ℕ)) (conf : Conf) (trace : Trace) (before now : Option (List ℕ)) (rows : ℕ) (m : Machine) (a b : Reader S) (f : Fields) (h : ToldSoFar rem conf trace before now rows m a)
+    → a.config ≡ default_config → ReadRecord rem a b true f → run_limit ≤ rows → trace ≡ (h.seen, Some fault.TooManyRows)
+limit-all rem conf trace before now rows m a b f h config r many =
+    let (z, at_z, next) = read-more rem a b f h.left config h.source r in
+    h.split ∙ rw (next, events_from-limit conf rows m.last f (records_left default_config b.state z) many) (ap (λ (es : List Event). (es, Some fault.TooManyRows)) (append-nil h.seen))
+
 pub ends-limit : {S : Type 0} (rem : S → Option (List ℕ)) (conf : Conf) (trace : Trace) (before now : Option (List ℕ)) (rows : ℕ) (m : Machine) (a b : Reader S) (f : Fields) → ToldSoFar rem conf trace before now rows m a
     → a.config ≡ default_config → ReadRecord rem a b true f → run_limit ≤ rows → EndsRows conf trace before now (Err (stop.Fault fault.TooManyRows))
 ends-limit rem conf trace before now rows m a b f h config r many =
-    let (z, at_z, next) = read-more rem a b f h.left config h.source r in
-    let all : trace ≡ (h.seen, Some fault.TooManyRows) =
-    h.split ∙ rw (next, events_from-limit conf rows m.last f (records_left default_config b.state z) many) (ap (λ (es : List Event). (es, Some fault.TooManyRows)) (append-nil h.seen)) in
+    let all = limit-all rem conf trace before now rows m a b f h config r many in
     (lines_of conf h.seen, h.appended, (ap (λ (q : Trace). q.1) all, rw all refl))
 
 -- the lines of the first events begin those of all
@@ -247,7 +265,7 @@ lines-front conf es fs =
     (more, ap (lines_from 1) e ∙ begins)
 
 -- and the report
-report-front : (conf : Conf) (es fs : List Event) (o : Option TraceFault) → (rest : List ℕ) × (report conf (es ++ fs, o) ≡ lines_of conf es ++ rest)
+pub report-front : (conf : Conf) (es fs : List Event) (o : Option TraceFault) → (rest : List ℕ) × (report conf (es ++ fs, o) ≡ lines_of conf es ++ rest)
 report-front conf es fs None =
     let (rest, e) = lines-front conf es fs in
     (rest ++ end_line conf (es ++ fs), ap (λ (t : List ℕ). t ++ end_line conf (es ++ fs)) e ∙ append_assoc (lines_of conf es) rest (end_line conf (es ++ fs)))
@@ -271,13 +289,13 @@ report-begins conf seen e more =
     let P : List Event → Type 0 = λ es. (rest : List ℕ) × (report conf (es, more.1) ≡ lines_of conf (seen ++ e ∷ []) ++ rest) in
     subst P q (report-front conf (seen ++ e ∷ []) more.0 more.1)
 
-cut-line : (text t line more : List ℕ) (k : ℕ) → t ≡ take k line → (text ++ line) ++ more ≡ (text ++ t) ++ (drop k line ++ more)
+pub cut-line : (text t line more : List ℕ) (k : ℕ) → t ≡ take k line → (text ++ line) ++ more ≡ (text ++ t) ++ (drop k line ++ more)
 cut-line text t line more k e =
     let m : take k line ++ drop k line ≡ line = take-append-drop k line in
     ap (λ (l : List ℕ). (text ++ l) ++ more) (sym m) ∙ rw (← e) (simp append_assoc)
 
 -- a trace that has an event after these
-one-more : {S : Type 0} (rem : S → Option (List ℕ)) (conf : Conf) (trace : Trace) (before now : Option (List ℕ)) (rows : ℕ) (m : Machine) (a b : Reader S) (f : Fields) (e : Event) (h : ToldSoFar rem conf trace before now rows m a)
+pub one-more : {S : Type 0} (rem : S → Option (List ℕ)) (conf : Conf) (trace : Trace) (before now : Option (List ℕ)) (rows : ℕ) (m : Machine) (a b : Reader S) (f : Fields) (e : Event) (h : ToldSoFar rem conf trace before now rows m a)
     → a.config ≡ default_config → ReadRecord rem a b true f → rows < run_limit → event_at conf (rows + 1) m.last f ≡ Ok e
     → (more : Trace) × (trace ≡ (h.seen ++ (e ∷ more.0), more.1))
 one-more rem conf trace before now rows m a b f e h config r few judged =
@@ -289,14 +307,19 @@ one-more rem conf trace before now rows m a b f e h config r few judged =
 more-events : (seen : List Event) (e : Event) (trace more : Trace) → trace ≡ (seen ++ (e ∷ more.0), more.1) → length seen < length trace.0
 more-events seen e trace more all = let same : length trace.0 ≡ length (seen ++ (e ∷ more.0)) = ap (λ (q : Trace). length q.0) all in rw same (simp length-append (omega arith))
 
+-- the events, where the next record is faulty
+pub fault-all : {S : Type 0} (rem : S → Option (List ℕ)) (conf : Conf) (trace : Trace) (before now : Option (List ℕ)) (rows : ℕ) (m : Machine) (a b : Reader S) (f : Fields) (u : TraceFault) (h : ToldSoFar rem conf trace before now rows m a)
+    → a.config ≡ default_config → ReadRecord rem a b true f → rows < run_limit → event_at conf (rows + 1) m.last f ≡ Err u → trace ≡ (h.seen, Some u)
+fault-all rem conf trace before now rows m a b f u h config r few judged =
+    let (z, at_z, next) = read-more rem a b f h.left config h.source r in
+    h.split ∙ rw (next, events_from-fault conf rows m.last f (records_left default_config b.state z) u few judged) (ap (λ (es : List Event). (es, Some u)) (append-nil h.seen))
+
 -- the turn of a record that does not come to its end
 pub ends-record : {S : Type 0} (rem : S → Option (List ℕ)) (conf : Conf) (trace : Trace) (before now after : Option (List ℕ)) (rows : ℕ) (m v : Machine) (a b : Reader S) (f : Fields) (stopped : Stop) (t : List ℕ)
     → ToldSoFar rem conf trace before now rows m a → a.config ≡ default_config → ReadRecord rem a b true f → rows < run_limit
     → Appends now after t → TakesRecord conf (rows + 1) m f t (Err stopped) v → EndsRows conf trace before after (Err stopped)
 ends-record rem conf trace before now after rows m v a b f (stop.Fault u) t h config r few grown how =
-    let (z, at_z, next) = read-more rem a b f h.left config h.source r in
-    let all : trace ≡ (h.seen, Some u) =
-    h.split ∙ rw (next, events_from-fault conf rows m.last f (records_left default_config b.state z) u few how.0) (ap (λ (es : List Event). (es, Some u)) (append-nil h.seen)) in
+    let all = fault-all rem conf trace before now rows m a b f u h config r few how.0 in
     (lines_of conf h.seen, rw (how.1, append-nil) at (Appends-more before now after (lines_of conf h.seen) t h.appended grown), (ap (λ (q : Trace). q.1) all, rw all refl))
 ends-record rem conf trace before now after rows m v a b f stop.Source t h config r few grown (e, judged, (how, held)) = absurd how
 ends-record rem conf trace before now after rows m v a b f stop.Memory t h config r few grown (e, judged, (how, held)) =
@@ -318,7 +341,7 @@ ends-record rem conf trace before now after rows m v a b f stop.Write t h config
     )
 
 -- the loop's invariant
-pub record Running {S W : Type 0} (rem : S → Option (List ℕ)) (begun : Reader S) (first : View) (before now : Option (List ℕ)) (held out : SinkView W) (rows : ℕ) (v : View) (rdr : Reader S) : Type 0 where
+pub record Running {S W : Type 0} (counts : Bool) (rem : S → Option (List ℕ)) (begun : Reader S) (first : View) (before now : Option (List ℕ)) (held out : SinkView W) (rows : ℕ) (v : View) (rdr : Reader S) (tally : Tally) : Type 0 where
   pub plain : rdr.trim ≡ trim.None
   pub ready : Ready rdr
   pub config : rdr.config ≡ default_config
@@ -329,7 +352,7 @@ pub record Running {S W : Type 0} (rem : S → Option (List ℕ)) (begun : Reade
   pub within : rows ≤ run_limit
   pub taken : v.taken ≤ rows
   pub so_far : (xs : List ℕ) → source_of rem begun ≡ Some xs
-      → ToldSoFar rem first.config (events_from first.config 0 None (records_left default_config begun.state xs)) before now rows v.machine rdr
+      → SoFar counts rem first.config (events_from first.config 0 None (records_left default_config begun.state xs)) before now rows v.machine rdr tally
 
 -- a turn under rules that are these
 pub TakesRecord-rules : (conf d : Conf) (row : ℕ) (m : Machine) (f : Fields) (t : List ℕ) (r : Result Unit Stop) (v : Machine) → d ≡ conf → TakesRecord d row m f t r v → TakesRecord conf row m f t r v
@@ -356,18 +379,21 @@ trace-rest rem a b f xs config source r header =
     let (z, at_z, next) = read-more rem a b f xs config source r in
     (z, at_z, λ conf. rw next (events_of-header conf f (records_left default_config b.state z) header))
 
--- of a trace whose header is not as it must be nothing is written
-no-header : (conf : Conf) (trace : Trace) → trace ≡ ([], Some (fault.Columns 0)) → Tells conf trace [] (Err (stop.Fault (fault.Columns 0)))
-no-header conf trace all = (ap (λ (q : Trace). q.1) all, rw (all, lines_of-none conf) refl)
+-- of a trace whose header is not as it must be nothing is written or taken
+abbrev pub HasNoRows : Conf → Trace → Result Unit Stop → Type 0
+HasNoRows conf trace result = Tells conf trace [] result × LeavesOfRun result trace.0
+
+no-header : (conf : Conf) (trace : Trace) → trace ≡ ([], Some (fault.Columns 0)) → HasNoRows conf trace (Err (stop.Fault (fault.Columns 0)))
+no-header conf trace all = ((ap (λ (q : Trace). q.1) all, rw (all, lines_of-none conf) refl), ap (λ (q : Trace). q.0) all)
 
 pub told-other : {S : Type 0} (rem : S → Option (List ℕ)) (conf : Conf) (a b : Reader S) (f : Fields) (xs : List ℕ) → a.config ≡ default_config → source_of rem a ≡ Some xs → ReadRecord rem a b true f
-    → is_header f ≡ false → Tells conf (events_of conf (records_left default_config a.state xs)) [] (Err (stop.Fault (fault.Columns 0)))
+    → is_header f ≡ false → HasNoRows conf (events_of conf (records_left default_config a.state xs)) (Err (stop.Fault (fault.Columns 0)))
 told-other rem conf a b f xs config source r header =
     let (z, at_z, next) = read-more rem a b f xs config source r in
     no-header conf _ (rw next (events_of-other conf f (records_left default_config b.state z) header))
 
 pub told-empty : {S : Type 0} (rem : S → Option (List ℕ)) (conf : Conf) (a b : Reader S) (f : Fields) (xs : List ℕ) → a.config ≡ default_config → source_of rem a ≡ Some xs → ReadRecord rem a b false f
-    → Tells conf (events_of conf (records_left default_config a.state xs)) [] (Err (stop.Fault (fault.Columns 0)))
+    → HasNoRows conf (events_of conf (records_left default_config a.state xs)) (Err (stop.Fault (fault.Columns 0)))
 told-empty rem conf a b f xs config source r = no-header conf _ (rw (read-end rem a b f xs config source r) (events_of-none conf))
 
 -- a run under a configuration that is this one

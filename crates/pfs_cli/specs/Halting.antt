@@ -1,5 +1,5 @@
 -- How a joined text ends before its trace, and what is written of its trace. (own)
-use Rattle.std.specs.Prelude.{ℕ, List, Result}
+use Rattle.std.specs.Prelude.{ℕ, List, Result, true}
 use Rattle.pfs_conf_values.specs.Configs.{Conf}
 use Rattle.pfs_conf.specs.Reads.{Reads}
 use Rattle.pfs_trace.specs.Traces.{trace_of}
@@ -8,11 +8,18 @@ use Rattle.pfs_cli.specs.declared.joined.Halt.{Halt}
 use Rattle.pfs_cli.specs.declared.joined.Halt.TheVariants as halt
 use Rattle.pfs_cli.specs.declared.records.Stop.{Stop}
 use Rattle.pfs_cli.specs.Refusing.{RefusesRules}
+use Rattle.pfs_cli.specs.Tallies.{IsTallyOf, LeavesOfRun}
 use Rattle.pfs_cli.specs.Turns.{Tells}
+use Rattle.pfs_cli.specs.declared.tallies.Tally.{Tally}
 
 -- what is written of the trace of these two parts, whose rules are accepted
 abbrev pub TellsWithin : List ℕ × List ℕ → List ℕ → Result Unit Stop → Type 0
 TellsWithin parts text outcome = (conf : Conf) × Reads parts.0 conf × Tells conf (trace_of conf parts.1) text outcome
+
+-- and its tally
+abbrev pub TalliesWithin : List ℕ × List ℕ → List ℕ → Result Unit Stop → Tally → Type 0
+TalliesWithin parts text outcome tally =
+    (conf : Conf) × Reads parts.0 conf × IsTallyOf true conf (trace_of conf parts.1) text (LeavesOfRun outcome) tally
 
 -- why the rules of these two parts gave no configuration
 abbrev pub RefusesWithin : List ℕ × List ℕ → Halt → Type 0

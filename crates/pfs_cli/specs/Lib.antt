@@ -6,4 +6,6 @@ pub mod Performing
 pub mod Refusing
 pub mod Replays
 pub mod Rules
+pub mod Tallies
+pub mod Tallying
 pub mod Turns

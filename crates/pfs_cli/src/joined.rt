@@ -1,6 +1,6 @@
 //! A replay of rules and a trace that are in one text.
 
-ghost use Rattle.std.specs.Prelude.{◌≡◌, ◌⊎◌, Some, Ok, Err, ◌<◌, ℕ, List, IfOk, IfErr, OnErr};
+ghost use Rattle.std.specs.Prelude.{◌≡◌, ◌⊎◌, Some, Ok, Err, ◌<◌, ℕ, List, [], IfOk, IfErr, OnErr};
 ghost use Rattle.std.specs.Io.KnownBytes.{Appends};
 ghost use Rattle.pfs_streams.specs.Feeds.{IsSound, IsSpent, bound_of, unread, reads_of, read_failures};
 ghost use Rattle.pfs_streams.specs.Sinks.{FlushedOnce, NotFlushed, OwesNoFlush, bytes_held, write_failures};
@@ -9,7 +9,8 @@ ghost use Rattle.pfs_cli.specs.Rules.{AreRefused};
 ghost use Rattle.pfs_cli.specs.Replays.{Replays, ShowsLines, WaitsForRead};
 ghost use Rattle.pfs_cli.specs.Refusing.{RefusesRules};
 ghost use Rattle.pfs_cli.specs.Turns.{PassedOn};
-ghost use Rattle.pfs_cli.specs.Halting.{IsHalt, RefusesWithin, TellsWithin};
+ghost use Rattle.pfs_cli.specs.Halting.{IsHalt, RefusesWithin, TalliesWithin, TellsWithin};
+ghost use Rattle.pfs_cli.specs.Tallies.{IsTallyOfReplay, tally_of};
 ghost use Rattle.pfs_streams.specs.Joined.{split_joined};
 
 use crate::endings::{feed_fault, finish, rules_fault};
@@ -18,6 +19,7 @@ use crate::records::Stop;
 use crate::replays::FIRST_READ;
 use crate::reports::write_report;
 use crate::rules::load_config;
+use crate::tallies::Tally;
 use pfs_streams::{Feed, RulesStop, Sink, read_joined};
 use std::alloc::Global;
 use std::io::{BufReader, Read, Write};
@@ -30,15 +32,20 @@ enum Halt {
     Fault(ReplayFault),
 }
 
-/// Reads the rules of `source`, and then replays the trace after them.
+/// Reads the rules of `source`, and then replays the trace after them, and tallies its work.
 fn tell_joined<S: Read + Drop, W: Write>(
     alloc: Global,
     source: S,
+    tally: &mut Tally,
     out: &mut Sink<W>,
 ) -> Result<Result<(), Stop>, Halt>
-    requires { OwesNoFlush out.old }
+    requires passed_on { OwesNoFlush out.old }
+    requires none { tally.old ≡ tally_of [] }
     ensures tells { IfOk result (λ outcome. (xs : List ℕ) → S.remaining source ≡ Some xs →
         ((t : List ℕ) × Appends (bytes_held W.contents out.old) (bytes_held W.contents out.new) t × TellsWithin (split_joined xs) t outcome)) }
+    ensures tallies { IfOk result (λ outcome. (xs : List ℕ) → S.remaining source ≡ Some xs →
+        ((t : List ℕ) × Appends (bytes_held W.contents out.old) (bytes_held W.contents out.new) t × TalliesWithin (split_joined xs) t outcome tally.new)) }
+    ensures untallied { OnErr result (tally.new ≡ tally.old) }
     ensures refuses { IfErr result (λ h. (xs : List ℕ) → S.remaining source ≡ Some xs → RefusesWithin (split_joined xs) h) }
     ensures kinds { IfErr result IsHalt }
     ensures unwritten { OnErr result (out.new ≡ out.old) }
@@ -55,7 +62,7 @@ fn tell_joined<S: Read + Drop, W: Write>(
         Err(RulesStop::Source) => return Err(Halt::Source),
     };
     match load_config(alloc, text) {
-        Ok(config) => Ok(write_report(alloc, config, reader, out)),
+        Ok(config) => Ok(write_report(alloc, config, reader, tally, out)),
         Err(fault) => Err(Halt::Fault(fault)),
     }
 }
@@ -68,15 +75,18 @@ fn tell_joined<S: Read + Drop, W: Write>(
 ///
 /// Nothing is written before the text has been read.
 ///
-/// What is written, each fault, and the memory are as `replay` says of the two parts.
+/// What is written, the tally, each fault, and the memory are as `replay` says of the two parts.
 pub fn replay_joined<R: Read, W: Write>(
     alloc: Global,
     input: &mut Feed<R>,
+    tally: &mut Tally,
     out: &mut Sink<W>,
 ) -> Result<(), ReplayFault>
     requires { OwesNoFlush out.old }
     ensures reports { (xs : List ℕ) → unread R.remaining input.old ≡ Some xs →
         ((t : List ℕ) × Appends (bytes_held W.contents out.old) (bytes_held W.contents out.new) t × Replays (split_joined xs).0 (split_joined xs).1 t result) }
+    ensures work { (xs : List ℕ) → unread R.remaining input.old ≡ Some xs →
+        ((t : List ℕ) × Appends (bytes_held W.contents out.old) (bytes_held W.contents out.new) t × IsTallyOfReplay (split_joined xs).0 (split_joined xs).1 t result tally.new) }
     ensures refused { (xs : List ℕ) (f : LoadFault) → unread R.remaining input.old ≡ Some xs → result ≡ Err (ReplayFault.Rules f) → AreRefused (split_joined xs).0 f }
     ensures unwritten { (f : LoadFault) → result ≡ Err (ReplayFault.Rules f) → out.new ≡ out.old }
     ensures input_first { (out.new ≡ out.old) ⊎ (0 < reads_of input.new) }
@@ -89,6 +99,7 @@ pub fn replay_joined<R: Read, W: Write>(
     ensures bound { bound_of input.new ≡ bound_of input.old }
     ensures shows { ShowsLines out.new result }
 {
+    *tally = Tally::none();
     let mut first = [0; FIRST_READ];
     let n = match input.read(&mut first) {
         Ok(n) => n,
@@ -96,7 +107,7 @@ pub fn replay_joined<R: Read, W: Write>(
     };
     let begun = input.reads();
     let mut lent = first[..n].chain(input.lend());
-    let told = tell_joined(alloc, &mut lent, out);
+    let told = tell_joined(alloc, &mut lent, tally, out);
     let back = lent.into_inner().1.give_back(begun);
     input.resume(back);
     match told {

@@ -11,6 +11,7 @@ mod records;
 mod replays;
 mod reports;
 mod rules;
+mod tallies;
 
 pub use checks::{check, print};
 pub use faults::{ReplayFault, status};
@@ -22,3 +23,4 @@ pub use pfs_streams::{Feed, Sink, sink_of};
 pub use records::Stop;
 pub use replays::replay;
 pub use reports::write_report_over;
+pub use tallies::Tally;

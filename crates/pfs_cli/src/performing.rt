@@ -9,12 +9,13 @@ ghost use Rattle.pfs_streams.specs.Kept.{rules_limit};
 ghost use Rattle.pfs_cli.specs.Rules.{AreRefused};
 ghost use Rattle.pfs_cli.specs.Refusing.{HasNoRules, TellsRulesAlone};
 ghost use Rattle.pfs_cli.specs.Replays.{ShowsLines, WaitsForRead};
-ghost use Rattle.pfs_cli.specs.Performing.{OfJoined, OfReplay, OfRulesFile, Performs, ReadsRulesAlone, rules_within};
+ghost use Rattle.pfs_cli.specs.Performing.{OfJoined, OfReplay, OfRulesFile, Performs, ReadsRulesAlone, Tallies, rules_within};
 
 use crate::checks::{check, print};
 use crate::faults::ReplayFault;
 use crate::joined::replay_joined;
 use crate::replays::replay;
+use crate::tallies::Tally;
 use pfs_cli_jobs::Job;
 use pfs_streams::{Feed, Sink};
 use std::alloc::Global;
@@ -23,18 +24,21 @@ use std::io::{Read, Write};
 /// Does a job over the feeds that it needs: `replay_joined` of the rules' feed for `Joined`, and `check`, `print` or
 /// `replay` for the others. A feed that the job does not need is not read. What is written and answered is what that call
 /// writes and answers: of a rules file no more than 1,048,577 bytes are read, and nothing of a replay is written before
-/// its rules are read to their end and its trace has been read.
+/// its rules are read to their end and its trace has been read. The tally is that of the replay, and of no event for the others.
 pub fn perform<R: Read, T: Read, W: Write>(
     alloc: Global,
     job: &Job,
     rules: &mut Feed<R>,
     trace: &mut Feed<T>,
+    tally: &mut Tally,
     out: &mut Sink<W>,
 ) -> Result<(), ReplayFault>
     requires fresh { IsFresh rules.old }
     requires passed_on { OwesNoFlush out.old }
     ensures performs { (rs : List ℕ) (ts : List ℕ) → unread R.remaining rules.old ≡ Some rs → OfReplay job.now (unread T.remaining trace.old ≡ Some ts) →
         ((t : List ℕ) × Appends (bytes_held W.contents out.old) (bytes_held W.contents out.new) t × Performs job.now rs ts t result) }
+    ensures work { (rs : List ℕ) (ts : List ℕ) → unread R.remaining rules.old ≡ Some rs → OfReplay job.now (unread T.remaining trace.old ≡ Some ts) →
+        ((t : List ℕ) × Appends (bytes_held W.contents out.old) (bytes_held W.contents out.new) t × Tallies job.now rs ts t result tally.new) }
     ensures refused { (rs : List ℕ) (f : LoadFault) → unread R.remaining rules.old ≡ Some rs → result ≡ Err (ReplayFault.Rules f) → AreRefused (rules_within job.now rs) f }
     ensures untouched { ReadsRulesAlone job.now (trace.new ≡ trace.old) }
     ensures rules_first { OfReplay job.now ((out.new ≡ out.old) ⊎ ((has_ended rules.new ≡ true) × (read_failures rules.new ≡ 0))) }
@@ -54,10 +58,11 @@ pub fn perform<R: Read, T: Read, W: Write>(
     ensures flushes { FlushedOnce out.old out.new }
     ensures shows { ShowsLines out.new result }
 {
+    *tally = Tally::none();
     match job {
-        Job::Joined => replay_joined(alloc, rules, out),
+        Job::Joined => replay_joined(alloc, rules, tally, out),
         Job::Check(_) => check(alloc, rules, out),
         Job::Show(_) => print(alloc, rules, out),
-        Job::Replay(_, _) => replay(alloc, rules, trace, out),
+        Job::Replay(_, _) => replay(alloc, rules, trace, tally, out),
     }
 }

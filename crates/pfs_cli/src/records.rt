@@ -1,6 +1,6 @@
 //! The records of a trace, and a line for each, written before the next record is read, and flushed before it where the sink is by lines.
 
-ghost use Rattle.std.specs.Prelude.{◌≡◌, ◌≢◌, Some, None, IfErr, IfOk, OnOk, Ok, Err, ◌<◌, ◌≤◌, ◌+◌, ◌^◌, ℕ, List, true, false};
+ghost use Rattle.std.specs.Prelude.{◌≡◌, ◌≢◌, Some, None, IfErr, IfOk, OnOk, Ok, Err, ◌<◌, ◌≤◌, ◌+◌, ◌^◌, ℕ, List, [], true, false};
 ghost use Rattle.std.specs.Io.KnownBytes.{Appends};
 ghost use Rattle.csv.specs.Reading.{Ready, ReadRecord, source_of, reader_trim, reader_config, reader_state, default_config, is_flexible, has_failed};
 ghost use Rattle.csv.specs.declared.reader.Trim.TheVariants as trim;
@@ -13,10 +13,13 @@ ghost use Rattle.pfs_engine_machine.specs.Machine.{start, step};
 ghost use Rattle.pfs_engine_machine.specs.Runs.{MayCome};
 ghost use Rattle.pfs_cli_formats.specs.Reports.{end_line_of};
 ghost use Rattle.pfs_cli.specs.Headers.{ReadsHeader};
+ghost use Rattle.pfs_cli.specs.Tallies.{IsTallyOf, LeavesOfRun, tally_of};
+ghost use Rattle.pfs_cli.specs.Tallying.{TalliesEvent, TalliesRecord};
 ghost use Rattle.pfs_cli.specs.Turns.{PassedOn, Tells, TellsRows, WritesLine, TakesEvent, TakesRecord};
 ghost use Rattle.pfs_trace.specs.Reading.{records_of, records_left};
 ghost use Rattle.pfs_trace.specs.Traces.{events_of, events_from};
 
+use crate::tallies::Tally;
 use csv::{ByteRecord, Reader, ReaderBuilder};
 use pfs_addr_values::RUN_LIMIT;
 use pfs_cli_formats::{EndLine, push_end, push_outcome};
@@ -99,11 +102,12 @@ fn write_end<W: Write>(end: EndLine, room: &mut Vec<u8>, out: &mut Sink<W>) -> R
     }
 }
 
-/// Lets the engine take one event, and writes its line.
+/// Lets the engine take one event, tallies its work, and writes its line.
 fn take_event<H: Store, W: Write>(
     row: u64,
     event: &Event,
     engine: &mut Engine<H>,
+    tally: &mut Tally,
     line: &mut Vec<u8>,
     out: &mut Sink<W>,
 ) -> Result<(), Stop>
@@ -116,11 +120,14 @@ fn take_event<H: Store, W: Write>(
     ensures taken { engine.new.taken ≤ engine.old.taken + 1 }
     ensures takes { (t : List ℕ) × Appends (bytes_held W.contents out.old) (bytes_held W.contents out.new) t
         × TakesEvent engine.old.config row engine.old.machine event.now t result engine.new.machine }
+    ensures tallies { TalliesEvent H.counts engine.old.config engine.old.machine event.now result tally.old tally.new }
     ensures fails { result ≡ Err (Stop.Write) → 0 < failures_of out.new }
     ensures passed_on { PassedOn out.new result }
     ensures flushes { NotFlushed out.old out.new }
 {
-    match engine.step(event) {
+    let answer = engine.step(event);
+    tally.add(&engine.work());
+    match answer {
         Ok(outcome) => write_row(row, &outcome, line, out),
         Err(_) => Err(Stop::Memory),
     }
@@ -131,6 +138,7 @@ fn take_record<H: Store, W: Write>(
     row: u64,
     fields: &ByteRecord,
     engine: &mut Engine<H>,
+    tally: &mut Tally,
     line: &mut Vec<u8>,
     out: &mut Sink<W>,
 ) -> Result<(), Stop>
@@ -140,12 +148,13 @@ fn take_record<H: Store, W: Write>(
     ensures taken { engine.new.taken ≤ engine.old.taken + 1 }
     ensures takes { (t : List ℕ) × Appends (bytes_held W.contents out.old) (bytes_held W.contents out.new) t
         × TakesRecord engine.old.config row engine.old.machine (fields_of fields.now) t result engine.new.machine }
+    ensures tallies { TalliesRecord H.counts engine.old.config row engine.old.machine (fields_of fields.now) result tally.old tally.new }
     ensures fails { result ≡ Err (Stop.Write) → 0 < failures_of out.new }
     ensures passed_on { PassedOn out.new result }
     ensures flushes { NotFlushed out.old out.new }
 {
     match &read_event(row, engine.last(), engine.config(), fields) {
-        Ok(event) => take_event(row, event, engine, line, out),
+        Ok(event) => take_event(row, event, engine, tally, line, out),
         Err(fault) => Err(Stop::Fault(*fault)),
     }
 }
@@ -205,11 +214,12 @@ fn read_header<S: Read, W>(
     }
 }
 
-/// Reads the records after the header, and writes the line of each before it reads the next.
+/// Reads the records after the header, tallies the work of each, and writes its line before it reads the next.
 fn tell_rows<H: Store, S: Read, W: Write>(
     reader: &mut Reader<S>,
     fields: &mut ByteRecord,
     engine: &mut Engine<H>,
+    tally: &mut Tally,
     line: &mut Vec<u8>,
     out: &mut Sink<W>,
 ) -> Result<(), Stop>
@@ -220,9 +230,13 @@ fn tell_rows<H: Store, S: Read, W: Write>(
     requires passed_on { OwesNoFlush out.old }
     requires first { engine.old.machine ≡ start engine.old.config }
     requires taken { engine.old.taken ≡ 0 }
+    requires none { tally.old ≡ tally_of [] }
     ensures tells { (xs : List ℕ) → source_of S.remaining reader.old ≡ Some xs →
         ((t : List ℕ) × Appends (bytes_held W.contents out.old) (bytes_held W.contents out.new) t
         × TellsRows engine.old.config (events_from engine.old.config 0 None (records_left default_config (reader_state reader.old) xs)) t result) }
+    ensures tallies { (xs : List ℕ) → source_of S.remaining reader.old ≡ Some xs →
+        ((t : List ℕ) × Appends (bytes_held W.contents out.old) (bytes_held W.contents out.new) t
+        × IsTallyOf H.counts engine.old.config (events_from engine.old.config 0 None (records_left default_config (reader_state reader.old) xs)) t (LeavesOfRun result) tally.new) }
     ensures fails { result ≡ Err (Stop.Write) → 0 < failures_of out.new }
     ensures passed_on { PassedOn out.new result }
     ensures flushes { NotFlushed out.old out.new }
@@ -237,7 +251,7 @@ fn tell_rows<H: Store, S: Read, W: Write>(
         if rows == RUN_LIMIT {
             return Err(Stop::Fault(TraceFault::TooManyRows));
         }
-        match take_record(rows + 1, fields, engine, line, out) {
+        match take_record(rows + 1, fields, engine, tally, line, out) {
             Ok(()) => {}
             Err(stop) => return Err(stop),
         }
@@ -245,20 +259,25 @@ fn tell_rows<H: Store, S: Read, W: Write>(
     unreachable!()
 }
 
-/// Reads the trace of `source`, and writes the line of each record before it reads the next, and
+/// Reads the trace of `source`, tallies the work of each record, and writes its line before it reads the next, and
 /// the last line. A sink by lines is flushed after each, another not at all.
 pub(crate) fn tell_records<H: Store, S: Read + Drop, W: Write>(
     alloc: Global,
     source: S,
     engine: &mut Engine<H>,
+    tally: &mut Tally,
     out: &mut Sink<W>,
 ) -> Result<(), Stop>
     requires passed_on { OwesNoFlush out.old }
     requires first { engine.old.machine ≡ start engine.old.config }
     requires taken { engine.old.taken ≡ 0 }
+    requires none { tally.old ≡ tally_of [] }
     ensures tells { (xs : List ℕ) → S.remaining source ≡ Some xs →
         ((t : List ℕ) × Appends (bytes_held W.contents out.old) (bytes_held W.contents out.new) t
         × Tells engine.old.config (events_of engine.old.config (records_of xs)) t result) }
+    ensures tallies { (xs : List ℕ) → S.remaining source ≡ Some xs →
+        ((t : List ℕ) × Appends (bytes_held W.contents out.old) (bytes_held W.contents out.new) t
+        × IsTallyOf H.counts engine.old.config (events_of engine.old.config (records_of xs)) t (LeavesOfRun result) tally.new) }
     ensures fails { result ≡ Err (Stop.Write) → 0 < failures_of out.new }
     ensures passed_on { PassedOn out.new result }
     ensures flushes { NotFlushed out.old out.new }
@@ -273,7 +292,7 @@ pub(crate) fn tell_records<H: Store, S: Read + Drop, W: Write>(
     let mut fields = ByteRecord::new(alloc);
     let mut line = Vec::new(alloc);
     match read_header(&mut reader, &mut fields, out) {
-        Ok(()) => tell_rows(&mut reader, &mut fields, engine, &mut line, out),
+        Ok(()) => tell_rows(&mut reader, &mut fields, engine, tally, &mut line, out),
         Err(stop) => Err(stop),
     }
 }

@@ -9,11 +9,13 @@ ghost use Rattle.pfs_streams.specs.Kept.{rules_limit};
 ghost use Rattle.pfs_cli.specs.Rules.{AreRefused};
 ghost use Rattle.pfs_cli.specs.Refusing.{HasNoRules, TellsRulesAlone};
 ghost use Rattle.pfs_cli.specs.Replays.{Replays, ShowsLines, WaitsForRead};
+ghost use Rattle.pfs_cli.specs.Tallies.{IsTallyOfReplay};
 
 use crate::endings::{feed_fault, finish};
 use crate::faults::ReplayFault;
 use crate::reports::write_report;
 use crate::rules::read_config;
+use crate::tallies::Tally;
 use pfs_streams::{Feed, Sink};
 use std::alloc::Global;
 use std::io::{Read, Write};
@@ -38,6 +40,9 @@ pub(crate) const FIRST_READ: usize = 8192;
 /// - `Read`, `Endless`, `Memory`: in the rules nothing, in the trace the lines of the first records.
 /// - `Write`: a front of the report.
 ///
+/// What `tally` held is given up. It gets the tally of the work of each record that was taken, however the replay ends: of those a
+/// line was written of, and of one more at most. Looks are counted.
+///
 /// `Read` is reported only where a reader failed, `Endless` only where a feed is spent, and `Write` only where the
 /// writer failed. Memory is taken for the rules, for the states, the source nodes and the table entries that are held,
 /// and for one record and one line, however long the trace is.
@@ -45,6 +50,7 @@ pub fn replay<R: Read, T: Read, W: Write>(
     alloc: Global,
     rules: &mut Feed<R>,
     trace: &mut Feed<T>,
+    tally: &mut Tally,
     out: &mut Sink<W>,
 ) -> Result<(), ReplayFault>
     requires fresh { IsFresh rules.old }
@@ -53,6 +59,11 @@ pub fn replay<R: Read, T: Read, W: Write>(
     // The report of the bytes that the two readers hold, as far as the result says.
     ensures reports { (rs : List ℕ) (ts : List ℕ) → unread R.remaining rules.old ≡ Some rs → unread T.remaining trace.old ≡ Some ts →
         ((t : List ℕ) × Appends (bytes_held W.contents out.old) (bytes_held W.contents out.new) t × Replays rs ts t result) }
+
+    // The work of each record is what the machine allows: the rules that its packet visits, the states and nodes that a purge before it
+    // examines, and the records of states that are looked at. Looks are counted.
+    ensures work { (rs : List ℕ) (ts : List ℕ) → unread R.remaining rules.old ≡ Some rs → unread T.remaining trace.old ≡ Some ts →
+        ((t : List ℕ) × Appends (bytes_held W.contents out.old) (bytes_held W.contents out.new) t × IsTallyOfReplay rs ts t result tally.new) }
 
     // A fault of the rules is one that this text may have: its kind, its line, and the token at which reading stops.
     ensures refused { (rs : List ℕ) (f : LoadFault) → unread R.remaining rules.old ≡ Some rs → result ≡ Err (ReplayFault.Rules f) → AreRefused rs f }
@@ -76,6 +87,7 @@ pub fn replay<R: Read, T: Read, W: Write>(
     ensures flushes { FlushedOnce out.old out.new }
     ensures shows { ShowsLines out.new result }
 {
+    *tally = Tally::none();
     let config = match read_config(alloc, rules) {
         Ok(config) => config,
         Err(fault) => return Err(fault),
@@ -87,7 +99,7 @@ pub fn replay<R: Read, T: Read, W: Write>(
     };
     let begun = trace.reads();
     let mut lent = first[..n].chain(trace.lend());
-    let outcome = write_report(alloc, config, &mut lent, out);
+    let outcome = write_report(alloc, config, &mut lent, tally, out);
     let back = lent.into_inner().1.give_back(begun);
     trace.resume(back);
     finish(outcome, trace, out)

@@ -9,8 +9,13 @@ use Rattle.pfs_cli_formats.specs.Words.{lead_of, note_text, number_text, rule_by
 said : (o : Outcome) → word_of o ++ (codes " " ++ (mark_text (rule_by o) ++ (note_text o ++ codes "\n"))) ≡ outcome_text o ++ codes "\n"
 said (outcome.State r) = refl
 said (outcome.New r) = refl
+said (outcome.Answered r) = refl
+said (outcome.Taken r) = refl
 said (outcome.Pass None) = refl
 said (outcome.Pass (Some r)) = refl
+said outcome.Cookie = refl
+said (outcome.Stateless None) = refl
+said (outcome.Stateless (Some r)) = refl
 said (outcome.Block r) = refl
 said (outcome.Drop r l) = simp append_assoc
 said (outcome.Kill r limits overload killed) = simp append_assoc

@@ -51,7 +51,11 @@ amounts_text states nodes entries = codes "states=" ++ (decimal states ++ (codes
 abbrev pub outcome_text : Outcome → List ℕ
 outcome_text (outcome.State r) = codes "state " ++ mark_text (Some r)
 outcome_text (outcome.New r) = codes "new " ++ mark_text (Some r)
+outcome_text (outcome.Answered r) = codes "proxy " ++ mark_text (Some r)
+outcome_text (outcome.Taken r) = codes "proxy " ++ mark_text (Some r)
 outcome_text (outcome.Pass r) = codes "pass " ++ mark_text r
+outcome_text outcome.Cookie = codes "cookie -"
+outcome_text (outcome.Stateless r) = codes "drop:cookie " ++ mark_text r
 outcome_text (outcome.Block r) = codes "block " ++ mark_text (Some r)
 outcome_text (outcome.Drop r l) = limit_word l ++ (codes " " ++ mark_text (Some r))
 outcome_text (outcome.Kill r limits overload killed) =

@@ -10,7 +10,11 @@ use Rattle.pfs_cli_formats.specs.Lines.{amounts_text, entered_word, kill_word, l
 abbrev pub word_of : Outcome → List ℕ
 word_of (outcome.State r) = codes "state"
 word_of (outcome.New r) = codes "new"
+word_of (outcome.Answered r) = codes "proxy"
+word_of (outcome.Taken r) = codes "proxy"
 word_of (outcome.Pass r) = codes "pass"
+word_of outcome.Cookie = codes "cookie"
+word_of (outcome.Stateless r) = codes "drop:cookie"
 word_of (outcome.Block r) = codes "block"
 word_of (outcome.Drop r l) = limit_word l
 word_of (outcome.Kill r limits overload killed) = kill_word limits
@@ -20,11 +24,15 @@ word_of (outcome.Add became) = codes "add"
 word_of (outcome.Delete removed) = codes "delete"
 word_of (outcome.Held h) = codes "held"
 
--- the rule by which it came: none for a record that is no packet, and for a packet that no rule matched
+-- the rule by which it came: none for a record that is no packet, and for a packet that no rule matched or was asked for
 abbrev pub rule_by : Outcome → Option RuleNo
 rule_by (outcome.State r) = Some r
 rule_by (outcome.New r) = Some r
+rule_by (outcome.Answered r) = Some r
+rule_by (outcome.Taken r) = Some r
 rule_by (outcome.Pass r) = r
+rule_by outcome.Cookie = None
+rule_by (outcome.Stateless r) = r
 rule_by (outcome.Block r) = Some r
 rule_by (outcome.Drop r l) = Some r
 rule_by (outcome.Kill r limits overload killed) = Some r

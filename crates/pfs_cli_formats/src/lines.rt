@@ -120,11 +120,14 @@ fn rule(outcome: &Outcome) -> Option<RuleNo>
     match *outcome {
         Outcome::State(rule)
         | Outcome::New(rule)
+        | Outcome::Answered(rule)
+        | Outcome::Taken(rule)
         | Outcome::Block(rule)
         | Outcome::Drop(rule, _)
         | Outcome::Kill { rule, .. } => Some(rule),
-        Outcome::Pass(rule) => rule,
-        Outcome::Skip
+        Outcome::Pass(rule) | Outcome::Stateless(rule) => rule,
+        Outcome::Cookie
+        | Outcome::Skip
         | Outcome::Expire(_)
         | Outcome::Add(_)
         | Outcome::Delete(_)
@@ -139,8 +142,12 @@ fn lead(outcome: &Outcome) -> &'static str
     match *outcome {
         Outcome::State(_) => " state @",
         Outcome::New(_) => " new @",
+        Outcome::Answered(_) | Outcome::Taken(_) => " proxy @",
         Outcome::Pass(Some(_)) => " pass @",
         Outcome::Pass(None) => " pass -",
+        Outcome::Cookie => " cookie -",
+        Outcome::Stateless(Some(_)) => " drop:cookie @",
+        Outcome::Stateless(None) => " drop:cookie -",
         Outcome::Block(_) => " block @",
         Outcome::Drop(_, Limit::Max) => " drop:max @",
         Outcome::Drop(_, Limit::MaxSrcNodes) => " drop:max-src-nodes @",

@@ -1,5 +1,6 @@
 -- Where reading reports that a load rule is broken, the text breaks it, and breaks none before.
 use Rattle.std.proofs.Common.{◌≡◌, ℕ, zero, suc, ◌==◌, Bool, true, false, cond, List, length, Option, Some, None, Result, Ok, Err, refl, ap, subst, ◌∙◌, inl, inr}
+use Rattle.std.proofs.lemmas.Bool.{eqb-true}
 use Rattle.pfs_conf_tokens.specs.Tokens.{Tok, head}
 use Rattle.pfs_conf_tokens.specs.Reading.{rest, ends_text, Refused, stop, broken, Act, take, stay, refuse, act, on_front, done, chain, perhaps, turns, left_there, until_all, ended}
 use Rattle.pfs_conf_tokens.specs.declared.keys.Key.{Key}
@@ -9,7 +10,7 @@ use Rattle.pfs_conf_tokens.specs.declared.refusals.Why.TheVariants as why
 use Rattle.pfs_conf_tokens.specs.Keys.{ends_line, is_word_key}
 use Rattle.pfs_conf_tokens.specs.Grammar.{Word}
 use Rattle.pfs_conf_tokens.proofs.Laws.{bind_err}
-use Rattle.pfs_conf_tokens.proofs.ReaderLaws.{word_is}
+use Rattle.pfs_conf_tokens.proofs.ReaderLaws.{word_is, ended_is}
 use Rattle.pfs_addr_values.specs.Names.{name_of}
 use Rattle.pfs_conf_settings.specs.Drafts.{Drafted, conf_of_draft, is_defined}
 use Rattle.pfs_conf_values.specs.Siblings.{has_sibling}
@@ -21,18 +22,22 @@ use Rattle.pfs_conf_filters.specs.declared.phrases.Verb.{Verb}
 use Rattle.pfs_conf_options.specs.Reading.{state_at}
 use Rattle.pfs_conf_settings.specs.Settings.{settings_at}
 use Rattle.pfs_conf_settings.specs.Tables.{parts_at}
+use Rattle.pfs_conf_settings.specs.SyncookieGrammar.{SyncookiesOf}
+use Rattle.pfs_conf_settings.specs.Syncookies.{syncookies_at}
+use Rattle.pfs_conf_settings.proofs.SyncookiePhrases.{syncookies_is}
+use Rattle.pfs_conf_values.specs.declared.syncookies.Syncookies.{Syncookies}
 use Rattle.pfs_conf.specs.declared.phrases.Clauses.{Clauses}
 use Rattle.pfs_conf.specs.declared.phrases.RuleText.{RuleText}
 use Rattle.pfs_conf.specs.declared.phrases.AnchorText.{AnchorText}
 use Rattle.pfs_conf.specs.declared.progress.Progress.{Progress}
-use Rattle.pfs_conf.specs.Grammar.{names_anchor, RuleOf, AnchorOf, StatementOf}
-use Rattle.pfs_conf.specs.Faults.{Statements, none, before, Breaks, at_rule, at_anchor, at_end}
-use Rattle.pfs_conf.specs.Statements.{nothing, no_clauses, with_rule, with_anchor, with_definition, rule_breaks, anchor_breaks, text_breaks}
-use Rattle.pfs_conf.specs.Reading.{with_draft, anchor_closed, told, clause_by, clause_at, rule_text_at, rule_line_at, anchor_named, anchor_name_by, anchor_name_at, brace_by, brace_at, anchor_parts_at, in_head, anchor_text_at, anchor_at, set_at, open_by, angle_by, new_table_named, new_name_by, new_name_at, definition_at, statement_by, statement_at, all_closed, told_of, statements_at, text_at}
+use Rattle.pfs_conf.specs.Grammar.{names_anchor, RuleOf, AnchorOf, StatementOf, CookiesOf}
+use Rattle.pfs_conf.specs.Faults.{Statements, none, before, Breaks, at_rule, at_anchor, at_end, at_cookies}
+use Rattle.pfs_conf.specs.Statements.{nothing, no_clauses, with_rule, with_anchor, with_definition, rule_breaks, anchor_breaks, text_breaks, with_cookies, cookies_break}
+use Rattle.pfs_conf.specs.Reading.{with_draft, anchor_closed, told, clause_by, clause_at, rule_text_at, rule_line_at, anchor_named, anchor_name_by, anchor_name_at, brace_by, brace_at, anchor_parts_at, in_head, anchor_text_at, anchor_at, set_at, open_by, angle_by, new_table_named, new_name_by, new_name_at, definition_at, statement_by, statement_at, all_closed, told_of, statements_at, text_at, cookies_line_at, setting_line_at, set_by}
 use Rattle.pfs_conf.proofs.OnlineLaws.{ruled, anchored}
 use Rattle.pfs_conf.proofs.PhraseLaws.{rule_text_is, anchor_text_is, statement_is, statements_are, closed_ok}
 use Rattle.pfs_conf.proofs.UnbrokenLaws.{Unbroken, UnbrokenAct, refused_unbroken, unbroken_done, unbroken_chain, unbroken_front, unbroken_if, unbroken_once, unbroken_perhaps, unbroken_until, unbroken_ended}
-use Rattle.pfs_conf.proofs.UnbrokenPhrases.{unbroken_verb, unbroken_parameters, unbroken_flags, unbroken_state, unbroken_settings, unbroken_parts}
+use Rattle.pfs_conf.proofs.UnbrokenPhrases.{unbroken_verb, unbroken_parameters, unbroken_flags, unbroken_state, unbroken_settings, unbroken_parts, unbroken_syncookies}
 
 -- ---- statements as they are written check no load rule
 
@@ -40,6 +45,7 @@ clause_acts : (v : Verb) (p : Parameters) (c : Clauses) (k : Key) → UnbrokenAc
 clause_acts v p c key.Flags = unbroken_once c.flags _ (unbroken_chain flags_at _ unbroken_flags (λ f. unbroken_done (record c { flags = Some f })))
 clause_acts v p c key.No = unbroken_once c.state _ (unbroken_chain state_at _ unbroken_state (λ s. unbroken_done (record c { state = Some s })))
 clause_acts v p c key.Keep = unbroken_once c.state _ (unbroken_chain state_at _ unbroken_state (λ s. unbroken_done (record c { state = Some s })))
+clause_acts v p c key.Synproxy = unbroken_once c.state _ (unbroken_chain state_at _ unbroken_state (λ s. unbroken_done (record c { state = Some s })))
 clause_acts v p c _ = tt
 
 unbroken_clause : (v : Verb) (p : Parameters) (c : Clauses) → Unbroken (clause_at v p c)
@@ -84,9 +90,9 @@ unbroken_anchor_text : (p : Progress) → Unbroken (anchor_text_at p)
 unfolding anchor_text_at
 unbroken_anchor_text p = record { never = λ ts b n e. (unbroken_anchor_parts p).never ts b n (in_head_broken (anchor_parts_at p ts) b n e) }
 
-unbroken_set : (p : Progress) → Unbroken (set_at p)
-unfolding set_at
-unbroken_set p = unbroken_chain (settings_at p.draft) (λ d. ended (with_draft d p)) (unbroken_settings p.draft) (λ d. unbroken_ended (with_draft d p))
+unbroken_setting : (p : Progress) → Unbroken (setting_line_at p)
+unfolding setting_line_at
+unbroken_setting p = unbroken_chain (settings_at p.draft) (λ d. ended (with_draft d p)) (unbroken_settings p.draft) (λ d. unbroken_ended (with_draft d p))
 
 open_acts : (k : Key) → UnbrokenAct (open_by k)
 open_acts key.OpenAngle = unbroken_done tt
@@ -148,6 +154,41 @@ anchor_breaks_is line p whole ts w c n e = elim (bind_err (anchor_text_at p ts) 
   ]
 ]
 
+-- a set statement that breaks one is `set syncookies`
+abbrev Cookied : List Tok → LoadRule → Type 0
+Cookied whole c = (s : Syncookies) × (left : List Tok) × CookiesOf whole s left × (cookies_break s ≡ Some c)
+
+cookies_are_broken : (line : ℕ) (p : Progress) (whole : List Tok) → Word key.Set whole (rest whole) → Word key.Syncookies (rest whole) (rest (rest whole)) → (c : LoadRule) (n : ℕ)
+    → cookies_line_at line p (rest (rest whole)) ≡ Err (broken c n) → Cookied whole c × (line ≡ n)
+unfolding cookies_line_at
+cookies_are_broken line p whole w v c n e =
+    let ts = rest (rest whole) in
+    elim (bind_err (syncookies_at ts) (λ x. chain (ended x.0) (λ s. chain (told (cookies_break s) line) (λ u. done (with_cookies s p))) x.1) (broken c n) e) [
+      | inl h ↦ absurd (unbroken_syncookies.never ts c n h)
+      | inr b ↦ elim (bind_err (ended b.0.0 b.0.1) (λ x. chain (told (cookies_break x.0) line) (λ u. done (with_cookies x.0 p)) x.1) (broken c n) b.2) [
+        | inl h ↦ absurd ((unbroken_ended b.0.0).never b.0.1 c n h)
+        | inr d ↦ elim (bind_err (told (cookies_break d.0.0) line d.0.1) (λ x. done (with_cookies d.0.0 p) x.1) (broken c n) d.2) [
+          | inl h ↦
+              let t = told_broken (cookies_break d.0.0) line d.0.1 c n h in
+              let l = ended_is b.0.0 b.0.1 d.0.0 d.0.1 d.1 in
+              let said = subst (λ (z : Syncookies). SyncookiesOf ts z b.0.1) l.0 (syncookies_is ts b.0.0 b.0.1 b.1) in
+              ((d.0.0, d.0.1, record { a = rest whole; b = ts; c = b.0.1; set = w; word = v; cookies = said; ended = l.1 }, t.0), t.1)
+          | inr f ↦ absurd ((unbroken_done (with_cookies d.0.0 p)).never f.0.1 c n f.2)
+        ]
+      ]
+    ]
+
+set_breaks : (line : ℕ) (p : Progress) (whole : List Tok) → Word key.Set whole (rest whole) → (c : LoadRule) (n : ℕ) → set_at line p (rest whole) ≡ Err (broken c n) → Cookied whole c × (line ≡ n)
+unfolding set_at
+set_breaks line p whole w c n e = by_key (head (rest whole)).key refl e
+  where
+    other : act (stay (setting_line_at p)) (rest whole) ≡ Err (broken c n) → ⊥
+    other h = (unbroken_setting p).never (rest whole) c n h
+
+    by_key : (k : Key) → (head (rest whole)).key ≡ k → act (set_by line p k) (rest whole) ≡ Err (broken c n) → Cookied whole c × (line ≡ n)
+    by_key key.Syncookies g h = cookies_are_broken line p whole w (word_is key.Syncookies (rest whole) g (λ r. cc)) c n h
+    by_key _ g h = absurd (other h)
+
 if_never : {A : Type 0} (b : Bool) (x y : Act A) → UnbrokenAct x → UnbrokenAct y → (ts : List Tok) (c : LoadRule) (n : ℕ) → act (cond b x y) ts ≡ Err (broken c n) → ⊥
 if_never b x y p q ts c n e = (unbroken_front (λ t. cond b x y) (λ t. unbroken_if b x y p q)).never ts c n e
 
@@ -155,9 +196,15 @@ statement_breaks : {all : List Tok} (p : Progress) (ts : List Tok) (c : LoadRule
 unfolding statement_at
 statement_breaks {all = all} p ts c n s e = by_key (head ts).key refl e
   where
+    set_case : (head ts).key ≡ key.Set → (b : Bool) → (p.depth == 0) ≡ b → act (cond b (take (set_at (head ts).line p)) (refuse why.Inner)) ts ≡ Err (broken c n) → Breaks all c n
+    set_case k true g h =
+        let r = set_breaks (head ts).line p ts (word_is key.Set ts k (λ q. cc)) c n h in
+        subst (λ (z : ℕ). Breaks all c z) r.1 (at_cookies r.0.0 s (eqb-true p.depth 0 g) r.0.2 r.0.3)
+    set_case k false g h = absurd (refused_unbroken {A = Progress} why.Inner ts c n h)
+
     by_key : (k : Key) → (head ts).key ≡ k → act (statement_by p (head ts).line k) ts ≡ Err (broken c n) → Breaks all c n
     by_key key.LineEnd g h = absurd ((unbroken_done p).never (rest ts) c n h)
-    by_key key.Set g h = absurd (if_never (p.depth == 0) (take (set_at p)) (refuse why.Inner) (unbroken_set p) tt ts c n h)
+    by_key key.Set g h = set_case g (p.depth == 0) refl h
     by_key key.Table g h = absurd (if_never (p.depth == 0) (take (definition_at p)) (refuse why.Inner) (unbroken_table p) tt ts c n h)
     by_key key.Pass g h = let r = rule_breaks_is (head ts).line p ts c n h in subst (λ (z : ℕ). Breaks all c z) r.4 (at_rule r.0 s r.2 r.3)
     by_key key.Block g h = let r = rule_breaks_is (head ts).line p ts c n h in subst (λ (z : ℕ). Breaks all c z) r.4 (at_rule r.0 s r.2 r.3)

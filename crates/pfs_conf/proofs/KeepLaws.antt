@@ -4,7 +4,7 @@ use Rattle.std.specs.Prelude.{unwrap_or}
 use Rattle.std.proofs.lemmas.Bool.{leb-false}
 use Rattle.pfs_conf_tokens.specs.declared.refusals.LoadRule.{LoadRule}
 use Rattle.pfs_conf_tokens.specs.declared.refusals.LoadRule.TheVariants as load_rule
-use Rattle.pfs_conf_settings.specs.Drafts.{Drafted, tables_of}
+use Rattle.pfs_conf_settings.specs.Drafts.{Drafted, tables_of, has_broken_shares}
 use Rattle.pfs_conf_settings.specs.Namings.{Named, is_named, naming, place_in, table_number, undefined_table}
 use Rattle.pfs_conf_values.specs.LoadRules.{IsTableNo, IsHost, IsSide, IsFilter, IsFlagTest, IsAction, IsRule, IsAnchor}
 use Rattle.pfs_conf_values.specs.declared.actions.Action.{Action}
@@ -16,6 +16,7 @@ use Rattle.pfs_conf_values.specs.declared.filters.Host.TheVariants as host
 use Rattle.pfs_conf_values.specs.declared.filters.Side.{Side}
 use Rattle.pfs_conf_values.specs.declared.filters.TableNo.{TableNo}
 use Rattle.pfs_conf_settings.proofs.NamingLaws.{naming_IsPlaced}
+use Rattle.pfs_conf_values.specs.declared.syncookies.Syncookies.{Syncookies}
 use Rattle.pfs_conf_filters.specs.declared.phrases.Hosts.{Hosts}
 use Rattle.pfs_conf_filters.specs.declared.phrases.Parameters.{Parameters}
 use Rattle.pfs_conf_filters.specs.declared.phrases.Verb.{Verb}
@@ -29,7 +30,7 @@ use Rattle.pfs_conf_options.specs.Bounds.{AreRead}
 use Rattle.pfs_conf_options.proofs.ReadLaws.{resolved_are}
 use Rattle.pfs_conf.specs.declared.phrases.RuleText.{RuleText}
 use Rattle.pfs_conf.specs.declared.phrases.AnchorText.{AnchorText}
-use Rattle.pfs_conf.specs.Statements.{name_host, number_host, number_side, name_overload, number_overload, filter_said, name_hosts, state_options, action_of, default_flags, name_rule, rule_action, rule_said, anchor_said, keeps_on_block, is_full, rule_breaks, anchor_breaks}
+use Rattle.pfs_conf.specs.Statements.{name_host, number_host, number_side, name_overload, number_overload, filter_said, name_hosts, state_options, action_of, default_flags, name_rule, rule_action, rule_said, anchor_said, keeps_on_block, is_full, rule_breaks, anchor_breaks, cookies_break}
 use Rattle.pfs_conf.specs.Within.{IsTableName, AreParameters, IsRuleText, IsAnchorText}
 
 -- ---- tables
@@ -174,3 +175,13 @@ anchor_is_kept depth d a k e = record {
   filter = filter_kept (length (name_hosts a.parameters.hosts d).tables) a.parameters (unwrap_or a.flags test.Any) d k.parameters (flags_kept test.Any a.flags tt k.flags) (anchor_kept depth d a e).0 (omega arith);
   name = k.name;
 }
+
+-- ---- SYN cookies
+
+-- shares that break no load rule
+pub shares_kept : (s : Syncookies) → cookies_break s ≡ None → has_broken_shares s ≡ false
+shares_kept s e = by (has_broken_shares s) e
+  where
+    by : (b : Bool) → cond b (Some load_rule.CookiePair) None ≡ None → b ≡ false
+    by true h = absurd cc
+    by false h = refl

@@ -21,7 +21,7 @@ use Rattle.pfs_conf.specs.Kinds.{no_memory, fault, kind_of_rule, IsKindAt}
 use Rattle.pfs_conf.specs.Places.{IsBegun}
 use Rattle.pfs_conf.specs.Stopping.{fault_told, kind_of}
 use Rattle.pfs_conf.specs.Grammar.{TextOf}
-use Rattle.pfs_conf.specs.Faults.{Statements, none, before, Breaks, at_rule, at_anchor, at_end, StopsAt, IsFault}
+use Rattle.pfs_conf.specs.Faults.{Statements, none, before, Breaks, at_rule, at_anchor, at_cookies, at_end, StopsAt, IsFault}
 use Rattle.pfs_conf.specs.Giving.{Comes}
 use Rattle.pfs_conf.specs.Statements.{nothing}
 use Rattle.pfs_conf.specs.Reading.{statement_at, statements_at, text_at}
@@ -33,7 +33,7 @@ use Rattle.pfs_conf.proofs.OnlineLaws.{online_text, statement_shrinks}
 use Rattle.pfs_conf.proofs.BreakLaws.{text_breaks_is}
 use Rattle.pfs_conf.proofs.PhraseLaws.{text_is}
 use Rattle.pfs_conf.proofs.PlaceLaws.{text_stops, kind_fits}
-use Rattle.pfs_conf.proofs.ReadLaws.{verb_key, rule_told, rule_statement, anchor_told, anchor_statement, statement_reads, statement_begins, statements_read, text_told, text_reads}
+use Rattle.pfs_conf.proofs.ReadLaws.{verb_key, rule_told, rule_statement, anchor_told, anchor_statement, cookies_statement, cookies_told, statement_reads, statement_begins, statements_read, text_told, text_reads}
 
 -- where a statement is refused, so are the statements
 pub statements_fail : (e : ReadError) (p q : Progress) (left ts : List Tok) (total : Result (Progress × List Tok) Refused)
@@ -83,6 +83,8 @@ breaks_told {ts = ts} {b = b} (at_rule {p = p} {mid = mid} r s q e) =
     breaks_at ts p mid b (head mid).line s (verb_key q.verb (λ k. ends_text k ≡ false) refl refl) (rule_statement p q.verb (Err (broken b (head mid).line)) (rule_told (head mid).line p r b q e))
 breaks_told {ts = ts} {b = b} (at_anchor {p = p} {mid = mid} a s q e) =
     breaks_at ts p mid b (head mid).line s (rw (word_head q.word).0 refl) (anchor_statement p q.word (Err (broken b (head mid).line)) (anchor_told (head mid).line p b q e))
+breaks_told {ts = ts} {b = b} (at_cookies {p = p} {mid = mid} {left = left} c s z q e) =
+    breaks_at ts p mid b (head mid).line s (rw (word_head q.set).0 refl) (cookies_statement p q z ∙ cookies_told (head mid).line p c left b e)
 breaks_told {ts = ts} {b = b} {n = n} (at_end {p = p} {left = left} u z e) = text_told ts p left b n (statements_read u) z e
 
 told_fault : (text : List ℕ) (e : LoadFault) (b : LoadRule) (n : ℕ) → length text ≤ text_limit → text_at (tokens_of text) ≡ Err (broken b n) → IsFaultRead text e → (e ≡ fault n (kind_of_rule b)) ⊎ (e ≡ no_memory)

@@ -25,13 +25,15 @@ use Rattle.pfs_conf_settings.specs.Settings.{settings_at}
 use Rattle.pfs_conf_settings.specs.Tables.{parts_at}
 use Rattle.pfs_conf_settings.proofs.SettingLaws.{online_settings}
 use Rattle.pfs_conf_settings.proofs.TableLaws.{online_parts}
+use Rattle.pfs_conf_settings.specs.Syncookies.{syncookies_at}
+use Rattle.pfs_conf_settings.proofs.SyncookieLaws.{online_syncookies}
 use Rattle.pfs_conf.specs.declared.phrases.Clauses.{Clauses}
 use Rattle.pfs_conf.specs.declared.phrases.RuleText.{RuleText}
 use Rattle.pfs_conf.specs.declared.phrases.AnchorText.{AnchorText}
 use Rattle.pfs_conf.specs.declared.progress.Progress.{Progress}
 use Rattle.pfs_conf.specs.Grammar.{names_anchor}
-use Rattle.pfs_conf.specs.Statements.{nothing, no_clauses, with_rule, with_anchor, with_definition, rule_breaks, anchor_breaks, text_breaks}
-use Rattle.pfs_conf.specs.Reading.{with_draft, anchor_closed, told, clause_by, clause_at, rule_text_at, rule_line_at, anchor_named, anchor_name_by, anchor_name_at, brace_by, brace_at, anchor_parts_at, why_in_head, in_head, anchor_text_at, anchor_at, set_at, open_by, angle_by, new_table_named, new_name_by, new_name_at, definition_at, statement_by, statement_at, all_closed, told_of, statements_at, text_at}
+use Rattle.pfs_conf.specs.Statements.{nothing, no_clauses, with_rule, with_anchor, with_definition, rule_breaks, anchor_breaks, text_breaks, with_cookies, cookies_break}
+use Rattle.pfs_conf.specs.Reading.{with_draft, anchor_closed, told, clause_by, clause_at, rule_text_at, rule_line_at, anchor_named, anchor_name_by, anchor_name_at, brace_by, brace_at, anchor_parts_at, why_in_head, in_head, anchor_text_at, anchor_at, set_at, open_by, angle_by, new_table_named, new_name_by, new_name_at, definition_at, statement_by, statement_at, all_closed, told_of, statements_at, text_at, cookies_line_at, setting_line_at, set_by}
 
 -- ---- forms
 
@@ -81,6 +83,10 @@ clause_taking v p c key.No = once_taking inside key.No c.state (stay (chain stat
   chain_shrinks inside state_at (λ s. done (record c { state = Some s })) state_shrinks (λ s. online_done (record c { state = Some s })),
 )
 clause_taking v p c key.Keep = once_taking inside key.Keep c.state (stay (chain state_at (λ s. done (record c { state = Some s })))) (
+  online_chain state_at (λ s. done (record c { state = Some s })) online_state (λ s. online_done (record c { state = Some s })),
+  chain_shrinks inside state_at (λ s. done (record c { state = Some s })) state_shrinks (λ s. online_done (record c { state = Some s })),
+)
+clause_taking v p c key.Synproxy = once_taking inside key.Synproxy c.state (stay (chain state_at (λ s. done (record c { state = Some s })))) (
   online_chain state_at (λ s. done (record c { state = Some s })) online_state (λ s. online_done (record c { state = Some s })),
   chain_shrinks inside state_at (λ s. done (record c { state = Some s })) state_shrinks (λ s. online_done (record c { state = Some s })),
 )
@@ -207,9 +213,23 @@ online_anchor n p = online_chain (anchor_text_at p) (λ a. chain (told (anchor_b
 
 -- ---- options and tables
 
-pub online_set : (p : Progress) → Online across (set_at p)
+online_cookies_line : (n : ℕ) (p : Progress) → Online across (cookies_line_at n p)
+unfolding cookies_line_at
+online_cookies_line n p = online_chain syncookies_at (λ s. chain (ended s) (λ c. chain (told (cookies_break c) n) (λ u. done (with_cookies c p)))) (online_across syncookies_at online_syncookies)
+    (λ s. online_chain (ended s) (λ c. chain (told (cookies_break c) n) (λ u. done (with_cookies c p))) (line_across (ended s) (online_ended s))
+    (λ c. online_chain (told (cookies_break c) n) (λ u. done (with_cookies c p)) (online_told across (cookies_break c) n) (λ u. online_done (with_cookies c p))))
+
+online_setting_line : (p : Progress) → Online across (setting_line_at p)
+unfolding setting_line_at
+online_setting_line p = online_chain (settings_at p.draft) (λ d. ended (with_draft d p)) (online_settings p.draft) (λ d. line_across (ended (with_draft d p)) (online_ended (with_draft d p)))
+
+set_acts : (n : ℕ) (p : Progress) (k : Key) → OnlineAct across k (set_by n p k)
+set_acts n p key.Syncookies = (refl, online_cookies_line n p)
+set_acts n p _ = online_setting_line p
+
+pub online_set : (n : ℕ) (p : Progress) → Online across (set_at n p)
 unfolding set_at
-online_set p = online_chain (settings_at p.draft) (λ d. ended (with_draft d p)) (online_settings p.draft) (λ d. line_across (ended (with_draft d p)) (online_ended (with_draft d p)))
+online_set n p = online_front (λ t. set_by n p t.key) (λ t. set_acts n p t.key)
 
 open_taking : (k : Key) → Taking inside k (open_by k)
 open_taking key.OpenAngle = (refl, online_done tt)
@@ -244,7 +264,7 @@ online_table p = online_chain (new_name_at p.draft) (λ n. chain parts_at (λ pa
 
 statement_taking : (p : Progress) (n : ℕ) (k : Key) → Taking across k (statement_by p n k)
 statement_taking p n key.LineEnd = (refl, online_done p)
-statement_taking p n key.Set = if_takes across key.Set (p.depth == 0) (take (set_at p)) (refuse why.Inner) (λ e. (refl, online_set p)) (λ e. tt)
+statement_taking p n key.Set = if_takes across key.Set (p.depth == 0) (take (set_at n p)) (refuse why.Inner) (λ e. (refl, online_set n p)) (λ e. tt)
 statement_taking p n key.Table = if_takes across key.Table (p.depth == 0) (take (definition_at p)) (refuse why.Inner) (λ e. (refl, online_table p)) (λ e. tt)
 statement_taking p n key.Pass = (online_rule n p, rule_shrinks n p)
 statement_taking p n key.Block = (online_rule n p, rule_shrinks n p)

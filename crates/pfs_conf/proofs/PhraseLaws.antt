@@ -41,13 +41,17 @@ use Rattle.pfs_conf_settings.specs.Tables.{parts_at}
 use Rattle.pfs_conf_settings.specs.declared.tables.Parts.{Parts}
 use Rattle.pfs_conf_settings.proofs.SettingPhrases.{settings_are}
 use Rattle.pfs_conf_settings.proofs.TablePhrases.{parts_are}
+use Rattle.pfs_conf_settings.specs.SyncookieGrammar.{SyncookiesOf}
+use Rattle.pfs_conf_settings.specs.Syncookies.{syncookies_at}
+use Rattle.pfs_conf_settings.proofs.SyncookiePhrases.{syncookies_is}
+use Rattle.pfs_conf_values.specs.declared.syncookies.Syncookies.{Syncookies}
 use Rattle.pfs_conf.specs.declared.phrases.Clauses.{Clauses}
 use Rattle.pfs_conf.specs.declared.phrases.RuleText.{RuleText}
 use Rattle.pfs_conf.specs.declared.phrases.AnchorText.{AnchorText}
 use Rattle.pfs_conf.specs.declared.progress.Progress.{Progress}
-use Rattle.pfs_conf.specs.Grammar.{ClauseOf, flags, state, RuleOf, names_anchor, AnchorNameOf, unnamed, named, AnchorOf, NewTableOf, StatementOf, blank, set, table, rule, anchor, close, TextOf}
-use Rattle.pfs_conf.specs.Statements.{nothing, no_clauses, state_options, with_rule, with_anchor, with_definition, rule_breaks, anchor_breaks, text_breaks}
-use Rattle.pfs_conf.specs.Reading.{with_draft, anchor_closed, told, clause_by, clause_at, rule_text_at, rule_line_at, anchor_named, anchor_name_at, brace_by, brace_at, anchor_parts_at, anchor_text_at, anchor_at, set_at, open_by, angle_by, new_table_named, new_name_by, new_name_at, definition_at, statement_by, statement_at, all_closed, told_of, statements_at, text_at}
+use Rattle.pfs_conf.specs.Grammar.{ClauseOf, flags, state, RuleOf, names_anchor, AnchorNameOf, unnamed, named, AnchorOf, NewTableOf, StatementOf, blank, set, table, rule, anchor, close, TextOf, cookies}
+use Rattle.pfs_conf.specs.Statements.{nothing, no_clauses, state_options, with_rule, with_anchor, with_definition, rule_breaks, anchor_breaks, text_breaks, with_cookies, cookies_break}
+use Rattle.pfs_conf.specs.Reading.{with_draft, anchor_closed, told, clause_by, clause_at, rule_text_at, rule_line_at, anchor_named, anchor_name_at, brace_by, brace_at, anchor_parts_at, anchor_text_at, anchor_at, set_at, open_by, angle_by, new_table_named, new_name_by, new_name_at, definition_at, statement_by, statement_at, all_closed, told_of, statements_at, text_at, cookies_line_at, setting_line_at, set_by}
 use Rattle.pfs_conf.specs.Within.{AreLexed, more, IsRuleText, IsAnchorText}
 use Rattle.pfs_conf.proofs.WithinLaws.{word_lexed, name_is, flags_within, parameters_within}
 use Rattle.pfs_conf.proofs.OnlineLaws.{ruled, anchored, in_head_ok}
@@ -84,6 +88,7 @@ clause_is v p c ts d left e = by_key (head ts).key e
     by_key key.Flags h = flags_clause_is c c.flags refl ts d left h
     by_key key.No h = state_clause_is c c.state refl ts d left h
     by_key key.Keep h = state_clause_is c c.state refl ts d left h
+    by_key key.Synproxy h = state_clause_is c c.state refl ts d left h
     by_key _ h = absurd (not_refused _ _ _ h)
 
 pub rule_text_is : (ts : List Tok) (r : RuleText) (left : List Tok) → rule_text_at ts ≡ Ok (r, left) → RuleOf ts r left
@@ -251,13 +256,42 @@ anchor_is n p whole ts w q left e =
 
 -- ---- options and tables
 
-pub set_is : (p : Progress) (ts : List Tok) (q : Progress) (left : List Tok) → set_at p ts ≡ Ok (q, left)
+cookies_are : (n : ℕ) (p : Progress) (whole : List Tok) (q : Progress) (left : List Tok) → p.depth ≡ 0 → Word key.Set whole (rest whole) → Word key.Syncookies (rest whole) (rest (rest whole))
+    → cookies_line_at n p (rest (rest whole)) ≡ Ok (q, left) → StatementOf p whole q left
+unfolding cookies_line_at
+cookies_are n p whole q left outside w v e =
+    let ts = rest (rest whole) in
+    let a = chain_ok syncookies_at (λ s. chain (ended s) (λ c. chain (told (cookies_break c) n) (λ u. done (with_cookies c p)))) ts q left e in
+    let b = chain_ok (ended a.0) (λ c. chain (told (cookies_break c) n) (λ u. done (with_cookies c p))) a.1 q left a.3 in
+    let c = chain_ok (told (cookies_break b.0) n) (λ u. done (with_cookies b.0 p)) b.1 q left b.3 in
+    let l = ended_is a.0 a.1 b.0 b.1 b.2 in
+    let t = told_ok (cookies_break b.0) n b.1 c.0 c.1 c.2 in
+    let d = ok_parts (with_cookies b.0 p) q c.1 left c.3 in
+    let P : List Tok → Type 0 = λ z. Word key.LineEnd a.1 z in
+    let behind : P left = subst P d.1 (subst P t.1 l.1) in
+    let said = subst (λ (z : Syncookies). SyncookiesOf ts z a.1) l.0 (syncookies_is ts a.0 a.1 a.2) in
+    subst (λ (z : Progress). StatementOf p whole z left) d.0
+    (cookies b.0 outside (record { a = rest whole; b = ts; c = a.1; set = w; word = v; cookies = said; ended = behind }) t.0)
+
+pub setting_is : (p : Progress) (ts : List Tok) (q : Progress) (left : List Tok) → setting_line_at p ts ≡ Ok (q, left)
     → (d : Drafted) × (mid : List Tok) × SettingOf p.draft ts d mid × Word key.LineEnd mid left × (with_draft d p ≡ q)
-unfolding set_at
-set_is p ts q left e =
+unfolding setting_line_at
+setting_is p ts q left e =
     let a = chain_ok (settings_at p.draft) (λ d. ended (with_draft d p)) ts q left e in
     let d = ended_is (with_draft a.0 p) a.1 q left a.3 in
     (a.0, a.1, settings_are p.draft ts a.0 a.1 a.2, d.1, d.0)
+
+set_is : (n : ℕ) (p : Progress) (whole : List Tok) (q : Progress) (left : List Tok) → p.depth ≡ 0 → Word key.Set whole (rest whole) → set_at n p (rest whole) ≡ Ok (q, left)
+    → StatementOf p whole q left
+unfolding set_at
+set_is n p whole q left outside w e = by_key (head (rest whole)).key refl e
+  where
+    other : act (stay (setting_line_at p)) (rest whole) ≡ Ok (q, left) → StatementOf p whole q left
+    other h = let s = setting_is p (rest whole) q left h in subst (λ (z : Progress). StatementOf p whole z left) s.4 (set outside w s.2 s.3)
+
+    by_key : (k : Key) → (head (rest whole)).key ≡ k → act (set_by n p k) (rest whole) ≡ Ok (q, left) → StatementOf p whole q left
+    by_key key.Syncookies g h = cookies_are n p whole q left outside w (word_is key.Syncookies (rest whole) g (λ r. cc)) h
+    by_key _ g h = other h
 
 open_is : (ts : List Tok) (u : Unit {0}) (left : List Tok) → on_front (λ t. open_by t.key) ts ≡ Ok (u, left) → Word key.OpenAngle ts left
 open_is ts u left e = by_key (head ts).key refl e
@@ -325,8 +359,8 @@ statement_is p ts q left e = by_key (head ts).key refl e
     Said : Progress → Type 0
     Said z = StatementOf p ts z left
 
-    set_case : (head ts).key ≡ key.Set → (b : Bool) → (p.depth == 0) ≡ b → act (cond b (take (set_at p)) (refuse why.Inner)) ts ≡ Ok (q, left) → StatementOf p ts q left
-    set_case k true g h = let s = set_is p (rest ts) q left h in subst (λ (z : Progress). StatementOf p ts z left) s.4 (set (eqb-true p.depth 0 g) (word_is key.Set ts k (λ q. cc)) s.2 s.3)
+    set_case : (head ts).key ≡ key.Set → (b : Bool) → (p.depth == 0) ≡ b → act (cond b (take (set_at (head ts).line p)) (refuse why.Inner)) ts ≡ Ok (q, left) → StatementOf p ts q left
+    set_case k true g h = set_is (head ts).line p ts q left (eqb-true p.depth 0 g) (word_is key.Set ts k (λ q. cc)) h
     set_case k false g h = absurd cc
 
     table_case : (head ts).key ≡ key.Table → (b : Bool) → (p.depth == 0) ≡ b → act (cond b (take (definition_at p)) (refuse why.Inner)) ts ≡ Ok (q, left) → StatementOf p ts q left

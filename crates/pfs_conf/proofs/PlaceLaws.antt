@@ -19,14 +19,16 @@ use Rattle.pfs_conf_filters.specs.declared.phrases.Verb.{Verb}
 use Rattle.pfs_conf_filters.proofs.OnlineLaws.{online_verb, online_parameters}
 use Rattle.pfs_conf_settings.specs.Settings.{settings_at}
 use Rattle.pfs_conf_settings.specs.Tables.{parts_at}
+use Rattle.pfs_conf_settings.specs.Syncookies.{syncookies_at}
+use Rattle.pfs_conf_settings.proofs.SyncookieLaws.{online_syncookies}
 use Rattle.pfs_conf.specs.declared.progress.Progress.{Progress}
 use Rattle.pfs_conf.specs.declared.kinds.Kind.TheVariants as kind
 use Rattle.pfs_conf.specs.Kinds.{is_number_key, is_foreign, IsKindAt, duplicate, number, unsupported, syntax}
 use Rattle.pfs_conf.specs.Stopping.{is_again, wants_number, is_left_out, kind_at}
 use Rattle.pfs_conf.specs.Grammar.{StatementOf}
 use Rattle.pfs_conf.specs.Faults.{Statements, none, before}
-use Rattle.pfs_conf.specs.Statements.{nothing, no_clauses, with_rule, with_anchor, with_definition, rule_breaks, anchor_breaks, text_breaks}
-use Rattle.pfs_conf.specs.Reading.{with_draft, anchor_closed, told, clause_at, rule_text_at, rule_line_at, anchor_text_at, anchor_at, set_at, new_name_at, definition_at, statement_by, statement_at, all_closed, told_of, statements_at, text_at}
+use Rattle.pfs_conf.specs.Statements.{nothing, no_clauses, with_rule, with_anchor, with_definition, rule_breaks, anchor_breaks, text_breaks, with_cookies, cookies_break}
+use Rattle.pfs_conf.specs.Reading.{with_draft, anchor_closed, told, clause_at, rule_text_at, rule_line_at, anchor_text_at, anchor_at, set_at, new_name_at, definition_at, statement_by, statement_at, all_closed, told_of, statements_at, text_at, cookies_line_at, setting_line_at, set_by}
 use Rattle.pfs_conf.specs.Places.{InBraces, has_braces, IsBegun, in_a_line, with_braces}
 use Rattle.pfs_conf.proofs.OnlineLaws.{online_clause, clause_shrinks, online_anchor_text, ruled}
 use Rattle.pfs_conf.proofs.PhraseLaws.{statement_is, statements_are}
@@ -111,9 +113,22 @@ anchor_stops n p ts left w e = elim (bind_err (anchor_text_at p ts) (λ x. chain
 
 -- ---- options and tables
 
-set_stops : (p : Progress) (ts left : List Tok) (w : Why) → set_at p ts ≡ Err (stop left w) → (after : Bool) × InBraces false ts after left
-unfolding set_at
-set_stops p ts left w e = elim (bind_err (settings_at p.draft ts) (λ x. ended (with_draft x.0 p) x.1) (stop left w) e) [
+cookies_stop : (n : ℕ) (p : Progress) (ts left : List Tok) (w : Why) → cookies_line_at n p ts ≡ Err (stop left w) → Passes in_line ts left
+unfolding cookies_line_at
+cookies_stop n p ts left w e = elim (bind_err (syncookies_at ts) (λ x. chain (ended x.0) (λ s. chain (told (cookies_break s) n) (λ u. done (with_cookies s p))) x.1) (stop left w) e) [
+  | inl h ↦ online_syncookies.stopped ts left w h
+  | inr b ↦ elim (bind_err (ended b.0.0 b.0.1) (λ x. chain (told (cookies_break x.0) n) (λ u. done (with_cookies x.0 p)) x.1) (stop left w) b.2) [
+    | inl h ↦ passes_then (online_syncookies.took ts b.0.0 b.0.1 b.1) (stay_there (ended_stops b.0.0 b.0.1 left w h))
+    | inr d ↦ elim (bind_err (told (cookies_break d.0.0) n d.0.1) (λ x. done (with_cookies d.0.0 p) x.1) (stop left w) d.2) [
+      | inl h ↦ absurd (told_stops (cookies_break d.0.0) n d.0.1 left w h)
+      | inr f ↦ absurd (let h = f.2 in cc)
+    ]
+  ]
+]
+
+setting_stops : (p : Progress) (ts left : List Tok) (w : Why) → setting_line_at p ts ≡ Err (stop left w) → (after : Bool) × InBraces false ts after left
+unfolding setting_line_at
+setting_stops p ts left w e = elim (bind_err (settings_at p.draft ts) (λ x. ended (with_draft x.0 p) x.1) (stop left w) e) [
   | inl h ↦ (keeps_settings p.draft).stopped ts left w h
   | inr b ↦ (false, further ((keeps_settings p.draft).took ts b.0.0 b.0.1 b.1) (at_once (ended_stops (with_draft b.0.0 p) b.0.1 left w b.2)))
 ]
@@ -145,6 +160,18 @@ in_braces k (t ∷ ts) left g e h = with_braces (ap has_braces g ∙ e) h.1
 begun_there : {ts left : List Tok} → ts ≡ left → IsBegun ts left
 begun_there e = in_a_line (stay_there e)
 
+set_stops : (n : ℕ) (p : Progress) (whole left : List Tok) (w : Why) → (head whole).key ≡ key.Set → set_at n p (rest whole) ≡ Err (stop left w) → IsBegun whole left
+unfolding set_at
+set_stops n p whole left w k e = by_key (head (rest whole)).key refl e
+  where
+    other : act (stay (setting_line_at p)) (rest whole) ≡ Err (stop left w) → IsBegun whole left
+    other h = in_braces key.Set whole left k refl (setting_stops p (rest whole) left w h)
+
+    by_key : (j : Key) → (head (rest whole)).key ≡ j → act (set_by n p j) (rest whole) ≡ Err (stop left w) → IsBegun whole left
+    by_key key.Syncookies g h =
+        in_a_line (behind_word key.Set whole left k refl (behind_word key.Syncookies (rest whole) left g refl (cookies_stop n p (rest (rest whole)) left w h)))
+    by_key _ g h = other h
+
 if_stops : {A : Type 0} (b : Bool) (x y : Act A) (ts left : List Tok) (w : Why) → (act x ts ≡ Err (stop left w) → IsBegun ts left) → (act y ts ≡ Err (stop left w) → IsBegun ts left) → act (cond b x y) ts ≡ Err (stop left w) → IsBegun ts left
 if_stops true x y ts left w p q e = p e
 if_stops false x y ts left w p q e = q e
@@ -158,7 +185,7 @@ statement_stops p ts left w e = by_key (head ts).key refl e
   where
     by_key : (k : Key) → (head ts).key ≡ k → act (statement_by p (head ts).line k) ts ≡ Err (stop left w) → IsBegun ts left
     by_key key.LineEnd g h = absurd cc
-    by_key key.Set g h = if_stops (p.depth == 0) (take (set_at p)) (refuse why.Inner) ts left w (λ s. in_braces key.Set ts left g refl (set_stops p (rest ts) left w s)) (λ s. refuse_stops {A = Progress} why.Inner ts left w s) h
+    by_key key.Set g h = if_stops (p.depth == 0) (take (set_at (head ts).line p)) (refuse why.Inner) ts left w (λ s. set_stops (head ts).line p ts left w g s) (λ s. refuse_stops {A = Progress} why.Inner ts left w s) h
     by_key key.Table g h = if_stops (p.depth == 0) (take (definition_at p)) (refuse why.Inner) ts left w (λ s. in_braces key.Table ts left g refl (table_stops p (rest ts) left w s)) (λ s. refuse_stops {A = Progress} why.Inner ts left w s) h
     by_key key.Pass g h = in_a_line (rule_stops (head ts).line p ts left w h)
     by_key key.Block g h = in_a_line (rule_stops (head ts).line p ts left w h)

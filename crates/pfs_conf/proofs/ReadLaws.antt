@@ -6,7 +6,7 @@ use Rattle.pfs_conf_tokens.specs.declared.keys.Key.{Key}
 use Rattle.pfs_conf_tokens.specs.declared.keys.Key.TheVariants as key
 use Rattle.pfs_conf_tokens.specs.declared.refusals.LoadRule.{LoadRule}
 use Rattle.pfs_conf_tokens.specs.Keys.{ends_line}
-use Rattle.pfs_conf_tokens.specs.Reading.{ends_text, Refused, broken}
+use Rattle.pfs_conf_tokens.specs.Reading.{ends_text, Refused, broken, stay, chain, done}
 use Rattle.pfs_conf_tokens.specs.Grammar.{Word, Perhaps, absent, present, Until, ends, goes, UpTo}
 use Rattle.pfs_conf_tokens.proofs.ReaderLaws.{word_head, ended_reads, perhaps_reads, Reads, until_reads, up_to_reads}
 use Rattle.pfs_conf_values.specs.Configs.{Conf}
@@ -22,20 +22,22 @@ use Rattle.pfs_conf_filters.specs.declared.phrases.Statement.TheVariants as stat
 use Rattle.pfs_conf_filters.specs.declared.phrases.Verb.{Verb}
 use Rattle.pfs_conf_filters.specs.declared.phrases.Marks.{Marks}
 use Rattle.pfs_conf_filters.proofs.ReadLaws.{no_policy, ends_parameters, verb_reads, parameters_read, flags_read, parameters_head, flags_head}
-use Rattle.pfs_conf_options.specs.Grammar.{no, keep}
+use Rattle.pfs_conf_options.specs.Grammar.{no, keep, proxy}
 use Rattle.pfs_conf_options.proofs.PhraseLaws.{ends_state, state_reads}
-use Rattle.pfs_conf_settings.specs.SettingGrammar.{SettingOf}
+use Rattle.pfs_conf_settings.specs.SettingGrammar.{SettingOf, profile, limit, limits, timeout, timeouts}
 use Rattle.pfs_conf_settings.specs.TableGrammar.{PartsOf}
 use Rattle.pfs_conf_settings.specs.declared.tables.Parts.{Parts}
 use Rattle.pfs_conf_settings.proofs.SettingPhrases.{settings_read}
 use Rattle.pfs_conf_settings.proofs.TablePhrases.{parts_read}
+use Rattle.pfs_conf_settings.proofs.SyncookiePhrases.{syncookies_reads}
+use Rattle.pfs_conf_values.specs.declared.syncookies.Syncookies.{Syncookies}
 use Rattle.pfs_conf.specs.declared.phrases.Clauses.{Clauses}
 use Rattle.pfs_conf.specs.declared.phrases.RuleText.{RuleText}
 use Rattle.pfs_conf.specs.declared.phrases.AnchorText.{AnchorText}
 use Rattle.pfs_conf.specs.declared.progress.Progress.{Progress}
-use Rattle.pfs_conf.specs.Grammar.{ClauseOf, flags, state, RuleOf, names_anchor, AnchorNameOf, unnamed, named, AnchorOf, NewTableOf, StatementOf, blank, set, table, rule, anchor, close, TextOf}
-use Rattle.pfs_conf.specs.Statements.{nothing, with_rule, with_anchor, with_definition, rule_breaks, anchor_breaks, text_breaks}
-use Rattle.pfs_conf.specs.Reading.{with_draft, anchor_closed, clause_at, rule_text_at, rule_line_at, anchor_name_at, brace_at, anchor_parts_at, in_head, anchor_text_at, anchor_at, set_at, new_name_at, definition_at, statement_at, statements_at, text_at}
+use Rattle.pfs_conf.specs.Grammar.{ClauseOf, flags, state, RuleOf, names_anchor, AnchorNameOf, unnamed, named, AnchorOf, NewTableOf, StatementOf, blank, set, table, rule, anchor, close, TextOf, CookiesOf, cookies}
+use Rattle.pfs_conf.specs.Statements.{nothing, with_rule, with_anchor, with_definition, rule_breaks, anchor_breaks, text_breaks, with_cookies, cookies_break}
+use Rattle.pfs_conf.specs.Reading.{with_draft, anchor_closed, clause_at, rule_text_at, rule_line_at, anchor_name_at, brace_at, anchor_parts_at, in_head, anchor_text_at, anchor_at, set_at, new_name_at, definition_at, statement_at, statements_at, text_at, cookies_line_at, setting_line_at, set_by, told}
 use Rattle.pfs_conf.proofs.OnlineLaws.{clause_shrinks, statement_shrinks}
 
 -- ---- rules
@@ -45,22 +47,24 @@ unfolding clause_at
 clause_reads v p (flags g q) f = let h = word_head q.1 in rw (h.0, g, flags_read q) refl
 clause_reads v p (state g (no w s)) f = let h = word_head w in rw (h.0, g, state_reads (no w s) f) refl
 clause_reads v p (state g (keep w s k)) f = let h = word_head w in rw (h.0, g, state_reads (keep w s k) f) refl
+clause_reads v p (state g (proxy w s k)) f = let h = word_head w in rw (h.0, g, state_reads (proxy w s k) f) refl
 
--- a clause begins with one of three words
-clause_head : (Q : Key → Type 0) → Q key.Flags → Q key.No → Q key.Keep → {c d : Clauses} {ts left : List Tok} → ClauseOf c ts d left → Q (head ts).key
-clause_head Q a b c (flags g q) = subst Q (sym (word_head q.1).0) a
-clause_head Q a b c (state g (no w s)) = subst Q (sym (word_head w).0) b
-clause_head Q a b c (state g (keep w s k)) = subst Q (sym (word_head w).0) c
+-- a clause begins with one of four words
+clause_head : (Q : Key → Type 0) → Q key.Flags → Q key.No → Q key.Keep → Q key.Synproxy → {c d : Clauses} {ts left : List Tok} → ClauseOf c ts d left → Q (head ts).key
+clause_head Q a b c e (flags g q) = subst Q (sym (word_head q.1).0) a
+clause_head Q a b c e (state g (no w s)) = subst Q (sym (word_head w).0) b
+clause_head Q a b c e (state g (keep w s k)) = subst Q (sym (word_head w).0) c
+clause_head Q a b c e (state g (proxy w s k)) = subst Q (sym (word_head w).0) e
 
-clauses_head : (Q : Key → Type 0) → Q key.Flags → Q key.No → Q key.Keep → Q key.LineEnd → {c d : Clauses} {ts left : List Tok} → Until key.LineEnd ClauseOf c ts d left → Q (head ts).key
-clauses_head Q a b c e (ends w) = subst Q (sym (word_head w).0) e
-clauses_head Q a b c e (goes q u) = clause_head Q a b c q
+clauses_head : (Q : Key → Type 0) → Q key.Flags → Q key.No → Q key.Keep → Q key.Synproxy → Q key.LineEnd → {c d : Clauses} {ts left : List Tok} → Until key.LineEnd ClauseOf c ts d left → Q (head ts).key
+clauses_head Q a b c e l (ends w) = subst Q (sym (word_head w).0) l
+clauses_head Q a b c e l (goes q u) = clause_head Q a b c e q
 
 clauses_read : (v : Verb) (p : Parameters) → Reads key.LineEnd ends_line ends_state ClauseOf (clause_at v p)
 clauses_read v p = record {
   closes = refl;
   close_follows = refl;
-  begins = λ q. (clause_head (λ k. ends_line k ≡ false) refl refl refl q, clause_head (λ k. ends_state k ≡ true) refl refl refl q);
+  begins = λ q. (clause_head (λ k. ends_line k ≡ false) refl refl refl refl q, clause_head (λ k. ends_state k ≡ true) refl refl refl refl q);
   reads = λ q f. clause_reads v p q f;
   shrinks = clause_shrinks v p;
 }
@@ -68,8 +72,8 @@ clauses_read v p = record {
 pub rule_text_reads : {ts : List Tok} {r : RuleText} {left : List Tok} → RuleOf ts r left → rule_text_at ts ≡ Ok (r, left)
 unfolding rule_text_at
 rule_text_reads {r = r} q =
-    let behind_verb = parameters_head (λ k. no_policy k ≡ true) refl refl refl refl refl refl refl refl refl refl refl q.parameters (clauses_head (λ k. no_policy k ≡ true) refl refl refl refl q.clauses) in
-    let behind_parameters = clauses_head (λ k. ends_parameters k ≡ true) refl refl refl refl q.clauses in
+    let behind_verb = parameters_head (λ k. no_policy k ≡ true) refl refl refl refl refl refl refl refl refl refl refl q.parameters (clauses_head (λ k. no_policy k ≡ true) refl refl refl refl refl q.clauses) in
+    let behind_parameters = clauses_head (λ k. ends_parameters k ≡ true) refl refl refl refl refl q.clauses in
     rw (verb_reads q.verb behind_verb, parameters_read statement.Rule q.parameters behind_parameters, until_reads (clauses_read r.verb r.parameters) q.clauses) refl
 
 pub rule_reads : (n : ℕ) (p : Progress) {ts : List Tok} (r : RuleText) {left : List Tok} → RuleOf ts r left → rule_breaks p.draft r ≡ None → rule_line_at n p ts ≡ Ok (with_rule n r p, left)
@@ -152,9 +156,45 @@ anchor_told n p b q e = rw (anchor_text_reads p q, e) refl
 
 -- ---- options and tables
 
-set_reads : (p : Progress) {d : Drafted} {ts mid left : List Tok} → SettingOf p.draft ts d mid → Word key.LineEnd mid left → set_at p ts ≡ Ok (with_draft d p, left)
+setting_reads : (p : Progress) {d : Drafted} {ts mid left : List Tok} → SettingOf p.draft ts d mid → Word key.LineEnd mid left → setting_line_at p ts ≡ Ok (with_draft d p, left)
+unfolding setting_line_at
+setting_reads p {d = d} s w = rw (settings_read s) (ended_reads (with_draft d p) w)
+
+-- a setting begins with a word of its own
+setting_begins : {d e : Drafted} {ts left : List Tok} (n : ℕ) (p : Progress) → SettingOf d ts e left → set_by n p (head ts).key ≡ stay (setting_line_at p)
+setting_begins n p (profile w v) = rw (word_head w).0 refl
+setting_begins n p (limit w v) = rw (word_head w).0 refl
+setting_begins n p (limits w v l) = rw (word_head w).0 refl
+setting_begins n p (timeout w v) = rw (word_head w).0 refl
+setting_begins n p (timeouts w v l) = rw (word_head w).0 refl
+
+set_reads : (n : ℕ) (p : Progress) {d : Drafted} {ts mid left : List Tok} → SettingOf p.draft ts d mid → Word key.LineEnd mid left → set_at n p ts ≡ Ok (with_draft d p, left)
 unfolding set_at
-set_reads p {d = d} s w = rw (settings_read s) (ended_reads (with_draft d p) w)
+set_reads n p s w = rw (setting_begins n p s) (setting_reads p s w)
+
+-- `set syncookies`, with whether it breaks a load rule
+abbrev pub cookies_end : (n : ℕ) (p : Progress) (s : Syncookies) (left : List Tok) → Result (Progress × List Tok) Refused
+cookies_end n p s left = chain (told (cookies_break s) n) (λ u. done (with_cookies s p)) left
+
+cookies_come : (n : ℕ) (p : Progress) {ts left : List Tok} {s : Syncookies} (q : CookiesOf ts s left) → set_at n p q.a ≡ cookies_end n p s left
+unfolding set_at cookies_line_at
+cookies_come n p {s = s} q =
+    let w = word_head q.word in
+    let l = word_head q.ended in
+    rw (w.0, w.1, syncookies_reads q.cookies (rw l.0 refl), l.0, l.1) refl
+
+pub cookies_statement : (p : Progress) {ts left : List Tok} {s : Syncookies} (q : CookiesOf ts s left) → p.depth ≡ 0 → statement_at p ts ≡ cookies_end (head ts).line p s left
+unfolding statement_at
+cookies_statement p {ts = ts} q e =
+    let w = word_head q.set in
+    let z : (p.depth == 0) ≡ true = ap (λ (n : ℕ). n == 0) e in
+    rw (w.0, z, w.1) (cookies_come (head ts).line p q)
+
+cookies_read : (n : ℕ) (p : Progress) (s : Syncookies) (left : List Tok) → cookies_break s ≡ None → cookies_end n p s left ≡ Ok (with_cookies s p, left)
+cookies_read n p s left e = rw e refl
+
+pub cookies_told : (n : ℕ) (p : Progress) (s : Syncookies) (left : List Tok) (b : LoadRule) → cookies_break s ≡ Some b → cookies_end n p s left ≡ Err (broken b n)
+cookies_told n p s left b e = rw e refl
 
 table_name_reads : (d : Drafted) {ts left : List Tok} {name : List ℕ} → NewTableOf d ts name left → new_name_at d ts ≡ Ok (name, left)
 unfolding new_name_at
@@ -188,7 +228,8 @@ anchor_statement p w res e = let h = word_head w in rw (h.0, h.1) e
 pub statement_reads : {p q : Progress} {ts left : List Tok} → StatementOf p ts q left → statement_at p ts ≡ Ok (q, left)
 unfolding statement_at
 statement_reads (blank w) = let h = word_head w in rw (h.0, h.1) refl
-statement_reads {p = p} (set e w s l) = let h = word_head w in let z : (p.depth == 0) ≡ true = ap (λ (n : ℕ). n == 0) e in rw (h.0, z, h.1) (set_reads p s l)
+statement_reads {p = p} {ts = ts} (set e w s l) = let h = word_head w in let z : (p.depth == 0) ≡ true = ap (λ (n : ℕ). n == 0) e in rw (h.0, z, h.1) (set_reads (head ts).line p s l)
+statement_reads {p = p} {ts = ts} {left = left} (cookies s e q k) = cookies_statement p q e ∙ cookies_read (head ts).line p s left k
 statement_reads {p = p} (table name parts e w n q l) = let h = word_head w in let z : (p.depth == 0) ≡ true = ap (λ (n : ℕ). n == 0) e in rw (h.0, z, h.1) (table_reads p name parts n q l)
 statement_reads {p = p} {ts = ts} {left = left} (rule r q e) = rule_statement p q.verb (Ok (with_rule (head ts).line r p, left)) (rule_reads (head ts).line p r q e)
 statement_reads {p = p} {ts = ts} {left = left} (anchor a q e l) = anchor_statement p q.word (Ok (with_anchor (head ts).line a p, left)) (anchor_reads (head ts).line p q e l)
@@ -201,6 +242,7 @@ any_key k = true
 pub statement_begins : {p q : Progress} {ts left : List Tok} → StatementOf p ts q left → (ends_text (head ts).key ≡ false) × (any_key (head ts).key ≡ true)
 statement_begins (blank w) = rw (word_head w).0 (refl, refl)
 statement_begins (set e w s l) = rw (word_head w).0 (refl, refl)
+statement_begins (cookies s e q k) = rw (word_head q.set).0 (refl, refl)
 statement_begins (table name parts e w n q l) = rw (word_head w).0 (refl, refl)
 statement_begins (rule r q e) = (verb_key q.verb (λ k. ends_text k ≡ false) refl refl, refl)
 statement_begins (anchor a q e l) = rw (word_head q.word).0 (refl, refl)

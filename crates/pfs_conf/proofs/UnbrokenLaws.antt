@@ -70,8 +70,11 @@ comma_acts : (k : Key) → UnbrokenAct (comma_by k)
 comma_acts key.Comma = unbroken_done true
 comma_acts _ = unbroken_done false
 
+pub unbroken_comma : Unbroken comma_at
+unbroken_comma = unbroken_front (λ t. comma_by t.key) (λ t. comma_acts t.key)
+
 unbroken_next : {A : Type 0} (item : A → Reader A) → ((a : A) → Unbroken (item a)) → (a : A) → Unbroken (next_of item a)
-unbroken_next item h a = unbroken_chain comma_at (λ c. item a) (unbroken_front (λ t. comma_by t.key) (λ t. comma_acts t.key)) (λ c. h a)
+unbroken_next item h a = unbroken_chain comma_at (λ c. item a) unbroken_comma (λ c. h a)
 
 pub unbroken_list : {A : Type 0} (stops : Key → Bool) (item : A → Reader A) → ((a : A) → Unbroken (item a)) → (a : A) → Unbroken (list_all stops item a)
 unbroken_list stops item h a = unbroken_chain (item a) (until_all stops (next_of item)) (h a) (λ b. unbroken_until stops (next_of item) (unbroken_next item h) b)

@@ -6,13 +6,13 @@ use Rattle.pfs_conf_tokens.specs.declared.keys.Key.TheVariants as key
 use Rattle.pfs_conf_tokens.specs.declared.refusals.Why.{Why}
 use Rattle.pfs_conf_tokens.specs.declared.refusals.Why.TheVariants as why
 use Rattle.pfs_conf_tokens.specs.Keys.{is_word_key, ends_line}
-use Rattle.pfs_conf_tokens.specs.Reading.{closes_parens, closes_braces, Reader, Act, refuse, on_front, done, chain, skipping, number_at}
+use Rattle.pfs_conf_tokens.specs.Reading.{closes_parens, closes_braces, Reader, Act, refuse, on_front, done, chain, skipping, number_at, comma_at}
 use Rattle.pfs_addr_values.specs.Prefixes.{Network}
 use Rattle.pfs_addr_values.specs.Protocols.{proto_in}
 use Rattle.pfs_addr.specs.Texts.{prefix_of}
 use Rattle.pfs_addr_values.specs.declared.packets.Dir.TheVariants as dir
 use Rattle.pfs_conf_values.specs.Entries.{TextEntry, sign_of}
-use Rattle.pfs_conf_settings.specs.Drafts.{Drafted, with_limit, with_profile, with_timeout}
+use Rattle.pfs_conf_settings.specs.Drafts.{Drafted, with_limit, with_profile, with_timeout, usual_shares}
 use Rattle.pfs_conf_values.specs.Bounds.{greatest_timeout}
 use Rattle.pfs_conf_values.specs.declared.actions.Rate.{Rate}
 use Rattle.pfs_conf_values.specs.declared.actions.Scope.TheVariants as scope
@@ -28,8 +28,8 @@ use Rattle.pfs_conf_filters.specs.declared.phrases.Statement.TheVariants as stat
 use Rattle.pfs_conf_filters.specs.declared.phrases.Verb.TheVariants as verb
 use Rattle.pfs_conf_filters.specs.Values.{in_plain_word, interface_name, ports_of, flag_test}
 use Rattle.pfs_conf_filters.specs.Reading.{behind, clause, part, begins_dir, begins_on, begins_family, begins_proto, begins_from, begins_to, begins_port, begins_flags, interface_at, policy_by, policy_at, verb_by, verb_at, dir_by, dir_at, log_item_by, log_item_at, log_list_by, log_list_at, log_by, log_at, quick_by, quick_at, marks_of, marks_by, marks_at, negation_by, negation_at, interface, on_at, on_part_at, family_by, family_part_at, proto_at, proto_part_at, head_at, close_by, close_at, place_by, place_at, host_by, host_at, equals_by, equals_at, ports_at, ports_part_at, side_host_by, side_host_at, side, side_at, from_part_at, to_part_at, all_hosts, given_hosts, hosts_by, hosts_at, parameters_at, flags_at}
-use Rattle.pfs_conf_options.specs.Options.{none_given, rule_place}
-use Rattle.pfs_conf_options.specs.Reading.{track_by, track_at, rate_of, rate_found, rate_by, rate_at, name_closed_by, name_closed, table_by, table_at, flushed_by, flush_by, flush_at, overload_text_at, mark_once, timeout_by, mark_by, connection_by, option_by, option_at, state_options_at, kept_by, kept_at, kept_clause, behind_state, state_word, state_by, state_at}
+use Rattle.pfs_conf_options.specs.Options.{none_given, proxied, rule_place}
+use Rattle.pfs_conf_options.specs.Reading.{track_by, track_at, rate_of, rate_found, rate_by, rate_at, name_closed_by, name_closed, table_by, table_at, flushed_by, flush_by, flush_at, overload_text_at, mark_once, timeout_by, mark_by, connection_by, option_by, option_at, state_options_at, kept_by, kept_at, kept_clause, proxied_clause, behind_state, state_word, state_by, state_at}
 use Rattle.pfs_conf_tokens.specs.Values.{in_word, table_name, table_name_at, value_at, valued}
 use Rattle.pfs_conf_options.specs.declared.clauses.Track.TheVariants as track
 use Rattle.pfs_conf_options.specs.declared.clauses.Options.{Options}
@@ -43,7 +43,10 @@ use Rattle.pfs_conf_settings.specs.Tables as tables
 use Rattle.pfs_conf_settings.specs.Tables.{again, entry_joined, entries_with, entry_by, entry_at, lined_entry_at, entries_by, braced_entries_at, unless, part_by, part_at, parts_at}
 use Rattle.pfs_conf_settings.specs.TableGrammar.{no_parts}
 use Rattle.pfs_conf_settings.specs.declared.tables.Parts.{Parts}
-use Rattle.pfs_conf.proofs.UnbrokenLaws.{Unbroken, UnbrokenAct, unbroken_done, unbroken_chain, unbroken_front, unbroken_if, unbroken_once, unbroken_perhaps, unbroken_up_to, unbroken_list, unbroken_skipping, unbroken_number}
+use Rattle.pfs_conf_settings.specs.Syncookies.{shares_closed_at, shares_closed_by, end_share_at, end_share_by, share_at, share_by, share_found, share_of, shares_at, shares_by, start_share_at, start_share_by, syncookies_at, syncookies_by}
+use Rattle.pfs_conf_values.specs.declared.syncookies.Syncookies.{Syncookies}
+use Rattle.pfs_conf_values.specs.declared.syncookies.Syncookies.TheVariants as cookies
+use Rattle.pfs_conf.proofs.UnbrokenLaws.{Unbroken, UnbrokenAct, unbroken_done, unbroken_chain, unbroken_front, unbroken_if, unbroken_once, unbroken_perhaps, unbroken_up_to, unbroken_comma, unbroken_list, unbroken_skipping, unbroken_number}
 
 -- ---- parameters
 
@@ -381,6 +384,7 @@ unbroken_state_word f h = unbroken_front (λ t. behind_state f t.key) (λ t. wor
 state_acts : (k : Key) → UnbrokenAct (state_by k)
 state_acts key.No = unbroken_state_word (done state_clause.No) (unbroken_done state_clause.No)
 state_acts key.Keep = unbroken_state_word kept_clause (unbroken_chain kept_at _ unbroken_kept (λ o. unbroken_done (state_clause.Keep o)))
+state_acts key.Synproxy = unbroken_state_word proxied_clause (unbroken_chain kept_at _ unbroken_kept (λ o. unbroken_done (state_clause.Keep (proxied o))))
 state_acts _ = tt
 
 pub unbroken_state : Unbroken state_at
@@ -463,6 +467,60 @@ settings_acts d _ = tt
 pub unbroken_settings : (d : Drafted) → Unbroken (settings_at d)
 unfolding settings_at
 unbroken_settings d = unbroken_front (λ t. settings_by d t.key) (λ t. settings_acts d t.key)
+
+-- ---- SYN cookies (pf.conf(5), OPTIONS, "set syncookies")
+
+share_acts : (text : List ℕ) (k : Key) → UnbrokenAct (share_by text k)
+share_acts text key.Number = found (share_of text)
+  where
+    found : (o : Option ℕ) → UnbrokenAct (share_found o)
+    found None = tt
+    found (Some n) = unbroken_done n
+share_acts text _ = tt
+
+unbroken_share : Unbroken share_at
+unfolding share_at
+unbroken_share = unbroken_front (λ t. share_by t.text t.key) (λ t. share_acts t.text t.key)
+
+shares_closed_acts : (s : Syncookies) (k : Key) → UnbrokenAct (shares_closed_by s k)
+shares_closed_acts s key.CloseParen = unbroken_done s
+shares_closed_acts s _ = tt
+
+end_acts : (start : ℕ) (k : Key) → UnbrokenAct (end_share_by start k)
+end_acts start key.EndWord = unbroken_chain share_at (λ end. shares_closed_at (cookies.Adaptive start end)) unbroken_share
+    (λ end. unbroken_front (λ t. shares_closed_by (cookies.Adaptive start end) t.key) (λ t. shares_closed_acts (cookies.Adaptive start end) t.key))
+end_acts start _ = tt
+
+unbroken_end : (start : ℕ) → Unbroken (end_share_at start)
+unfolding end_share_at
+unbroken_end start = unbroken_front (λ t. end_share_by start t.key) (λ t. end_acts start t.key)
+
+start_acts : (k : Key) → UnbrokenAct (start_share_by k)
+start_acts key.Start = unbroken_chain share_at (λ start. chain comma_at (λ c. end_share_at start)) unbroken_share
+    (λ start. unbroken_chain comma_at (λ c. end_share_at start) unbroken_comma (λ c. unbroken_end start))
+start_acts _ = tt
+
+unbroken_start : Unbroken start_share_at
+unfolding start_share_at
+unbroken_start = unbroken_front (λ t. start_share_by t.key) (λ t. start_acts t.key)
+
+shares_acts : (k : Key) → UnbrokenAct (shares_by k)
+shares_acts key.OpenParen = unbroken_start
+shares_acts _ = unbroken_done usual_shares
+
+unbroken_shares : Unbroken shares_at
+unfolding shares_at
+unbroken_shares = unbroken_front (λ t. shares_by t.key) (λ t. shares_acts t.key)
+
+syncookies_acts : (k : Key) → UnbrokenAct (syncookies_by k)
+syncookies_acts key.Never = unbroken_done cookies.Never
+syncookies_acts key.Always = unbroken_done cookies.Always
+syncookies_acts key.Adaptive = unbroken_shares
+syncookies_acts _ = tt
+
+pub unbroken_syncookies : Unbroken syncookies_at
+unfolding syncookies_at
+unbroken_syncookies = unbroken_front (λ t. syncookies_by t.key) (λ t. syncookies_acts t.key)
 
 -- ---- tables
 

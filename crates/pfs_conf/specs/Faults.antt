@@ -5,11 +5,12 @@ use Rattle.pfs_conf_tokens.specs.Grammar.{UpTo}
 use Rattle.pfs_conf_tokens.specs.declared.keys.Key.TheVariants as key
 use Rattle.pfs_conf_tokens.specs.declared.refusals.LoadRule.{LoadRule}
 use Rattle.pfs_conf_tokens.specs.Lexis.{text_limit, tokens_of}
+use Rattle.pfs_conf_values.specs.declared.syncookies.Syncookies.{Syncookies}
 use Rattle.pfs_conf.specs.declared.phrases.RuleText.{RuleText}
 use Rattle.pfs_conf.specs.declared.phrases.AnchorText.{AnchorText}
 use Rattle.pfs_conf.specs.declared.progress.Progress.{Progress}
-use Rattle.pfs_conf.specs.Statements.{nothing, rule_breaks, anchor_breaks, text_breaks}
-use Rattle.pfs_conf.specs.Grammar.{RuleOf, AnchorOf, StatementOf}
+use Rattle.pfs_conf.specs.Statements.{nothing, rule_breaks, anchor_breaks, cookies_break, text_breaks}
+use Rattle.pfs_conf.specs.Grammar.{RuleOf, AnchorOf, CookiesOf, StatementOf}
 use Rattle.pfs_conf.specs.declared.faults.LoadFault.{LoadFault}
 use Rattle.pfs_conf.specs.Kinds.{fault, too_long, no_memory, kind_of_rule, IsKindAt}
 use Rattle.pfs_conf.specs.Places.{IsBegun}
@@ -22,13 +23,15 @@ pub data Statements : Progress → List Tok → Progress → List Tok → Type 0
   before : {p q r : Progress} {ts mid left : List Tok} → StatementOf p ts q mid → Statements q mid r left → Statements p ts r left
 
 -- the first load rule that a text breaks, with the line at which it is reported. All statements before are read and
--- keep the load rules. Then a rule, or the head of an anchor, breaks one, and its line is that of its first token; or
--- no statement does, and the text as a whole breaks one
+-- keep the load rules. Then a rule, the head of an anchor, or `set syncookies` breaks one, and its line is that of its first
+-- token; or no statement does, and the text as a whole breaks one
 pub data Breaks (ts : List Tok) : LoadRule → ℕ → Type 0 where
   at_rule : {p : Progress} {mid left : List Tok} {broken : LoadRule} (r : RuleText) → Statements nothing ts p mid → RuleOf mid r left
       → rule_breaks p.draft r ≡ Some broken → Breaks ts broken (head mid).line
   at_anchor : {p : Progress} {mid left : List Tok} {broken : LoadRule} (a : AnchorText) → Statements nothing ts p mid → AnchorOf p mid a left
       → anchor_breaks p.depth p.draft a ≡ Some broken → Breaks ts broken (head mid).line
+  at_cookies : {p : Progress} {mid left : List Tok} {broken : LoadRule} (s : Syncookies) → Statements nothing ts p mid → p.depth ≡ 0 → CookiesOf mid s left
+      → cookies_break s ≡ Some broken → Breaks ts broken (head mid).line
   at_end : {p : Progress} {left : List Tok} {broken : LoadRule} {line : ℕ} → UpTo key.End StatementOf nothing ts p left → p.depth ≡ 0
       → text_breaks p ≡ Some (broken, line) → Breaks ts broken line
 

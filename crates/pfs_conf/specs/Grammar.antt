@@ -16,13 +16,15 @@ use Rattle.pfs_conf_filters.specs.Grammar.{VerbOf, ParametersOf, FlagsOf}
 use Rattle.pfs_conf_options.specs.Grammar.{StateOf, TableOf}
 use Rattle.pfs_conf_options.specs.declared.clauses.StateClause.{StateClause}
 use Rattle.pfs_conf_settings.specs.SettingGrammar.{SettingOf}
+use Rattle.pfs_conf_settings.specs.SyncookieGrammar.{SyncookiesOf}
 use Rattle.pfs_conf_settings.specs.TableGrammar.{PartsOf}
 use Rattle.pfs_conf_settings.specs.declared.tables.Parts.{Parts}
+use Rattle.pfs_conf_values.specs.declared.syncookies.Syncookies.{Syncookies}
 use Rattle.pfs_conf.specs.declared.phrases.Clauses.{Clauses}
 use Rattle.pfs_conf.specs.declared.phrases.RuleText.{RuleText}
 use Rattle.pfs_conf.specs.declared.phrases.AnchorText.{AnchorText}
 use Rattle.pfs_conf.specs.declared.progress.Progress.{Progress}
-use Rattle.pfs_conf.specs.Statements.{nothing, no_clauses, with_definition, with_rule, with_anchor, rule_breaks, anchor_breaks, text_breaks}
+use Rattle.pfs_conf.specs.Statements.{nothing, no_clauses, with_cookies, with_definition, with_rule, with_anchor, rule_breaks, anchor_breaks, cookies_break, text_breaks}
 
 -- `flags` or a state clause is added to clauses that do not have it
 pub data ClauseOf : Clauses → List Tok → Clauses → List Tok → Type 0 where
@@ -71,6 +73,16 @@ pub record AnchorOf (p : Progress) (ts : List Tok) (a : AnchorText) (left : List
   pub flags : Perhaps FlagsOf behind_parameters a.flags brace
   pub opens : Word key.OpenBrace brace left
 
+-- "set" "syncookies" syncookies EOL
+pub record CookiesOf (ts : List Tok) (s : Syncookies) (left : List Tok) : Type 0 where
+  pub a : List Tok
+  pub b : List Tok
+  pub c : List Tok
+  pub set : Word key.Set ts a
+  pub word : Word key.Syncookies a b
+  pub cookies : SyncookiesOf b s c
+  pub ended : Word key.LineEnd c left
+
 -- the name of a table that is not defined yet
 abbrev pub NewTableOf : Drafted → List Tok → List ℕ → List Tok → Type 0
 NewTableOf d ts name left = TableOf ts name left × (is_defined name d ≡ false)
@@ -80,6 +92,7 @@ NewTableOf d ts name left = TableOf ts name left × (is_defined name d ≡ false
 pub data StatementOf : Progress → List Tok → Progress → List Tok → Type 0 where
   blank : {p : Progress} {ts left : List Tok} → Word key.LineEnd ts left → StatementOf p ts p left
   set : {p : Progress} {d : Drafted} {ts a b left : List Tok} → p.depth ≡ 0 → Word key.Set ts a → SettingOf p.draft a d b → Word key.LineEnd b left → StatementOf p ts (record p { draft = d }) left
+  cookies : {p : Progress} {ts left : List Tok} (s : Syncookies) → p.depth ≡ 0 → CookiesOf ts s left → cookies_break s ≡ None → StatementOf p ts (with_cookies s p) left
   table : {p : Progress} {ts a b c left : List Tok} (name : List ℕ) (parts : Parts) → p.depth ≡ 0 → Word key.Table ts a → NewTableOf p.draft a name b
       → PartsOf b parts c → Word key.LineEnd c left → StatementOf p ts (with_definition name parts p) left
   rule : {p : Progress} {ts left : List Tok} (r : RuleText) → RuleOf ts r left → rule_breaks p.draft r ≡ None → StatementOf p ts (with_rule (head ts).line r p) left

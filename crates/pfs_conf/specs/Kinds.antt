@@ -19,10 +19,12 @@ kind_of_rule load_rule.OverloadAlone = kind.OverloadAlone
 kind_of_rule load_rule.GlobalConn = kind.GlobalConn
 kind_of_rule load_rule.GlobalRetention = kind.GlobalRetention
 kind_of_rule load_rule.AdaptivePair = kind.AdaptivePair
+kind_of_rule load_rule.CookiePair = kind.CookiePair
 kind_of_rule load_rule.TooDeep = kind.TooDeep
 kind_of_rule load_rule.TooManyRules = kind.TooManyRules
 kind_of_rule load_rule.ConstOverload = kind.ConstOverload
 kind_of_rule load_rule.TooManyTables = kind.TooManyTables
+kind_of_rule load_rule.NeedsProfile = kind.NeedsProfile
 kind_of_rule load_rule.TooManyEntries = kind.TooManyEntries
 
 -- a word that begins with a digit

@@ -21,13 +21,14 @@ use Rattle.pfs_conf_filters.specs.declared.phrases.Statement.TheVariants as stat
 use Rattle.pfs_conf_filters.specs.declared.phrases.Verb.{Verb}
 use Rattle.pfs_conf_options.specs.Reading.{state_at}
 use Rattle.pfs_conf_settings.specs.Settings.{settings_at}
+use Rattle.pfs_conf_settings.specs.Syncookies.{syncookies_at}
 use Rattle.pfs_conf_settings.specs.Tables.{parts_at}
 use Rattle.pfs_conf.specs.declared.phrases.Clauses.{Clauses}
 use Rattle.pfs_conf.specs.declared.phrases.RuleText.{RuleText}
 use Rattle.pfs_conf.specs.declared.phrases.AnchorText.{AnchorText}
 use Rattle.pfs_conf.specs.declared.progress.Progress.{Progress}
 use Rattle.pfs_conf.specs.Grammar.{names_anchor}
-use Rattle.pfs_conf.specs.Statements.{nothing, no_clauses, with_rule, with_anchor, with_definition, rule_breaks, anchor_breaks, text_breaks}
+use Rattle.pfs_conf.specs.Statements.{nothing, no_clauses, with_rule, with_anchor, with_cookies, with_definition, rule_breaks, anchor_breaks, cookies_break, text_breaks}
 
 -- a broken load rule is reported at a line
 abbrev pub told : Option LoadRule → ℕ → Reader (Unit {0})
@@ -54,6 +55,7 @@ abbrev pub clause_by : Verb → Parameters → Clauses → Key → Act Clauses
 clause_by v p c key.Flags = once c.flags (stay (chain flags_at (λ f. done (record c { flags = Some f }))))
 clause_by v p c key.No = once c.state (stay (chain state_at (λ s. done (record c { state = Some s }))))
 clause_by v p c key.Keep = once c.state (stay (chain state_at (λ s. done (record c { state = Some s }))))
+clause_by v p c key.Synproxy = once c.state (stay (chain state_at (λ s. done (record c { state = Some s }))))
 clause_by v p c k = refuse (why_repeated (repeats_policy v k || repeats p k))
 
 unfoldable pub clause_at : Verb → Parameters → Clauses → Reader Clauses
@@ -123,8 +125,21 @@ anchor_at line p ts = chain (anchor_text_at p) (λ a. chain (told (anchor_breaks
 
 -- ---- options and tables
 
-unfoldable pub set_at : Progress → Reader Progress
-set_at p ts = chain (settings_at p.draft) (λ d. ended (with_draft d p)) ts
+-- `set syncookies`, on a line and after these words; its load rule is checked when its line end has been read
+unfoldable pub cookies_line_at : ℕ → Progress → Reader Progress
+cookies_line_at line p ts = chain syncookies_at (λ s. chain (ended s) (λ c. chain (told (cookies_break c) line) (λ u. done (with_cookies c p)))) ts
+
+-- any other setting
+unfoldable pub setting_line_at : Progress → Reader Progress
+setting_line_at p ts = chain (settings_at p.draft) (λ d. ended (with_draft d p)) ts
+
+abbrev pub set_by : ℕ → Progress → Key → Act Progress
+set_by line p key.Syncookies = take (cookies_line_at line p)
+set_by line p _ = stay (setting_line_at p)
+
+-- what follows `set`, on a line
+unfoldable pub set_at : ℕ → Progress → Reader Progress
+set_at line p ts = on_front (λ t. set_by line p t.key) ts
 
 abbrev pub open_by : Key → Act (Unit {0})
 open_by key.OpenAngle = take (done tt)
@@ -164,7 +179,7 @@ inside_anchor depth a = if depth == 0 then refuse why.Statement else a
 
 abbrev pub statement_by : Progress → ℕ → Key → Act Progress
 statement_by p line key.LineEnd = take (done p)
-statement_by p line key.Set = outside p.depth (take (set_at p))
+statement_by p line key.Set = outside p.depth (take (set_at line p))
 statement_by p line key.Table = outside p.depth (take (definition_at p))
 statement_by p line key.Pass = stay (rule_line_at line p)
 statement_by p line key.Block = stay (rule_line_at line p)

@@ -3,7 +3,8 @@ use Rattle.std.specs.Prelude.{ℕ, ◌+◌, Bool, true, false, if◌then◌else�
 use Rattle.std.specs.Option.{option_map}
 use Rattle.pfs_conf_tokens.specs.declared.refusals.LoadRule.{LoadRule}
 use Rattle.pfs_conf_tokens.specs.declared.refusals.LoadRule.TheVariants as load_rule
-use Rattle.pfs_conf_settings.specs.Drafts.{Drafted, empty_draft, number_of_table, with_name, with_table, with_item, const_overload, has_broken_pair, has_too_many_tables, has_too_many_entries}
+use Rattle.pfs_conf_settings.specs.Drafts.{Drafted, empty_draft, number_of_table, with_name, with_table, with_item, const_overload, has_broken_pair, has_too_many_tables, has_too_many_entries, has_unprofiled_cookies, unprofiled, with_syncookies, has_broken_shares}
+use Rattle.pfs_conf_values.specs.declared.syncookies.Syncookies.{Syncookies}
 use Rattle.pfs_conf_values.specs.declared.actions.Action.{Action}
 use Rattle.pfs_conf_values.specs.declared.actions.Action.TheVariants as action
 use Rattle.pfs_conf_values.specs.declared.filters.Filter.{Filter}
@@ -157,6 +158,12 @@ with_anchor line a p = record {
 abbrev pub with_definition : List ℕ → Parts → Progress → Progress
 with_definition name parts p = record p { draft = with_table (record { name = name; is_const = parts.is_const; entries = unwrap_or parts.entries [] }) p.draft }
 
+-- ---- options (pf.conf(5), OPTIONS)
+
+-- `set syncookies`
+abbrev pub with_cookies : Syncookies → Progress → Progress
+with_cookies s p = record p { draft = with_syncookies s p.draft }
+
 -- ---- load rules (own)
 
 -- the first of some load rules that is broken
@@ -193,15 +200,37 @@ anchor_breaks depth d a = first_broken (
     ∷ (load_rule.TooManyRules, is_full d)
     ∷ [])
 
--- the load rules of a text, with the line at which they are reported: an `overload` into a `const` table at the first
--- such rule, the others at line 0
-abbrev pub text_breaks_by : Progress → Option ℕ → Option (LoadRule × ℕ)
-text_breaks_by p (Some n) = Some (load_rule.ConstOverload, slice_index_or p.lines n 0)
-text_breaks_by p None = option_map (λ r. (r, 0)) (first_broken (
-    (load_rule.AdaptivePair, has_broken_pair p.draft)
-    ∷ (load_rule.TooManyTables, has_too_many_tables p.draft)
-    ∷ (load_rule.TooManyEntries, has_too_many_entries p.draft)
-    ∷ []))
+-- the load rule of `set syncookies`
+abbrev pub cookies_break : Syncookies → Option LoadRule
+cookies_break s = first_broken ((load_rule.CookiePair, has_broken_shares s) ∷ [])
 
+-- a load rule at the line at which it is broken, or else what others say
+abbrev pub reported_or : LoadRule → Option (LoadRule × ℕ) → Option ℕ → Option (LoadRule × ℕ)
+reported_or rule others None = others
+reported_or rule others (Some line) = Some (rule, line)
+
+-- the first of some load rules that has a line at which it is broken
+abbrev pub first_reported : List (LoadRule × Option ℕ) → Option (LoadRule × ℕ)
+first_reported [] = None
+first_reported (r ∷ more) = reported_or r.0 (first_reported more) r.1
+
+-- the line of an item of a number
+abbrev pub line_of : Progress → ℕ → ℕ
+line_of p n = slice_index_or p.lines n 0
+
+-- what the text as a whole breaks is reported at line 0
+abbrev pub at_line_0 : Bool → Option ℕ
+at_line_0 false = None
+at_line_0 true = Some 0
+
+-- the load rules of a text, in the order in which they are checked, with the line at which they are reported: what a rule
+-- breaks at the first such rule, the others at line 0
 abbrev pub text_breaks : Progress → Option (LoadRule × ℕ)
-text_breaks p = text_breaks_by p (const_overload p.draft)
+text_breaks p = first_reported (
+    (load_rule.ConstOverload, option_map (line_of p) (const_overload p.draft))
+    ∷ (load_rule.AdaptivePair, at_line_0 (has_broken_pair p.draft))
+    ∷ (load_rule.TooManyTables, at_line_0 (has_too_many_tables p.draft))
+    ∷ (load_rule.NeedsProfile, at_line_0 (has_unprofiled_cookies p.draft))
+    ∷ (load_rule.NeedsProfile, option_map (line_of p) (unprofiled p.draft))
+    ∷ (load_rule.TooManyEntries, at_line_0 (has_too_many_entries p.draft))
+    ∷ [])

@@ -2,15 +2,16 @@
 
 ghost use Rattle.std.specs.Prelude.{◌≡◌, IfSome};
 ghost use Rattle.std.specs.Option.{option_map};
-ghost use Rattle.pfs_conf.specs.Statements.{anchor_breaks, is_full, keeps_on_block, rule_breaks, text_breaks};
+ghost use Rattle.pfs_conf.specs.Statements.{anchor_breaks, cookies_break, is_full, keeps_on_block, rule_breaks, text_breaks};
 
 use crate::numbering::state_options;
 use crate::phrases::{AnchorText, RuleText};
 use crate::progress::Progress;
 use pfs_conf_filters::Verb;
 use pfs_conf_options::StateClause;
-use pfs_conf_settings::Draft;
+use pfs_conf_settings::{Draft, has_broken_shares};
 use pfs_conf_tokens::LoadRule;
+use pfs_conf_values::Syncookies;
 
 /// The first load rule that a rule breaks. (own to this profile)
 pub fn rule_breaks(draft: &Draft, text: &RuleText) -> Option<LoadRule>
@@ -51,6 +52,17 @@ pub fn anchor_breaks(depth: u8, draft: &Draft, text: &AnchorText) -> Option<Load
     }
 }
 
+/// The load rule that `set syncookies` breaks. (own to this profile)
+pub fn cookies_break(syncookies: Syncookies) -> Option<LoadRule>
+    ensures { result ≡ cookies_break syncookies }
+{
+    if has_broken_shares(syncookies) {
+        Some(LoadRule::CookiePair)
+    } else {
+        None
+    }
+}
+
 /// The first load rule that a text as a whole breaks, and the line at which it is reported. (own to this profile)
 pub fn text_breaks(progress: &Progress) -> Option<(LoadRule, u64)>
     ensures { result ≡ text_breaks progress.now }
@@ -62,6 +74,10 @@ pub fn text_breaks(progress: &Progress) -> Option<(LoadRule, u64)>
         Some((LoadRule::AdaptivePair, 0))
     } else if progress.draft.has_too_many_tables() {
         Some((LoadRule::TooManyTables, 0))
+    } else if progress.draft.has_unprofiled_cookies() {
+        Some((LoadRule::NeedsProfile, 0))
+    } else if let Some(rule) = progress.draft.unprofiled() {
+        Some((LoadRule::NeedsProfile, progress.lines.at(rule.0)))
     } else if progress.draft.has_too_many_entries() {
         Some((LoadRule::TooManyEntries, 0))
     } else {

@@ -4,22 +4,58 @@ ghost use Rattle.std.specs.Prelude.{◌≡◌, IfOk, OnOk, true};
 ghost use Rattle.pfs_conf_tokens.specs.Giving.{Gives};
 ghost use Rattle.pfs_addr_values.specs.Names.{is_name};
 ghost use Rattle.pfs_conf.specs.Statements.{with_definition};
-ghost use Rattle.pfs_conf.specs.Reading.{set_at, definition_at, new_name_at};
+ghost use Rattle.pfs_conf.specs.Reading.{cookies_line_at, set_at, setting_line_at, definition_at, new_name_at};
 ghost use Rattle.pfs_conf.specs.Giving.{Comes, IsAtDepth};
 
+use crate::breaking::cookies_break;
 use crate::progress::Progress;
 use pfs_addr_values::{Name, NoMemory};
-use pfs_conf_settings::{Draft, Parts, read_parts_with, read_settings};
+use pfs_conf_settings::{Draft, Parts, read_parts_with, read_settings, read_syncookies};
 use pfs_conf_tokens::{Cursor, Key, ReadError, Refusal, Why};
 use pfs_conf_values::{Entries, TableDef, TableName};
 use std::alloc::Global;
 
-/// Reads what follows `set`, with the line end. (pf.conf(5), OPTIONS)
-#[tactic(auto, using(crate::proofs::OrderLaws::outside_in_order), unfolding(crate::specs::Reading::set_at))]
-pub fn set(cursor: &mut Cursor, progress: &mut Progress) -> Result<(), ReadError>
+/// Reads what follows `set` on this line, with the line end. (pf.conf(5), OPTIONS)
+#[tactic(auto, unfolding(crate::specs::Reading::set_at))]
+pub fn set(cursor: &mut Cursor, progress: &mut Progress, line: u64) -> Result<(), ReadError>
     requires outside { progress.old.depth ≡ 0 }
     ensures order { IsAtDepth progress.new }
-    ensures value { Comes result cursor.new progress.new (set_at progress.old cursor.old) }
+    ensures value { Comes result cursor.new progress.new (set_at line progress.old cursor.old) }
+{
+    match cursor.key() {
+        Key::Syncookies => {
+            cursor.advance();
+            cookies(cursor, progress, line)
+        }
+        _ => setting(cursor, progress),
+    }
+}
+
+/// What follows `set syncookies`. Its load rule is checked when its line end has been read.
+#[tactic(auto, using(crate::proofs::OrderLaws::outside_in_order), unfolding(crate::specs::Reading::cookies_line_at))]
+fn cookies(cursor: &mut Cursor, progress: &mut Progress, line: u64) -> Result<(), ReadError>
+    requires outside { progress.old.depth ≡ 0 }
+    ensures order { IsAtDepth progress.new }
+    ensures value { Comes result cursor.new progress.new (cookies_line_at line progress.old cursor.old) }
+{
+    let syncookies = match read_syncookies(cursor) {
+        Ok(syncookies) => syncookies,
+        Err(refusal) => return Err(ReadError::Refused(refusal)),
+    };
+    cursor.expect(Key::LineEnd)?;
+    if let Some(broken) = cookies_break(syncookies) {
+        return Err(ReadError::Refused(Refusal::Broken(broken, line)));
+    }
+    progress.draft.set_syncookies(syncookies);
+    Ok(())
+}
+
+/// Any other setting.
+#[tactic(auto, using(crate::proofs::OrderLaws::outside_in_order), unfolding(crate::specs::Reading::setting_line_at))]
+fn setting(cursor: &mut Cursor, progress: &mut Progress) -> Result<(), ReadError>
+    requires outside { progress.old.depth ≡ 0 }
+    ensures order { IsAtDepth progress.new }
+    ensures value { Comes result cursor.new progress.new (setting_line_at progress.old cursor.old) }
 {
     read_settings(cursor, &mut progress.draft)?;
     cursor.expect(Key::LineEnd)?;

@@ -27,6 +27,8 @@ pub enum Kind {
     OverloadAlone,
     /// One adaptive value without the other, or a start that is not below its end.
     AdaptivePair,
+    /// Shares of `set syncookies adaptive` of which the end is not below the start.
+    CookiePair,
     /// A port without `proto tcp` or `proto udp` in the same statement.
     PortWithoutProto,
     /// A table that `overload` names is `const`.
@@ -39,6 +41,8 @@ pub enum Kind {
     TooManyRules,
     /// More tables than `set limit tables`.
     TooManyTables,
+    /// `set syncookies` other than `never`, or `synproxy state`, in a text without the profile of OpenBSD 7.4.
+    NeedsProfile,
     /// More entries in all tables than `set limit table-entries`.
     TooManyEntries,
     /// More than 1,048,576 bytes.
@@ -61,12 +65,14 @@ impl Kind {
             Kind::GlobalRetention => "GlobalRetention",
             Kind::OverloadAlone => "OverloadAlone",
             Kind::AdaptivePair => "AdaptivePair",
+            Kind::CookiePair => "CookiePair",
             Kind::PortWithoutProto => "PortWithoutProto",
             Kind::ConstOverload => "ConstOverload",
             Kind::StateOnBlock => "StateOnBlock",
             Kind::TooDeep => "TooDeep",
             Kind::TooManyRules => "TooManyRules",
             Kind::TooManyTables => "TooManyTables",
+            Kind::NeedsProfile => "NeedsProfile",
             Kind::TooManyEntries => "TooManyEntries",
             Kind::TooLong => "TooLong",
             Kind::Memory => "Memory",
@@ -84,10 +90,12 @@ impl Kind {
             LoadRule::GlobalConn => Kind::GlobalConn,
             LoadRule::GlobalRetention => Kind::GlobalRetention,
             LoadRule::AdaptivePair => Kind::AdaptivePair,
+            LoadRule::CookiePair => Kind::CookiePair,
             LoadRule::TooDeep => Kind::TooDeep,
             LoadRule::TooManyRules => Kind::TooManyRules,
             LoadRule::ConstOverload => Kind::ConstOverload,
             LoadRule::TooManyTables => Kind::TooManyTables,
+            LoadRule::NeedsProfile => Kind::NeedsProfile,
             LoadRule::TooManyEntries => Kind::TooManyEntries,
         }
     }

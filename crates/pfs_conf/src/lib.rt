@@ -21,5 +21,5 @@ pub use pfs_conf_show::show;
 pub use pfs_conf_values::{
     Action, Anchor, AnchorName, Config, Entries, Family, Filter, FlagTest, Host, Interface, Item,
     ItemKind, LimitName, Overload, Ports, Profile, Rate, Rule, RuleNo, RuleTimeouts, Scope, Side,
-    StateOptions, TableDef, TableName, TableNo, TimeoutName,
+    StateOptions, Syncookies, TableDef, TableName, TableNo, TimeoutName,
 };

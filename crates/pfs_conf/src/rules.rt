@@ -112,7 +112,7 @@ fn clause(
                 ..clauses
             })
         }
-        Key::No | Key::Keep => {
+        Key::No | Key::Keep | Key::Synproxy => {
             if clauses.state.is_some() {
                 return Err(Refusal::Stop(Why::Again));
             }

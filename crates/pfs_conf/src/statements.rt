@@ -82,7 +82,7 @@ fn statement(alloc: Global, cursor: &mut Cursor, progress: &mut Progress) -> Res
         ))),
         Key::Set => {
             cursor.advance();
-            set(cursor, progress)
+            set(cursor, progress, line)
         }
         Key::Table => {
             cursor.advance();

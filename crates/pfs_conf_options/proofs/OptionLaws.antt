@@ -15,9 +15,9 @@ use Rattle.pfs_conf_options.specs.declared.clauses.Track.TheVariants as track
 use Rattle.pfs_conf_options.specs.declared.clauses.Options.{Options}
 use Rattle.pfs_conf_options.specs.declared.clauses.StateClause.{StateClause}
 use Rattle.pfs_conf_options.specs.declared.clauses.StateClause.TheVariants as clause
-use Rattle.pfs_conf_options.specs.Options.{none_given, rule_place}
+use Rattle.pfs_conf_options.specs.Options.{none_given, proxied, rule_place}
 use Rattle.pfs_conf_values.specs.Bounds.{greatest_timeout}
-use Rattle.pfs_conf_options.specs.Reading.{track_by, track_at, rate_of, rate_found, rate_by, rate_at, name_closed_by, name_closed, table_by, table_at, flushed_by, flush_by, flush_at, overload_text_at, mark_once, timeout_by, mark_by, connection_by, option_by, option_at, state_options_at, kept_by, kept_at, kept_clause, behind_state, state_word, state_by, state_at}
+use Rattle.pfs_conf_options.specs.Reading.{track_by, track_at, rate_of, rate_found, rate_by, rate_at, name_closed_by, name_closed, table_by, table_at, flushed_by, flush_by, flush_at, overload_text_at, mark_once, timeout_by, mark_by, connection_by, option_by, option_at, state_options_at, kept_by, kept_at, kept_clause, proxied_clause, behind_state, state_word, state_by, state_at}
 use Rattle.pfs_conf_tokens.specs.Values.{table_name_at}
 
 -- ---- what follows an option's word
@@ -151,6 +151,9 @@ online_kept = online_front (λ t. kept_by t.key) (λ t. kept_acts t.key)
 online_kept_clause : Online inside kept_clause
 online_kept_clause = online_chain kept_at _ online_kept (λ o. online_done (clause.Keep o))
 
+online_proxied_clause : Online inside proxied_clause
+online_proxied_clause = online_chain kept_at _ online_kept (λ o. online_done (clause.Keep (proxied o)))
+
 online_state_word : (f : List Tok → Result (StateClause × List Tok) Refused) → Online inside f → Online inside (state_word f)
 online_state_word f h = online_taking (λ t. behind_state f t.key) (λ t. taking t.key)
   where
@@ -161,6 +164,7 @@ online_state_word f h = online_taking (λ t. behind_state f t.key) (λ t. taking
 state_taking : (k : Key) → Taking inside k (state_by k)
 state_taking key.No = (refl, online_state_word (done clause.No) (online_done clause.No))
 state_taking key.Keep = (refl, online_state_word kept_clause online_kept_clause)
+state_taking key.Synproxy = (refl, online_state_word proxied_clause online_proxied_clause)
 state_taking _ = tt
 
 pub online_state : Online inside state_at

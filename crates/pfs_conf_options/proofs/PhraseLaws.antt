@@ -25,9 +25,9 @@ use Rattle.pfs_conf_options.specs.declared.clauses.OverloadText.{OverloadText}
 use Rattle.pfs_conf_options.specs.declared.clauses.Options.{Options}
 use Rattle.pfs_conf_options.specs.declared.clauses.StateClause.{StateClause}
 use Rattle.pfs_conf_options.specs.declared.clauses.StateClause.TheVariants as clause
-use Rattle.pfs_conf_options.specs.Options.{none_given, rule_place}
-use Rattle.pfs_conf_options.specs.Grammar.{TrackOf, bare, rule, global, IsRateText, RateOf, TableOf, FlushOf, nothing, own, all, OverloadOf, OptionOf, max, source_track, max_src_nodes, max_src_states, max_src_conn, max_src_conn_rate, overload, sloppy, floating, no_sync, timeout, KeptOf, plainly, listed, StateOf, no, keep}
-use Rattle.pfs_conf_options.specs.Reading.{track_by, track_at, count_in, count_written, rate_with, rate_parts, rate_of, rate_found, rate_by, rate_at, name_closed_by, name_closed, table_by, table_at, flushed_by, flush_by, flush_at, overload_text_at, mark_once, timeout_by, mark_by, connection_by, option_by, option_at, state_options_at, kept_by, kept_at, kept_clause, behind_state, state_word, state_by, state_at}
+use Rattle.pfs_conf_options.specs.Options.{none_given, proxied, rule_place}
+use Rattle.pfs_conf_options.specs.Grammar.{TrackOf, bare, rule, global, IsRateText, RateOf, TableOf, FlushOf, nothing, own, all, OverloadOf, OptionOf, max, source_track, max_src_nodes, max_src_states, max_src_conn, max_src_conn_rate, overload, sloppy, floating, no_sync, timeout, KeptOf, plainly, listed, StateOf, no, keep, proxy}
+use Rattle.pfs_conf_options.specs.Reading.{track_by, track_at, count_in, count_written, rate_with, rate_parts, rate_of, rate_found, rate_by, rate_at, name_closed_by, name_closed, table_by, table_at, flushed_by, flush_by, flush_at, overload_text_at, mark_once, timeout_by, mark_by, connection_by, option_by, option_at, state_options_at, kept_by, kept_at, kept_clause, proxied_clause, behind_state, state_word, state_by, state_at}
 use Rattle.pfs_conf_tokens.specs.Values.{table_name_at, valued}
 use Rattle.pfs_conf_options.proofs.OptionLaws.{option_shrinks}
 
@@ -435,24 +435,32 @@ state_is ts x left e = by_key (head ts).key refl e
         let s = state_word_is kept_clause (rest ts) x left h in
         let k = read_then kept_at KeptOf kept_is (λ o. clause.Keep o) (rest (rest ts)) x left s.1 in
         subst (λ (z : StateClause). StateOf ts z left) k.2 (keep (word_is key.Keep ts g (λ q. cc)) s.0 k.1)
+    by_key key.Synproxy g h =
+        let s = state_word_is proxied_clause (rest ts) x left h in
+        let k = read_then kept_at KeptOf kept_is (λ o. clause.Keep (proxied o)) (rest (rest ts)) x left s.1 in
+        subst (λ (z : StateClause). StateOf ts z left) k.2 (proxy (word_is key.Synproxy ts g (λ q. cc)) s.0 k.1)
     by_key _ g h = absurd (not_refused _ _ _ h)
 
 pub state_reads : {ts : List Tok} {x : StateClause} {left : List Tok} → StateOf ts x left → ends_state (head left).key ≡ true → state_at ts ≡ Ok (x, left)
 unfolding state_at
 state_reads (no w v) f = let h = word_head w in let i = word_head v in rw (h.0, h.1, i.0, i.1) refl
 state_reads (keep w v k) f = let h = word_head w in let i = word_head v in rw (h.0, h.1, i.0, i.1, kept_reads k f) refl
+state_reads (proxy w v k) f = let h = word_head w in let i = word_head v in rw (h.0, h.1, i.0, i.1, kept_reads k f) refl
 
--- a state clause begins with `no` or `keep`
+-- a state clause begins with `no`, `keep` or `synproxy`
 abbrev pub starts_state : Key → Bool
 starts_state key.No = true
 starts_state key.Keep = true
+starts_state key.Synproxy = true
 starts_state _ = false
 
 pub state_begins : {ts : List Tok} {x : StateClause} {left : List Tok} → StateOf ts x left → starts_state (head ts).key ≡ true
 state_begins (no w v) = rw (word_head w).0 refl
 state_begins (keep w v k) = rw (word_head w).0 refl
+state_begins (proxy w v k) = rw (word_head w).0 refl
 
--- and not with a key that is neither
-pub state_avoids : (g : Key → Bool) → g key.No ≡ false → g key.Keep ≡ false → {ts : List Tok} {x : StateClause} {left : List Tok} → StateOf ts x left → g (head ts).key ≡ false
-state_avoids g a b (no w v) = rw (word_head w).0 a
-state_avoids g a b (keep w v k) = rw (word_head w).0 b
+-- and not with a key that is none of them
+pub state_avoids : (g : Key → Bool) → g key.No ≡ false → g key.Keep ≡ false → g key.Synproxy ≡ false → {ts : List Tok} {x : StateClause} {left : List Tok} → StateOf ts x left → g (head ts).key ≡ false
+state_avoids g a b c (no w v) = rw (word_head w).0 a
+state_avoids g a b c (keep w v k) = rw (word_head w).0 b
+state_avoids g a b c (proxy w v k) = rw (word_head w).0 c

@@ -21,9 +21,9 @@ use Rattle.pfs_conf_options.specs.declared.clauses.Track.TheVariants as track
 use Rattle.pfs_conf_options.specs.declared.clauses.OverloadText.{OverloadText}
 use Rattle.pfs_conf_options.specs.declared.clauses.Options.{Options}
 use Rattle.pfs_conf_options.specs.declared.clauses.StateClause.{StateClause}
-use Rattle.pfs_conf_options.specs.Options.{none_given, options_given, rule_place, has_connection_limit, scope_by_track, states_global, has_overload_alone, has_global_connections, has_global_retention, has_broken_rule_pair, overload_to, resolved_options}
+use Rattle.pfs_conf_options.specs.Options.{none_given, options_given, proxied, rule_place, has_connection_limit, scope_by_track, states_global, has_overload_alone, has_global_connections, has_global_retention, has_broken_rule_pair, overload_to, resolved_options}
 use Rattle.pfs_conf_options.specs.Bounds.{AreRead}
-use Rattle.pfs_conf_options.specs.Grammar.{TableOf, OptionOf, max, source_track, max_src_nodes, max_src_states, max_src_conn, max_src_conn_rate, overload, sloppy, floating, no_sync, timeout, plainly, listed, StateOf, no, keep}
+use Rattle.pfs_conf_options.specs.Grammar.{TableOf, OptionOf, max, source_track, max_src_nodes, max_src_states, max_src_conn, max_src_conn_rate, overload, sloppy, floating, no_sync, timeout, plainly, listed, StateOf, no, keep, proxy}
 use Rattle.pfs_conf_options.proofs.OptionLaws.{timeout_place_below, rule_place_is}
 
 -- ---- what is read
@@ -122,11 +122,17 @@ more_keep (ends w) a = a
 more_keep (goes (plain q) u) a = more_keep u (option_keeps q a)
 more_keep (goes (comma w q) u) a = more_keep u (option_keeps q a)
 
+-- those of `synproxy state` have the same bounds
+proxied_read : {o : Options} → AreRead o → AreRead (proxied o)
+proxied_read a = record { max = a.max; max_src_nodes = a.max_src_nodes; max_src_states = a.max_src_states; max_src_conn = a.max_src_conn; max_src_conn_rate = a.max_src_conn_rate; overload = a.overload; no_interval = a.no_interval; timeouts = a.timeouts; size = a.size }
+
 -- the options of a state clause that is read are within their bounds
 pub state_within : {ts : List Tok} {x : StateClause} {left : List Tok} → StateOf ts x left → AreRead (options_given x)
 state_within (no w v) = no_options_read
 state_within (keep w v plainly) = no_options_read
 state_within (keep w v (listed p q)) = more_keep q.others (option_keeps q.begins no_options_read)
+state_within (proxy w v plainly) = proxied_read no_options_read
+state_within (proxy w v (listed p q)) = proxied_read (more_keep q.others (option_keeps q.begins no_options_read))
 
 -- ---- what is resolved
 

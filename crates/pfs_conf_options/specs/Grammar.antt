@@ -17,7 +17,7 @@ use Rattle.pfs_conf_options.specs.declared.clauses.OverloadText.{OverloadText}
 use Rattle.pfs_conf_options.specs.declared.clauses.Options.{Options}
 use Rattle.pfs_conf_options.specs.declared.clauses.StateClause.{StateClause}
 use Rattle.pfs_conf_options.specs.declared.clauses.StateClause.TheVariants as clause
-use Rattle.pfs_conf_options.specs.Options.{none_given, rule_place}
+use Rattle.pfs_conf_options.specs.Options.{none_given, proxied, rule_place}
 
 -- after `source-track`: nothing, `rule` or `global`
 pub data TrackOf : List Tok → Track → List Tok → Type 0 where
@@ -81,12 +81,13 @@ pub data OptionOf : Options → List Tok → Options → List Tok → Type 0 whe
       → slice_index_or o.timeouts place None ≡ None → Number 0 (greatest_timeout place) mid n left
       → OptionOf o ts (record o { timeouts = slice_set o.timeouts place (Some n) }) left
 
--- after `keep state`: nothing, or options in parentheses with an optional comma between two
+-- after `keep state` or `synproxy state`: nothing, or options in parentheses with an optional comma between two
 pub data KeptOf : List Tok → Options → List Tok → Type 0 where
   plainly : {ts : List Tok} → KeptOf ts none_given ts
   listed : {ts mid left : List Tok} {o : Options} → Word key.OpenParen ts mid → ListOf key.CloseParen OptionOf none_given mid o left → KeptOf ts o left
 
--- `no state`, or `keep state` with its options
+-- `no state`, or `keep state` or `synproxy state` with its options
 pub data StateOf : List Tok → StateClause → List Tok → Type 0 where
   no : {ts mid left : List Tok} → Word key.No ts mid → Word key.State mid left → StateOf ts clause.No left
   keep : {ts mid behind left : List Tok} {o : Options} → Word key.Keep ts mid → Word key.State mid behind → KeptOf behind o left → StateOf ts (clause.Keep o) left
+  proxy : {ts mid behind left : List Tok} {o : Options} → Word key.Synproxy ts mid → Word key.State mid behind → KeptOf behind o left → StateOf ts (clause.Keep (proxied o)) left

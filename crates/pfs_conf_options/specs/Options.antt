@@ -32,8 +32,13 @@ none_given = record {
   sloppy = false;
   floating = false;
   no_sync = false;
+  synproxy = false;
   timeouts = no_timeouts;
 }
+
+-- the same options of `synproxy state` (pf.conf(5), STATEFUL FILTERING)
+abbrev pub proxied : Options → Options
+proxied o = record o { synproxy = true }
 
 -- the options of a state clause; `no state` has none
 abbrev pub options_given : StateClause → Options
@@ -112,6 +117,7 @@ resolved_options o table = record {
   max_src_conn_rate = o.max_src_conn_rate;
   overload = overload_to o.overload table;
   sloppy = o.sloppy;
+  synproxy = o.synproxy;
   timeouts = o.timeouts;
 }
 

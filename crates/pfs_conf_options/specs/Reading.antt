@@ -16,7 +16,7 @@ use Rattle.pfs_conf_options.specs.declared.clauses.OverloadText.{OverloadText}
 use Rattle.pfs_conf_options.specs.declared.clauses.Options.{Options}
 use Rattle.pfs_conf_options.specs.declared.clauses.StateClause.{StateClause}
 use Rattle.pfs_conf_options.specs.declared.clauses.StateClause.TheVariants as clause
-use Rattle.pfs_conf_options.specs.Options.{none_given, rule_place}
+use Rattle.pfs_conf_options.specs.Options.{none_given, proxied, rule_place}
 
 -- ---- what follows an option's word
 
@@ -152,7 +152,7 @@ option_at o ts = on_front (λ t. option_by t.key o) ts
 unfoldable pub state_options_at : Reader Options
 state_options_at ts = list_all closes_parens option_at none_given ts
 
--- after `keep state`: options in parentheses, or none
+-- after `keep state` or `synproxy state`: options in parentheses, or none
 abbrev pub kept_by : Key → Act Options
 kept_by key.OpenParen = take state_options_at
 kept_by _ = stay (done none_given)
@@ -164,6 +164,10 @@ kept_at ts = on_front (λ t. kept_by t.key) ts
 abbrev pub kept_clause : Reader StateClause
 kept_clause ts = chain kept_at (λ o. done (clause.Keep o)) ts
 
+-- and that `synproxy state` makes
+abbrev pub proxied_clause : Reader StateClause
+proxied_clause ts = chain kept_at (λ o. done (clause.Keep (proxied o))) ts
+
 -- the word `state`, and what follows it
 abbrev pub behind_state : Reader StateClause → Key → Act StateClause
 behind_state f key.State = take f
@@ -172,10 +176,11 @@ behind_state f _ = refuse why.Plain
 abbrev pub state_word : Reader StateClause → Reader StateClause
 state_word f ts = on_front (λ t. behind_state f t.key) ts
 
--- `no state`, or `keep state` with its options
+-- `no state`, or `keep state` or `synproxy state` with its options
 abbrev pub state_by : Key → Act StateClause
 state_by key.No = take (state_word (done clause.No))
 state_by key.Keep = take (state_word kept_clause)
+state_by key.Synproxy = take (state_word proxied_clause)
 state_by _ = refuse why.Plain
 
 unfoldable pub state_at : Reader StateClause

@@ -22,8 +22,8 @@ pub struct OverloadText {
     pub flush: Option<Scope>,
 }
 
-/// The options of `keep state`, as they are written; each occurs at most once. Each maximum is 1 to 4294967295.
-/// (pf.conf(5), STATEFUL TRACKING OPTIONS)
+/// The options of `keep state` or of `synproxy state`, as they are written; each occurs at most once. Each maximum is 1 to
+/// 4294967295. (pf.conf(5), STATEFUL TRACKING OPTIONS)
 #[derive(Debug, Clone, Copy, PartialEq, Eq)]
 pub struct Options {
     /// `max`: the states of the rule.
@@ -46,6 +46,8 @@ pub struct Options {
     pub floating: bool,
     /// `no-sync`, which has no effect here.
     pub no_sync: bool,
+    /// Whether they are those of `synproxy state`.
+    pub synproxy: bool,
     /// The rule's own timeouts: those of a state and `src.track` up to 2147483647 seconds, the adaptive ones up to
     /// 4294967295 states. A rule has no `interval`.
     pub timeouts: RuleTimeouts,
@@ -70,6 +72,7 @@ impl Options {
             sloppy: false,
             floating: false,
             no_sync: false,
+            synproxy: false,
             timeouts: RuleTimeouts::new(),
         }
     }
@@ -80,6 +83,6 @@ impl Options {
 pub enum StateClause {
     /// `no state`
     No,
-    /// `keep state`, with its options.
+    /// `keep state`, with its options, or `synproxy state`, with its own.
     Keep(Options),
 }

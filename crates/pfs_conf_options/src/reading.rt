@@ -4,7 +4,7 @@
 ghost use Rattle.std.specs.Prelude.{◌≡◌, ◌<◌, ◌≤◌, IfOk, IfSome, MatchBool, Ok, Err, Some};
 ghost use Rattle.pfs_conf_tokens.specs.Reading.{Reader, closes_parens, act, chain, done, once, take, until_all, next_of, list_all, number_at};
 ghost use Rattle.pfs_conf_tokens.specs.Giving.{Gives};
-ghost use Rattle.pfs_conf_options.specs.Options.{rule_place, options_given};
+ghost use Rattle.pfs_conf_options.specs.Options.{rule_place, options_given, proxied};
 ghost use Rattle.pfs_conf_options.specs.Bounds.{AreRead};
 ghost use Rattle.pfs_conf_values.specs.Bounds.{greatest_timeout};
 ghost use Rattle.pfs_conf_options.specs.Reading.{track_at, count_written, rate_of, rate_at, table_at, flush_at, overload_text_at, state_mark_at, timeout_at, connection_at, option_at, state_options_at, kept_at, state_at};
@@ -13,8 +13,8 @@ use crate::clauses::{Options, OverloadText, StateClause, Track};
 use pfs_conf_tokens::{Cursor, Key, Refusal, Why, digits, number, split_at_byte, table_name};
 use pfs_conf_values::{Rate, Scope, TableName};
 
-/// Reads the state clause of a rule, at its `no` or `keep`:
-/// `no state`, or `keep state` with its options in parentheses, if any.
+/// Reads the state clause of a rule, at its `no`, `keep` or `synproxy`:
+/// `no state`, or `keep state` or `synproxy state` with its options in parentheses, if any.
 ///
 /// A `(` after `no state` is left where it is. It refuses an option that is given already with `Why::Again`, at its
 /// word; what is no number, or no rate, within the option's range with `Why::Number`; and anything else that continues
@@ -41,7 +41,22 @@ fn clause(cursor: &mut Cursor) -> Result<StateClause, Refusal>
             cursor.expect(Key::State)?;
             Ok(StateClause::Keep(kept(cursor)?))
         }
+        Key::Synproxy => {
+            cursor.advance();
+            cursor.expect(Key::State)?;
+            Ok(StateClause::Keep(proxied(kept(cursor)?)))
+        }
         _ => Err(Refusal::Stop(Why::Plain)),
+    }
+}
+
+/// The same options of `synproxy state`.
+fn proxied(options: Options) -> Options
+    ensures { result ≡ proxied options }
+{
+    Options {
+        synproxy: true,
+        ..options
     }
 }
 

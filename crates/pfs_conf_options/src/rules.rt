@@ -95,6 +95,7 @@ impl Options {
             max_src_conn_rate: self.max_src_conn_rate,
             overload: overload_to(self.overload, table),
             sloppy: self.sloppy,
+            synproxy: self.synproxy,
             timeouts: self.timeouts,
         }
     }

@@ -1,5 +1,5 @@
 -- The lines of rules and anchors are read again.
-use Rattle.std.proofs.Common.{◌≡◌, ◌∙◌, ℕ, suc, true, false, All, List, [], ◌∷◌, ◌++◌, length, Option, Some, None, IfSome, refl, sym, ap, subst, append_assoc}
+use Rattle.std.proofs.Common.{◌≡◌, ◌∙◌, ℕ, suc, Bool, true, false, All, List, [], ◌∷◌, ◌++◌, length, Option, Some, None, IfSome, refl, sym, ap, subst, append_assoc}
 use Rattle.std.specs.Prelude.{codes}
 use Rattle.pfs_conf_tokens.specs.declared.keys.Key.TheVariants as key
 use Rattle.pfs_conf_tokens.specs.Grammar.{Until, ends, goes, present}
@@ -24,7 +24,7 @@ use Rattle.pfs_conf.specs.Statements.{no_clauses}
 use Rattle.pfs_conf.specs.declared.phrases.Clauses.{Clauses}
 use Rattle.pfs_conf.specs.declared.progress.Progress.{Progress}
 use Rattle.pfs_conf_show.specs.Filters.{dir_text, family_text, flags_text, hosts_text, on_text, proto_text, quick_text}
-use Rattle.pfs_conf_show.specs.Options.{state_text}
+use Rattle.pfs_conf_show.specs.Options.{kept_text, options_text, state_text}
 use Rattle.pfs_conf_show.specs.Texts.{anchor_text, name_text, rule_text, verb_text}
 use Rattle.pfs_conf_round_trip.proofs.Said.{state_said}
 use Rattle.pfs_conf_round_trip.proofs.StatementsSaid.{anchor_phrase, rule_phrase, verb_said}
@@ -43,7 +43,11 @@ verb_reads (action.Keep o) line more b = pass (word_first false line (codes "pas
 state_break : (tables : List TableDef) (a : Action) (more : List ℕ) → breaks (state_text tables a ++ 10 ∷ more) ≡ true
 state_break tables action.Block more = refl
 state_break tables action.Pass more = refl
-state_break tables (action.Keep o) more = refl
+state_break tables (action.Keep o) more = by o.synproxy
+  where
+    by : (s : Bool) → breaks ((kept_text s ++ options_text tables o) ++ 10 ∷ more) ≡ true
+    by false = refl
+    by true = refl
 
 -- flags that are given, and a state clause or none
 abbrev clauses_said : List TableDef → FlagTest → Action → Clauses
@@ -53,7 +57,10 @@ state_reads : (tables : List TableDef) (f : FlagTest) (a : Action) (line : ℕ) 
     → Until key.LineEnd ClauseOf (record no_clauses { flags = Some f }) (at line (state_text tables a ++ 10 ∷ more)) (clauses_said tables f a) (tokens 0 false (suc line) more)
 state_reads tables f action.Block line more t h = ends (line_end true line more)
 state_reads tables f action.Pass line more t h = goes (state refl (no_state_reads line (10 ∷ more) refl)) (ends (line_end true line more))
-state_reads tables f (action.Keep o) line more t h = goes (state refl (keep_state_reads tables o line (10 ∷ more) t h refl)) (ends (line_end true line more))
+state_reads tables f (action.Keep o) line more t h =
+    let P : List ℕ → Type 0 = λ z. Until key.LineEnd ClauseOf (record no_clauses { flags = Some f }) (at line z) (clauses_said tables f (action.Keep o)) (tokens 0 false (suc line) more) in
+    subst P (sym (append_assoc (kept_text o.synproxy) (options_text tables o) (10 ∷ more)))
+    (goes (state refl (keep_state_reads tables o line (10 ∷ more) t h refl)) (ends (line_end true line more)))
 
 clauses_read : (tables : List TableDef) (f : FlagTest) (a : Action) (line : ℕ) (more : List ℕ) → All IsTable tables → IsFlagTest f → IsAction (length tables) a
     → Until key.LineEnd ClauseOf no_clauses (at line (flags_text f ++ (state_text tables a ++ 10 ∷ more))) (clauses_said tables f a) (tokens 0 false (suc line) more)

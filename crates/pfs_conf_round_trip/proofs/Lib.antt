@@ -7,6 +7,7 @@ mod FilterPhrases
 mod Lists
 mod OptionPhrases
 mod SettingPhrases
+mod SyncookiePhrases
 mod TablePhrases
 mod Numbering
 mod StatementsSaid

@@ -5,11 +5,11 @@ use Rattle.std.specs.List.{flat_map}
 use Rattle.std.specs.Option.{option_map}
 use Rattle.pfs_conf_tokens.specs.declared.keys.Key.{Key}
 use Rattle.pfs_conf_tokens.specs.declared.keys.Key.TheVariants as key
-use Rattle.pfs_conf_tokens.specs.Grammar.{Number}
+use Rattle.pfs_conf_tokens.specs.Grammar.{Number, Word}
 use Rattle.pfs_conf_tokens.specs.Tokens.{token}
 use Rattle.pfs_conf_tokens.specs.Words.{key_of_text}
 use Rattle.pfs_conf_tokens.proofs.ShownLaws.{breaks, decimal_text, is_word_text, key_of_decimal, number_of-decimal, split_around_append, word_then}
-use Rattle.pfs_conf_tokens.proofs.WordKeys.{key_of_Flush, key_of_Global, key_of_Keep, key_of_Max, key_of_MaxSrcConn, key_of_MaxSrcConnRate, key_of_MaxSrcNodes, key_of_MaxSrcStates, key_of_No, key_of_Overload, key_of_Rule, key_of_Sloppy, key_of_SourceTrack, key_of_State, key_of_TcpFirst, key_of_TcpOpening, key_of_TcpEstablished, key_of_TcpClosing, key_of_TcpFinwait, key_of_TcpClosed, key_of_UdpFirst, key_of_UdpSingle, key_of_UdpMultiple, key_of_OtherFirst, key_of_OtherSingle, key_of_OtherMultiple, key_of_SrcTrack, key_of_AdaptiveStart, key_of_AdaptiveEnd}
+use Rattle.pfs_conf_tokens.proofs.WordKeys.{key_of_Flush, key_of_Global, key_of_Keep, key_of_Max, key_of_MaxSrcConn, key_of_MaxSrcConnRate, key_of_MaxSrcNodes, key_of_MaxSrcStates, key_of_No, key_of_Overload, key_of_Rule, key_of_Sloppy, key_of_SourceTrack, key_of_State, key_of_Synproxy, key_of_TcpFirst, key_of_TcpOpening, key_of_TcpEstablished, key_of_TcpClosing, key_of_TcpFinwait, key_of_TcpClosed, key_of_UdpFirst, key_of_UdpSingle, key_of_UdpMultiple, key_of_OtherFirst, key_of_OtherSingle, key_of_OtherMultiple, key_of_SrcTrack, key_of_AdaptiveStart, key_of_AdaptiveEnd}
 use Rattle.pfs_addr_values.specs.Names.{is_name}
 use Rattle.pfs_addr.proofs.PieceLaws.{decimal_lacks}
 use Rattle.pfs_conf_values.specs.Invariants.{IsTable}
@@ -22,14 +22,14 @@ use Rattle.pfs_conf_values.specs.declared.actions.Scope.{Scope}
 use Rattle.pfs_conf_values.specs.declared.actions.Scope.TheVariants as scope
 use Rattle.pfs_conf_values.specs.declared.actions.StateOptions.{StateOptions}
 use Rattle.pfs_conf_values.specs.declared.tables.TableDef.{TableDef}
-use Rattle.pfs_conf_options.specs.Grammar.{FlushOf, KeptOf, OptionOf, OverloadOf, RateOf, StateOf, all, global, keep, listed, max, max_src_conn, max_src_conn_rate, max_src_nodes, max_src_states, no, nothing, overload, own, plainly, rule, sloppy, source_track, timeout}
+use Rattle.pfs_conf_options.specs.Grammar.{FlushOf, KeptOf, OptionOf, OverloadOf, RateOf, StateOf, all, global, keep, listed, max, max_src_conn, max_src_conn_rate, max_src_nodes, max_src_states, no, nothing, overload, own, plainly, proxy, rule, sloppy, source_track, timeout}
 use Rattle.pfs_conf_options.specs.Options.{none_given, rule_place}
 use Rattle.pfs_conf_options.specs.declared.clauses.Options.{Options}
 use Rattle.pfs_conf_options.specs.declared.clauses.OverloadText.{OverloadText}
 use Rattle.pfs_conf_options.specs.declared.clauses.StateClause.TheVariants as clause
 use Rattle.pfs_conf_options.specs.declared.clauses.Track.{Track}
 use Rattle.pfs_conf_options.specs.declared.clauses.Track.TheVariants as track
-use Rattle.pfs_conf_show.specs.Options.{flush_text, option_texts, options_text, overload_text, rate_text, rule_timeout_text, scope_text, sloppy_texts}
+use Rattle.pfs_conf_show.specs.Options.{flush_text, kept_text, option_texts, options_text, overload_text, rate_text, rule_timeout_text, scope_text, sloppy_texts}
 use Rattle.pfs_conf_show.specs.Pieces.{bracketed_list, text_if_given, word_and_number}
 use Rattle.pfs_conf_show.specs.Tables.{angled_name, table_ref}
 use Rattle.pfs_conf_round_trip.proofs.Said.{options_said, overload_said, table_said, track_said}
@@ -118,6 +118,7 @@ with_parts m t n s c r v b timeouts = record {
   sloppy = b;
   floating = false;
   no_sync = false;
+  synproxy = false;
   timeouts = timeouts;
 }
 
@@ -208,8 +209,12 @@ give_timeouts m t n s c r v b _ size h no_interval = absurd (omega arith)
 
 -- ---- the state clause
 
--- the options of a rule, one after another
-pub options_chain : (tables : List TableDef) (o : StateOptions) → All IsTable tables → AreOptions (length tables) o → OptionChain (option_texts tables o) none_given (options_said tables o)
+-- the options of a rule, which do not say by themselves whether they are those of `synproxy state`
+abbrev pub options_alone : List TableDef → StateOptions → Options
+options_alone tables o = record (options_said tables o) { synproxy = false }
+
+-- they are written one after another
+pub options_chain : (tables : List TableDef) (o : StateOptions) → All IsTable tables → AreOptions (length tables) o → OptionChain (option_texts tables o) none_given (options_alone tables o)
 options_chain tables o g h =
     both (give_max o.max h.max)
     (both (give_track o.max o.scope)
@@ -237,11 +242,20 @@ pub no_state_reads : (line : ℕ) (more : List ℕ) → breaks more ≡ true →
 no_state_reads line more b =
     no (word_between line (codes "no") (codes "state" ++ more) refl key_of_No) (word_first true line (codes "state") more refl b key_of_State)
 
--- ` keep state` with the options that are given
+-- ` keep state` or ` synproxy state` with the options that are given
 pub keep_state_reads : (tables : List TableDef) (o : StateOptions) (line : ℕ) (more : List ℕ) → All IsTable tables → AreOptions (length tables) o → breaks more ≡ true
-    → StateOf (at line (codes " keep state" ++ (options_text tables o ++ more))) (clause.Keep (options_said tables o)) (at line more)
-keep_state_reads tables o line more g h b =
-    let left = options_text tables o ++ more in
-    keep (word_between line (codes "keep") (codes "state" ++ left) refl key_of_Keep)
-    (word_first true line (codes "state") left refl (options_break (option_texts tables o) more b) key_of_State)
-    (kept_by (option_texts tables o) (options_said tables o) line more (options_chain tables o g h))
+    → StateOf (at line (kept_text o.synproxy ++ (options_text tables o ++ more))) (clause.Keep (options_said tables o)) (at line more)
+keep_state_reads tables o line more g h b = by o.synproxy
+  where
+    left : List ℕ
+    left = options_text tables o ++ more
+
+    state_word : Word key.State (at line (codes "state" ++ left)) (at line left)
+    state_word = word_first true line (codes "state") left refl (options_break (option_texts tables o) more b) key_of_State
+
+    options : KeptOf (at line left) (options_alone tables o) (at line more)
+    options = kept_by (option_texts tables o) (options_alone tables o) line more (options_chain tables o g h)
+
+    by : (s : Bool) → StateOf (at line (kept_text s ++ left)) (clause.Keep (record (options_said tables o) { synproxy = s })) (at line more)
+    by false = keep (word_between line (codes "keep") (codes "state" ++ left) refl key_of_Keep) state_word options
+    by true = proxy (word_between line (codes "synproxy") (codes "state" ++ left) refl key_of_Synproxy) state_word options

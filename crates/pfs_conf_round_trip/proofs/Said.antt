@@ -75,6 +75,7 @@ options_said tables o = record {
   sloppy = o.sloppy;
   floating = false;
   no_sync = false;
+  synproxy = o.synproxy;
   timeouts = o.timeouts;
 }
 

@@ -15,6 +15,7 @@ use Rattle.pfs_conf_settings.proofs.OrderLaws.{AreNamedOnce_push, IsPreorder_pus
 pub IsDraft_with_item : (d : Drafted) (i : Item) → IsDraft d → length d.items < 10000 → i.depth ≤ depth_after 0 d.items → IsItem (length d.tables) i
     → repeats_name i d.items ≡ false → IsDraft (with_item i d)
 IsDraft_with_item d i k few order item fresh = record {
+  syncookies = k.syncookies;
   limits = k.limits;
   timeouts = k.timeouts;
   items = All-push (IsItem (length d.tables)) d.items i k.items item;
@@ -26,6 +27,7 @@ IsDraft_with_item d i k few order item fresh = record {
 -- and so do more tables
 pub IsDraft_with_tables : (d : Drafted) (n : Named) → IsDraft d → length d.tables ≤ length n.tables → IsDraft (with_tables n d)
 IsDraft_with_tables d n k more = record {
+  syncookies = k.syncookies;
   limits = k.limits;
   timeouts = k.timeouts;
   items = items-more (length d.tables) (length n.tables) more d.items k.items;
@@ -36,7 +38,7 @@ IsDraft_with_tables d n k more = record {
 
 -- a draft with other items
 abbrev pub with_items : List Item → Drafted → Drafted
-with_items items d = record { profile = d.profile; limits = d.limits; timeouts = d.timeouts; tables = d.tables; defined = d.defined; items = items }
+with_items items d = record { profile = d.profile; syncookies = d.syncookies; limits = d.limits; timeouts = d.timeouts; tables = d.tables; defined = d.defined; items = items }
 
 -- so the items after a push leave a draft, whether it was refused or not
 pub IsDraft_pushed : {E : Type 0} (d e : Drafted) (i : Item) (after : List Item) (r : Result (Unit {0}) E) → d ≡ e → IsDraft d

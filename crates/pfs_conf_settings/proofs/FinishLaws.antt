@@ -5,15 +5,15 @@ use Rattle.std.specs.List.{IsDistinct, list_any, position_or_len}
 use Rattle.std.specs.Str.{bytes_eq}
 use Rattle.std.proofs.lemmas.Bool.{cond-false, cond-true, false≢true, lt-ltb, ltb-false, not-false}
 use Rattle.std.proofs.lemmas.List.{length-map}
-use Rattle.pfs_conf_values.specs.Configs.{is_adaptive, overloads_const, table_names, timeout_of}
+use Rattle.pfs_conf_values.specs.Configs.{is_adaptive, needs_profile, overloads_const, table_names, timeout_of}
 use Rattle.pfs_conf_values.specs.Invariants.{IsConfig, IsTable, is_seconds}
 use Rattle.pfs_conf_settings.specs.Invariants.{IsDraft}
-use Rattle.pfs_conf_settings.specs.Drafts.{Drafted, broken_pair, const_overload, conf_of_draft, has_broken_pair, has_too_many_entries, has_too_many_tables}
+use Rattle.pfs_conf_settings.specs.Drafts.{Drafted, broken_pair, const_overload, conf_of_draft, has_broken_pair, has_too_many_entries, has_too_many_tables, has_unprofiled_cookies, unprofiled}
 use Rattle.pfs_conf_values.specs.LoadRules.{IsTimeout}
 use Rattle.pfs_conf_values.specs.Bounds.{greatest_timeout, least_timeout}
 use Rattle.pfs_conf_values.specs.Settled.{settled_item}
 use Rattle.pfs_conf_values.specs.Timeouts.{place_of, tenths_of}
-use Rattle.pfs_conf_values.proofs.SettledLaws.{overloads_settled_items, settled_AreNamedOnce, settled_IsPreorder, settled_items_IsItem, settled_items_again}
+use Rattle.pfs_conf_values.proofs.SettledLaws.{overloads_settled_items, profile_needed_items, settled_AreNamedOnce, settled_IsPreorder, settled_items_IsItem, settled_items_again}
 use Rattle.pfs_conf_values.specs.declared.profiles.Profile.{Profile}
 use Rattle.pfs_conf_values.specs.declared.profiles.Profile.TheVariants as profile
 use Rattle.pfs_conf_values.specs.declared.items.Item.{Item}
@@ -98,8 +98,10 @@ adaptive_end_is p states (Some n) h k = omega arith
 
 -- a draft that keeps the rules of the whole text is a configuration
 pub IsConfig_finished : (d : Drafted) → IsDraft d → All IsTable d.tables → IsDistinct bytes_eq (table_names d.tables)
-    → has_broken_pair d ≡ false → const_overload d ≡ None → has_too_many_tables d ≡ false → has_too_many_entries d ≡ false → IsConfig (conf_of_draft d)
-IsConfig_finished d k tables names pair overloads few entries = record {
+    → has_broken_pair d ≡ false → const_overload d ≡ None → has_too_many_tables d ≡ false → has_unprofiled_cookies d ≡ false → unprofiled d ≡ None → has_too_many_entries d ≡ false → IsConfig (conf_of_draft d)
+IsConfig_finished d k tables names pair overloads few cookies profiled entries = record {
+  syncookies = k.syncookies;
+  cookies_profiled = cookies;
   limits = k.limits;
   size = refl;
   seconds = seconds d k;
@@ -117,5 +119,6 @@ IsConfig_finished d k tables names pair overloads few entries = record {
   preorder = settled_IsPreorder d.profile 0 d.items k.preorder;
   anchors = settled_AreNamedOnce d.profile d.items k.anchors;
   overloads = overloads_settled_items d.profile d.tables d.items ∙ none_passes (overloads_const d.tables) d.items overloads;
+  profiled = profile_needed_items d.profile d.profile d.items ∙ none_passes (needs_profile d.profile) d.items profiled;
   settled = settled_items_again d.profile (length d.tables) d.items k.items;
 }

@@ -7,6 +7,8 @@ pub mod OrderLaws
 pub mod SettingLaws
 pub mod SettingPhrases
 mod Stopping
+pub mod SyncookieLaws
+pub mod SyncookiePhrases
 pub mod TableLaws
 pub mod TablePhrases
 pub mod TimeoutKeys

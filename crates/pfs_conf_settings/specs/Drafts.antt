@@ -1,23 +1,27 @@
 -- What the first statements of a text say, what each more changes, and the load rules of the whole text.
 use Rattle.std.specs.Prelude.{ℕ, not, nat_lt, Bool, true, false, Option, Some, None, List, [], ◌∷◌, ◌++◌, length, position, slice_index_or, slice_set}
-use Rattle.pfs_conf_values.specs.Configs.{Conf, entries_in, is_adaptive, overloads_const}
+use Rattle.pfs_conf_values.specs.Configs.{Conf, entries_in, is_adaptive, needs_profile, overloads_const}
 use Rattle.pfs_conf_values.specs.Limits.{default_limits, limits_with}
 use Rattle.pfs_conf_settings.specs.Namings.{Named, defining, is_defined_in, naming, place_in, table_number}
 use Rattle.pfs_conf_values.specs.Timeouts.{no_timeouts, place_of, resolved_timeouts}
 use Rattle.pfs_conf_values.specs.Settled.{settled_items}
+use Rattle.pfs_conf_values.specs.Syncookies.{need_profile}
 use Rattle.pfs_conf_values.specs.declared.items.Item.{Item}
 use Rattle.pfs_conf_values.specs.declared.limits.LimitName.{LimitName}
 use Rattle.pfs_conf_values.specs.declared.limits.Limits.{Limits}
 use Rattle.pfs_conf_values.specs.declared.profiles.Profile.{Profile}
 use Rattle.pfs_conf_values.specs.declared.profiles.Profile.TheVariants as profile
+use Rattle.pfs_conf_values.specs.declared.syncookies.Syncookies.{Syncookies}
+use Rattle.pfs_conf_values.specs.declared.syncookies.Syncookies.TheVariants as cookies
 use Rattle.pfs_conf_values.specs.declared.tables.TableDef.{TableDef}
 use Rattle.pfs_conf_values.specs.declared.timeouts.TimeoutName.{TimeoutName}
 use Rattle.pfs_conf_values.specs.declared.timeouts.TimeoutName.TheVariants as timeout
 
--- what the first statements of a text say: the profile, the limits, the timeouts that are set, by their places, the tables
--- that are named, which of them are defined, and the items
+-- what the first statements of a text say: the profile, the SYN cookies, the limits, the timeouts that are set, by their places,
+-- the tables that are named, which of them are defined, and the items
 pub record Drafted : Type 0 where
   pub profile : Profile
+  pub syncookies : Syncookies
   pub limits : Limits
   pub timeouts : List (Option ℕ)
   pub tables : List TableDef
@@ -26,13 +30,27 @@ pub record Drafted : Type 0 where
 
 -- no statement is read
 abbrev pub empty_draft : Drafted
-empty_draft = record { profile = profile.Own; limits = default_limits; timeouts = no_timeouts; tables = []; defined = []; items = [] }
+empty_draft = record { profile = profile.Own; syncookies = cookies.Never; limits = default_limits; timeouts = no_timeouts; tables = []; defined = []; items = [] }
 
 -- ---- what a statement changes
 
 -- `set profile`
 abbrev pub with_profile : Profile → Drafted → Drafted
 with_profile p d = record d { profile = p }
+
+-- `set syncookies` (pf.conf(5), OPTIONS)
+abbrev pub with_syncookies : Syncookies → Drafted → Drafted
+with_syncookies s d = record d { syncookies = s }
+
+-- the shares of `adaptive` alone
+abbrev pub usual_shares : Syncookies
+usual_shares = cookies.Adaptive 25 12
+
+-- the end of `adaptive` is not below its start
+abbrev pub has_broken_shares : Syncookies → Bool
+has_broken_shares cookies.Never = false
+has_broken_shares cookies.Always = false
+has_broken_shares (cookies.Adaptive start end) = not (nat_lt end start)
 
 -- `set limit` (pf.conf(5), OPTIONS)
 abbrev pub with_limit : LimitName → ℕ → Drafted → Drafted
@@ -76,6 +94,14 @@ with_item i d = record d { items = d.items ++ i ∷ [] }
 abbrev pub const_overload : Drafted → Option ℕ
 const_overload d = position (overloads_const d.tables) d.items
 
+-- whether the SYN cookies need the profile of OpenBSD 7.4, in a text without it
+abbrev pub has_unprofiled_cookies : Drafted → Bool
+has_unprofiled_cookies d = need_profile d.profile d.syncookies
+
+-- the place of the first item that needs the profile of OpenBSD 7.4, in a text without it
+abbrev pub unprofiled : Drafted → Option ℕ
+unprofiled d = position (needs_profile d.profile) d.items
+
 -- one adaptive value without the other, or not both 0 and not start < end
 abbrev pub broken_pair : Option ℕ → Option ℕ → Bool
 broken_pair None None = false
@@ -101,6 +127,7 @@ has_too_many_entries d = nat_lt d.limits.table_entries (entries_in d.tables)
 abbrev pub conf_of_draft : Drafted → Conf
 conf_of_draft d = record {
   profile = d.profile;
+  syncookies = d.syncookies;
   limits = d.limits;
   timeouts = resolved_timeouts d.profile d.limits.states d.timeouts;
   tables = d.tables;

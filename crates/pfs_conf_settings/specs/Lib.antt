@@ -5,5 +5,7 @@ pub mod Invariants
 pub mod Namings
 pub mod SettingGrammar
 pub mod Settings
+pub mod SyncookieGrammar
+pub mod Syncookies
 pub mod TableGrammar
 pub mod Tables

@@ -3,11 +3,12 @@
 ghost use Rattle.std.specs.Prelude.{◌≡◌, ◌<◌, ◌≤◌, ◌+◌, ◌++◌, [], ◌∷◌, IfOk, IfSome, None, OnErr, OnOk, false, true, length, position};
 ghost use Rattle.std.specs.Option.{option_map};
 ghost use Rattle.pfs_addr_values.specs.Names.{is_name};
-ghost use Rattle.pfs_conf_values.specs.Configs.{is_const_table, overloads_const};
+ghost use Rattle.pfs_conf_values.specs.Configs.{has_synproxy, is_const_table, needs_profile, overloads_const};
 ghost use Rattle.pfs_conf_values.specs.Order.{depth_after, next_depth, repeats_by, repeats_name};
-ghost use Rattle.pfs_conf_settings.specs.Drafts.{broken_pair, const_overload, empty_draft, conf_of_draft, has_broken_pair, has_too_many_entries, has_too_many_tables, is_defined, number_of_table, with_item, with_limit, with_name, with_profile, with_table, with_timeout};
+ghost use Rattle.pfs_conf_settings.specs.Drafts.{broken_pair, const_overload, empty_draft, conf_of_draft, has_broken_pair, has_too_many_entries, has_too_many_tables, has_unprofiled_cookies, is_defined, number_of_table, unprofiled, with_item, with_limit, with_name, with_profile, with_syncookies, with_table, with_timeout};
 ghost use Rattle.pfs_conf_values.specs.LoadRules.{IsAnchor, IsCount, IsItem, IsRule, IsTimeout};
 ghost use Rattle.pfs_conf_values.specs.Settled.{settled_items};
+ghost use Rattle.pfs_conf_values.specs.Syncookies.{AreSyncookies};
 ghost use Rattle.pfs_conf_values.specs.Siblings.{has_sibling, is_anchor_named};
 ghost use Rattle.pfs_conf_values.specs.Timeouts.{place_of};
 
@@ -15,8 +16,8 @@ use crate::named_tables::NamedTables;
 use pfs_addr_values::NoMemory;
 use pfs_conf_values::{
     Action, Anchor, AnchorName, Config, Item, ItemKind, LimitName, Limits, Profile, Rule, RuleNo,
-    RuleTimeouts, RulesHasher, TableDef, TableName, TableNo, TimeoutName, Timeouts, count_entries,
-    settle_items,
+    RuleTimeouts, RulesHasher, Syncookies, TableDef, TableName, TableNo, TimeoutName, Timeouts,
+    count_entries, settle_items,
 };
 use std::alloc::Global;
 use std::marker::Model;
@@ -29,6 +30,7 @@ use std::marker::Model;
 #[derive(Debug, Drop)]
 pub struct Draft {
     profile: Profile,
+    syncookies: Syncookies,
     limits: Limits,
     timeouts: RuleTimeouts,
     tables: NamedTables,
@@ -42,13 +44,13 @@ impl Model for Draft {
 
     ghost Value = { Drafted };
 
-    ghost view = { λ d. record { profile = d.profile; limits = d.limits; timeouts = d.timeouts; tables = d.tables.tables; defined = d.tables.defined; items = d.items.items } };
+    ghost view = { λ d. record { profile = d.profile; syncookies = d.syncookies; limits = d.limits; timeouts = d.timeouts; tables = d.tables.tables; defined = d.tables.defined; items = d.items.items } };
 
-    ghost invariant = { λ d. IsDraft (record { profile = d.profile; limits = d.limits; timeouts = d.timeouts; tables = d.tables.tables; defined = d.tables.defined; items = d.items.items }) };
+    ghost invariant = { λ d. IsDraft (record { profile = d.profile; syncookies = d.syncookies; limits = d.limits; timeouts = d.timeouts; tables = d.tables.tables; defined = d.tables.defined; items = d.items.items }) };
 }
 
 impl Draft {
-    /// The draft of a text of which nothing has been read: no profile, the default limits, no timeout set, no tables and items. Its
+    /// The draft of a text of which nothing has been read: no profile, no SYN cookies, the default limits, no timeout set, no tables and items. Its
     /// hasher was fed with nothing; for a stranger's text use `with_hasher`. It takes no memory.
     pub fn new(alloc: Global) -> Draft
         ensures { result ≡ empty_draft }
@@ -62,6 +64,7 @@ impl Draft {
     {
         Draft {
             profile: Profile::Own,
+            syncookies: Syncookies::Never,
             limits: Limits::DEFAULT,
             timeouts: RuleTimeouts::new(),
             tables: NamedTables::new(alloc, hasher),
@@ -80,6 +83,14 @@ impl Draft {
         ensures { self.new ≡ with_profile profile self.old }
     {
         self.profile = profile;
+    }
+
+    /// Sets whether SYNs are answered by cookies. A later value replaces an earlier one. (pf.conf(5), OPTIONS, "set syncookies")
+    pub fn set_syncookies(&mut self, syncookies: Syncookies)
+        requires { AreSyncookies syncookies }
+        ensures { self.new ≡ with_syncookies syncookies self.old }
+    {
+        self.syncookies = syncookies;
     }
 
     /// Sets a limit, 1 to 4294967295. A later value replaces an earlier one. (pf.conf(5), OPTIONS, "set limit")
@@ -199,6 +210,25 @@ impl Draft {
         Some(RuleNo(place as u32))
     }
 
+    /// Whether SYN cookies are asked for, which need the profile of OpenBSD 7.4, in a text without it. (own to this profile)
+    pub fn has_unprofiled_cookies(&self) -> bool
+        ensures { result ≡ has_unprofiled_cookies self.now }
+    {
+        match self.profile {
+            Profile::Own => self.syncookies.are_sent(),
+            Profile::OpenBsd74 => false,
+        }
+    }
+
+    /// The first rule that needs the profile of OpenBSD 7.4, in a text without it, if there is one: a rule with `synproxy state`.
+    /// (own to this profile)
+    pub fn unprofiled(&self) -> Option<RuleNo>
+        ensures { option_map (λ n. n.0) result ≡ unprofiled self.now }
+    {
+        let place = unprofiled(self.profile, &self.items)?;
+        Some(RuleNo(place as u32))
+    }
+
     /// Whether one global adaptive value is set without the other, or both such that they are not both 0 and the start is
     /// not below the end. (pf.conf(5), OPTIONS, "set timeout")
     pub fn has_broken_pair(&self) -> bool
@@ -229,11 +259,14 @@ impl Draft {
         requires pair { has_broken_pair self ≡ false }
         requires overloads { const_overload self ≡ None }
         requires tables { has_too_many_tables self ≡ false }
+        requires cookies { has_unprofiled_cookies self ≡ false }
+        requires profile { unprofiled self ≡ None }
         requires entries { has_too_many_entries self ≡ false }
         ensures { result ≡ conf_of_draft self }
     {
         let Draft {
             profile,
+            syncookies,
             limits,
             timeouts,
             tables,
@@ -243,7 +276,7 @@ impl Draft {
         let tables = tables.into_tables();
         let timeouts = Timeouts::resolved(&timeouts, profile, limits.states);
         let items = settled(profile, items);
-        Config::of_parts(profile, limits, timeouts, tables, items)
+        Config::of_parts(profile, syncookies, limits, timeouts, tables, items)
     }
 }
 
@@ -305,6 +338,34 @@ fn overloads_const(tables: &[TableDef], item: &Item) -> bool
     match tables.get(overload.table.0 as usize) {
         Some(table) => table.is_const,
         None => false,
+    }
+}
+
+fn unprofiled(profile: Profile, items: &[Item]) -> Option<usize>
+    ensures value { result ≡ position (needs_profile profile) items.now }
+    ensures within { IfSome result (λ n. n < length items.now) }
+{
+    items.iter().position(|item| needs_profile(profile, item))
+}
+
+fn needs_profile(profile: Profile, item: &Item) -> bool
+    ensures { result ≡ needs_profile profile item.now }
+{
+    match profile {
+        Profile::Own => has_synproxy(item),
+        Profile::OpenBsd74 => false,
+    }
+}
+
+fn has_synproxy(item: &Item) -> bool
+    ensures { result ≡ has_synproxy item.now }
+{
+    let ItemKind::Rule(rule) = &item.what else {
+        return false;
+    };
+    match &rule.action {
+        Action::Keep(options) => options.synproxy,
+        Action::Block | Action::Pass => false,
     }
 }
 

@@ -1,4 +1,4 @@
-//! The statements that set limits and timeouts, the parts of a table's definition, and the draft that all statements of a
+//! The statements that set options, the parts of a table's definition, and the draft that all statements of a
 //! rules text are put into.
 #![tactic(auto)]
 
@@ -6,8 +6,10 @@ mod drafts;
 mod entries;
 mod named_tables;
 mod settings;
+mod syncookies;
 mod tables;
 
 pub use drafts::Draft;
 pub use settings::read_settings;
+pub use syncookies::{has_broken_shares, read_syncookies};
 pub use tables::{Parts, read_parts, read_parts_with};

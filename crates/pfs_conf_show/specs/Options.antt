@@ -59,8 +59,13 @@ option_texts tables o =
 abbrev pub options_text : List TableDef → StateOptions → List ℕ
 options_text tables o = bracketed_list (codes " (") (codes ")") (option_texts tables o)
 
+-- how the state clause of a rule that keeps state begins (pf.conf(5), STATEFUL FILTERING)
+abbrev pub kept_text : Bool → List ℕ
+kept_text false = codes " keep state"
+kept_text true = codes " synproxy state"
+
 -- the state clause of a pass rule
 abbrev pub state_text : List TableDef → Action → List ℕ
 state_text tables action.Block = []
 state_text tables action.Pass = codes " no state"
-state_text tables (action.Keep o) = codes " keep state" ++ options_text tables o
+state_text tables (action.Keep o) = kept_text o.synproxy ++ options_text tables o

@@ -1,9 +1,11 @@
--- The lines of `set limit`, `set timeout` and `set profile`. (pf.conf(5), OPTIONS; their form is own)
-use Rattle.std.specs.Prelude.{ℕ, List, [], ◌∷◌, ◌++◌, codes, map, slice_index}
+-- The lines of `set limit`, `set timeout`, `set profile` and `set syncookies`. (pf.conf(5), OPTIONS; their form is own)
+use Rattle.std.specs.Prelude.{ℕ, List, [], ◌∷◌, ◌++◌, codes, decimal, map, slice_index}
 use Rattle.pfs_conf_values.specs.Timeouts.{place_of, timeout_names}
 use Rattle.pfs_conf_values.specs.declared.limits.Limits.{Limits}
 use Rattle.pfs_conf_values.specs.declared.profiles.Profile.{Profile}
 use Rattle.pfs_conf_values.specs.declared.profiles.Profile.TheVariants as profile
+use Rattle.pfs_conf_values.specs.declared.syncookies.Syncookies.{Syncookies}
+use Rattle.pfs_conf_values.specs.declared.syncookies.Syncookies.TheVariants as cookies
 use Rattle.pfs_conf_values.specs.declared.timeouts.TimeoutName.{TimeoutName}
 use Rattle.pfs_conf_values.specs.declared.timeouts.TimeoutName.TheVariants.{TcpFirst, TcpOpening, TcpEstablished, TcpClosing, TcpFinwait, TcpClosed, UdpFirst, UdpSingle, UdpMultiple, OtherFirst, OtherSingle, OtherMultiple, SrcTrack, Interval, AdaptiveStart, AdaptiveEnd}
 use Rattle.pfs_conf_show.specs.Pieces.{bracketed_list, word_and_number}
@@ -49,3 +51,13 @@ timeouts_text timeouts = codes "set timeout" ++ (bracketed_list (codes " { ") (c
 abbrev pub profile_text : Profile → List ℕ
 profile_text profile.Own = []
 profile_text profile.OpenBsd74 = codes "set profile openbsd-7.4\n"
+
+-- `set syncookies adaptive (start P%, end Q%)`
+abbrev pub adaptive_text : ℕ → ℕ → List ℕ
+adaptive_text start end = codes "set syncookies adaptive (start " ++ (decimal start ++ (codes "%, end " ++ (decimal end ++ codes "%)\n")))
+
+-- `set syncookies always`, or the line of `adaptive`; a text without cookies has none
+abbrev pub syncookies_text : Syncookies → List ℕ
+syncookies_text cookies.Never = []
+syncookies_text cookies.Always = codes "set syncookies always\n"
+syncookies_text (cookies.Adaptive start end) = adaptive_text start end

@@ -4,7 +4,7 @@ ghost use Rattle.std.specs.Prelude.{◌≡◌, ◌++◌, IfOk, OnOk, codes, deci
 ghost use Rattle.std.specs.List.{flat_map};
 ghost use Rattle.pfs_conf_values.specs.Timeouts.{timeout_names};
 ghost use Rattle.pfs_conf_show.specs.Pieces.{begun_after, text_if_given, going_on, word_and_number};
-ghost use Rattle.pfs_conf_show.specs.Options.{flush_text, options_text, overload_text, rate_text, rule_timeout_text, scope_text, sloppy_texts, state_text};
+ghost use Rattle.pfs_conf_show.specs.Options.{flush_text, kept_text, options_text, overload_text, rate_text, rule_timeout_text, scope_text, sloppy_texts, state_text};
 
 use crate::pieces::{push_closing, push_separator, push_worded};
 use crate::settings::{TIMEOUT_NAMES, timeout_word};
@@ -23,10 +23,22 @@ pub fn push_state(out: &mut Vec<u8>, config: &Config, action: &Action) -> Result
             Ok(())
         }
         Action::Keep(options) => {
-            out.extend_from_slice(b" keep state")?;
+            push_kept(out, options.synproxy)?;
             push_options(out, config, options)
         }
     }
+}
+
+/// How the state clause of a rule that keeps state begins.
+fn push_kept(out: &mut Vec<u8>, synproxy: bool) -> Result<(), NoMemory>
+    ensures { OnOk result (out.new.items ≡ out.old.items ++ kept_text synproxy) }
+{
+    if synproxy {
+        out.extend_from_slice(b" synproxy state")?;
+    } else {
+        out.extend_from_slice(b" keep state")?;
+    }
+    Ok(())
 }
 
 /// Each option that is given goes on with the list; the answer is whether the list has begun by then.

@@ -1,13 +1,14 @@
-//! The lines of `set limit`, `set timeout` and `set profile`.
+//! The lines of `set limit`, `set timeout`, `set profile` and `set syncookies`.
 
 ghost use Rattle.std.specs.Prelude.{◌≡◌, ◌++◌, OnOk, codes, false, map};
 ghost use Rattle.pfs_conf_values.specs.Timeouts.{timeout_names};
 ghost use Rattle.pfs_conf_show.specs.Pieces.{going_on, separator, word_and_number};
-ghost use Rattle.pfs_conf_show.specs.Settings.{limit_texts, limits_text, profile_text, timeout_text, timeout_word, timeouts_text};
+ghost use Rattle.pfs_conf_show.specs.Settings.{adaptive_text, limit_texts, limits_text, profile_text, syncookies_text, timeout_text, timeout_word, timeouts_text};
 
 use crate::pieces::{push_separator, push_worded};
 use pfs_addr_values::NoMemory;
-use pfs_conf_values::{Config, LimitName, Profile, TimeoutName};
+use pfs_conf_values::{Config, LimitName, Profile, Syncookies, TimeoutName};
+use pfs_numbers::push_number;
 
 /// The timeouts in the order in which they are shown, which is that of their places.
 pub const TIMEOUT_NAMES: [TimeoutName; 16] = [
@@ -107,6 +108,30 @@ pub fn push_profile(out: &mut Vec<u8>, profile: Profile) -> Result<(), NoMemory>
             Ok(())
         }
     }
+}
+
+pub fn push_syncookies(out: &mut Vec<u8>, syncookies: Syncookies) -> Result<(), NoMemory>
+    ensures { OnOk result (out.new.items ≡ out.old.items ++ syncookies_text syncookies) }
+{
+    match syncookies {
+        Syncookies::Never => Ok(()),
+        Syncookies::Always => {
+            out.extend_from_slice(b"set syncookies always\n")?;
+            Ok(())
+        }
+        Syncookies::Adaptive { start, end } => push_adaptive(out, start, end),
+    }
+}
+
+fn push_adaptive(out: &mut Vec<u8>, start: u32, end: u32) -> Result<(), NoMemory>
+    ensures { OnOk result (out.new.items ≡ out.old.items ++ adaptive_text start end) }
+{
+    out.extend_from_slice(b"set syncookies adaptive (start ")?;
+    push_number(out, u64::from(start))?;
+    out.extend_from_slice(b"%, end ")?;
+    push_number(out, u64::from(end))?;
+    out.extend_from_slice(b"%)\n")?;
+    Ok(())
 }
 
 /// An item of a list in braces, which has begun or not.

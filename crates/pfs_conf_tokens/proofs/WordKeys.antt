@@ -47,6 +47,30 @@ pub key_of_OpenBsd74 : key_of_text (codes "openbsd-7.4") ≡ key.OpenBsd74
 unfolding key_of_text
 key_of_OpenBsd74 = refl
 
+pub key_of_Syncookies : key_of_text (codes "syncookies") ≡ key.Syncookies
+unfolding key_of_text
+key_of_Syncookies = refl
+
+pub key_of_Never : key_of_text (codes "never") ≡ key.Never
+unfolding key_of_text
+key_of_Never = refl
+
+pub key_of_Always : key_of_text (codes "always") ≡ key.Always
+unfolding key_of_text
+key_of_Always = refl
+
+pub key_of_Adaptive : key_of_text (codes "adaptive") ≡ key.Adaptive
+unfolding key_of_text
+key_of_Adaptive = refl
+
+pub key_of_Start : key_of_text (codes "start") ≡ key.Start
+unfolding key_of_text
+key_of_Start = refl
+
+pub key_of_EndWord : key_of_text (codes "end") ≡ key.EndWord
+unfolding key_of_text
+key_of_EndWord = refl
+
 pub key_of_Table : key_of_text (codes "table") ≡ key.Table
 unfolding key_of_text
 key_of_Table = refl
@@ -170,6 +194,10 @@ key_of_State = refl
 pub key_of_Keep : key_of_text (codes "keep") ≡ key.Keep
 unfolding key_of_text
 key_of_Keep = refl
+
+pub key_of_Synproxy : key_of_text (codes "synproxy") ≡ key.Synproxy
+unfolding key_of_text
+key_of_Synproxy = refl
 
 pub key_of_Max : key_of_text (codes "max") ≡ key.Max
 unfolding key_of_text

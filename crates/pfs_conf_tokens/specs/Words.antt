@@ -19,13 +19,15 @@ statement_words =
     ∷ (codes "counters", key.Counters) ∷ (codes "drop", key.Drop) ∷ (codes "return", key.Return)
     ∷ (codes "return-rst", key.ReturnRst) ∷ (codes "return-icmp", key.ReturnIcmp)
     ∷ (codes "return-icmp6", key.ReturnIcmp6) ∷ (codes "anchor", key.Anchor) ∷ (codes "matches", key.Matches)
-    ∷ (codes "user", key.User) ∷ (codes "profile", key.Profile) ∷ (codes "openbsd-7.4", key.OpenBsd74) ∷ []
+    ∷ (codes "user", key.User) ∷ (codes "profile", key.Profile) ∷ (codes "openbsd-7.4", key.OpenBsd74)
+    ∷ (codes "syncookies", key.Syncookies) ∷ (codes "never", key.Never) ∷ (codes "always", key.Always)
+    ∷ (codes "adaptive", key.Adaptive) ∷ (codes "start", key.Start) ∷ (codes "end", key.EndWord) ∷ []
 
 -- words of the state clause, and the names of timeouts
 abbrev pub option_words : List (List ℕ × Key)
 option_words =
-    (codes "no", key.No) ∷ (codes "state", key.State) ∷ (codes "keep", key.Keep) ∷ (codes "max", key.Max)
-    ∷ (codes "source-track", key.SourceTrack) ∷ (codes "rule", key.Rule) ∷ (codes "global", key.Global)
+    (codes "no", key.No) ∷ (codes "state", key.State) ∷ (codes "keep", key.Keep) ∷ (codes "synproxy", key.Synproxy)
+    ∷ (codes "max", key.Max) ∷ (codes "source-track", key.SourceTrack) ∷ (codes "rule", key.Rule) ∷ (codes "global", key.Global)
     ∷ (codes "max-src-nodes", key.MaxSrcNodes) ∷ (codes "max-src-states", key.MaxSrcStates)
     ∷ (codes "max-src-conn", key.MaxSrcConn) ∷ (codes "max-src-conn-rate", key.MaxSrcConnRate)
     ∷ (codes "overload", key.Overload) ∷ (codes "flush", key.Flush) ∷ (codes "sloppy", key.Sloppy)
@@ -62,7 +64,7 @@ foreign_words =
     ∷ (codes "route-to", key.Foreign) ∷ (codes "reply-to", key.Foreign) ∷ (codes "dup-to", key.Foreign)
     ∷ (codes "scrub", key.Foreign) ∷ (codes "received-on", key.Foreign) ∷ (codes "fragment", key.Foreign)
     ∷ (codes "fragments", key.Foreign) ∷ (codes "os", key.Foreign) ∷ (codes "modulate", key.Foreign)
-    ∷ (codes "synproxy", key.Foreign) ∷ (codes "file", key.Foreign) ∷ (codes "initializers", key.Foreign)
+    ∷ (codes "file", key.Foreign) ∷ (codes "initializers", key.Foreign)
     ∷ (codes "if-bound", key.Foreign) ∷ (codes "pflow", key.Foreign) ∷ []
 
 -- the key that a table gives a word; of a word that is not in it this one

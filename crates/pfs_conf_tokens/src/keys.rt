@@ -26,6 +26,18 @@ pub enum Key {
     Profile,
     /// `openbsd-7.4`
     OpenBsd74,
+    /// `syncookies`
+    Syncookies,
+    /// `never`
+    Never,
+    /// `always`
+    Always,
+    /// `adaptive`
+    Adaptive,
+    /// `start`
+    Start,
+    /// `end`: the word; the end of the text is [`Key::End`].
+    EndWord,
     /// `table`
     Table,
     /// `persist`
@@ -88,6 +100,8 @@ pub enum Key {
     State,
     /// `keep`
     Keep,
+    /// `synproxy`
+    Synproxy,
     /// `max`
     Max,
     /// `source-track`

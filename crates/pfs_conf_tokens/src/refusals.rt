@@ -44,6 +44,8 @@ pub enum LoadRule {
     GlobalRetention,
     /// One adaptive value without the other, or a start that is not below its end.
     AdaptivePair,
+    /// Shares of `set syncookies adaptive` of which the end is not below the start.
+    CookiePair,
     /// An anchor inside 16 others.
     TooDeep,
     /// More rules and anchors than 10,000.
@@ -52,6 +54,8 @@ pub enum LoadRule {
     ConstOverload,
     /// More tables than `set limit tables`.
     TooManyTables,
+    /// What needs the profile of OpenBSD 7.4, as `synproxy state` and `set syncookies`, in a text without it.
+    NeedsProfile,
     /// More entries in all tables than `set limit table-entries`.
     TooManyEntries,
 }

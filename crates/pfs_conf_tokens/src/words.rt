@@ -43,7 +43,7 @@ fn find_word(words: &[(&'static [u8], Key)], word: &[u8]) -> Option<Key>
     None
 }
 
-/// The words of a length, of which there are twenty at most: a word is compared with these alone.
+/// The words of a length, of which there are twenty-two at most: a word is compared with these alone.
 fn words_of_length(length: usize) -> &'static [(&'static [u8], Key)]
     ensures { map (λ e. (e.0.now, e.1)) result.now ≡ words_of_length length }
 {
@@ -76,12 +76,13 @@ static TWO: [(&[u8], Key); 6] = [
     (b"os", Key::Foreign),
 ];
 
-static THREE: [(&[u8], Key); 14] = [
+static THREE: [(&[u8], Key); 15] = [
     (b"out", Key::Out),
     (b"any", Key::Any),
     (b"all", Key::All),
     (b"log", Key::Log),
     (b"set", Key::Set),
+    (b"end", Key::EndWord),
     (b"max", Key::Max),
     (b"tcp", Key::Tcp),
     (b"udp", Key::Udp),
@@ -112,7 +113,7 @@ static FOUR: [(&[u8], Key); 16] = [
     (b"file", Key::Foreign),
 ];
 
-static FIVE: [(&[u8], Key); 20] = [
+static FIVE: [(&[u8], Key); 22] = [
     (b"block", Key::Block),
     (b"quick", Key::Quick),
     (b"inet6", Key::Inet6),
@@ -122,6 +123,8 @@ static FIVE: [(&[u8], Key); 20] = [
     (b"frags", Key::Frags),
     (b"table", Key::Table),
     (b"const", Key::Const),
+    (b"never", Key::Never),
+    (b"start", Key::Start),
     (b"state", Key::State),
     (b"flush", Key::Flush),
     (b"icmp6", Key::Icmp6),
@@ -135,11 +138,12 @@ static FIVE: [(&[u8], Key); 20] = [
     (b"pflow", Key::Foreign),
 ];
 
-static SIX: [(&[u8], Key); 12] = [
+static SIX: [(&[u8], Key); 13] = [
     (b"states", Key::States),
     (b"tables", Key::Tables),
     (b"return", Key::Return),
     (b"anchor", Key::Anchor),
+    (b"always", Key::Always),
     (b"global", Key::Global),
     (b"sloppy", Key::Sloppy),
     (b"domain", Key::Domain),
@@ -160,8 +164,10 @@ static SEVEN: [(&[u8], Key); 7] = [
     (b"include", Key::Foreign),
 ];
 
-static EIGHT: [(&[u8], Key); 11] = [
+static EIGHT: [(&[u8], Key); 12] = [
     (b"counters", Key::Counters),
+    (b"adaptive", Key::Adaptive),
+    (b"synproxy", Key::Synproxy),
     (b"overload", Key::Overload),
     (b"floating", Key::Floating),
     (b"interval", Key::Interval),
@@ -170,7 +176,6 @@ static EIGHT: [(&[u8], Key); 11] = [
     (b"reply-to", Key::Foreign),
     (b"fragment", Key::Foreign),
     (b"modulate", Key::Foreign),
-    (b"synproxy", Key::Foreign),
     (b"if-bound", Key::Foreign),
 ];
 
@@ -185,8 +190,9 @@ static NINE: [(&[u8], Key); 8] = [
     (b"fragments", Key::Foreign),
 ];
 
-static TEN: [(&[u8], Key); 8] = [
+static TEN: [(&[u8], Key); 9] = [
     (b"return-rst", Key::ReturnRst),
+    (b"syncookies", Key::Syncookies),
     (b"tcp.tsdiff", Key::TcpTsdiff),
     (b"icmp.first", Key::IcmpFirst),
     (b"icmp.error", Key::IcmpError),

@@ -8,7 +8,7 @@ use Rattle.std.proofs.lemmas.List.{get_or-set_same, map-append, reverse-append}
 use Rattle.std.proofs.lemmas.List.Elements.{All-head, All-map, All-tail, All-weaker}
 use Rattle.std.proofs.lemmas.List.Sums.{take_while-cons}
 use Rattle.pfs_conf_values.specs.Bounds.{broken_rule_pair, is_global}
-use Rattle.pfs_conf_values.specs.Configs.{adds_to_const, options_in, overloads_const, rule_in}
+use Rattle.pfs_conf_values.specs.Configs.{adds_to_const, has_synproxy, needs_profile, options_in, overloads_const, proxies, rule_in}
 use Rattle.pfs_conf_values.specs.Depths.{is_rule}
 use Rattle.pfs_conf_values.specs.LoadRules.{AreOptions, IsAction, IsCount, IsItem, IsItemAt, IsTimeout}
 use Rattle.pfs_conf_values.specs.Order.{AreNamedOnce, IsPreorder, next_depth, repeats_by, repeats_name}
@@ -288,3 +288,27 @@ overloads_settled_items p tables [] = refl
 overloads_settled_items p tables (i ∷ items) =
     ap (λ (b : Bool). b || list_any (overloads_const tables) (settled_items p items)) (overloads_settled p tables i)
     ∙ ap (λ (b : Bool). overloads_const tables i || b) (overloads_settled_items p tables items)
+
+-- and need the same profile
+proxies_settled : (p : Profile) (i : Item) → has_synproxy (settled_item p i) ≡ has_synproxy i
+proxies_settled p i = by i.what
+  where
+    act : (p : Profile) (a : Action) → proxies (options_in (settled_action p a)) ≡ proxies (options_in a)
+    act p action.Block = refl
+    act p action.Pass = refl
+    act profile.Own (action.Keep o) = refl
+    act profile.OpenBsd74 (action.Keep o) = refl
+
+    by : (w : ItemKind) → proxies (option_and_then (λ (r : Rule). options_in r.action) (rule_in (settled_kind p w))) ≡ proxies (option_and_then (λ (r : Rule). options_in r.action) (rule_in w))
+    by (what.Rule r) = act p r.action
+    by (what.Anchor a) = refl
+
+profile_needed : (p q : Profile) (i : Item) → needs_profile q (settled_item p i) ≡ needs_profile q i
+profile_needed p profile.Own i = proxies_settled p i
+profile_needed p profile.OpenBsd74 i = refl
+
+pub profile_needed_items : (p q : Profile) (items : List Item) → list_any (needs_profile q) (settled_items p items) ≡ list_any (needs_profile q) items
+profile_needed_items p q [] = refl
+profile_needed_items p q (i ∷ items) =
+    ap (λ (b : Bool). b || list_any (needs_profile q) (settled_items p items)) (profile_needed p q i)
+    ∙ ap (λ (b : Bool). needs_profile q i || b) (profile_needed_items p q items)

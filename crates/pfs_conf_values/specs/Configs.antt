@@ -26,23 +26,25 @@ use Rattle.pfs_conf_values.specs.declared.limits.LimitName.{LimitName}
 use Rattle.pfs_conf_values.specs.declared.limits.Limits.{Limits}
 use Rattle.pfs_conf_values.specs.declared.profiles.Profile.{Profile}
 use Rattle.pfs_conf_values.specs.declared.profiles.Profile.TheVariants as profile
+use Rattle.pfs_conf_values.specs.declared.syncookies.Syncookies.{Syncookies}
 use Rattle.pfs_conf_values.specs.declared.tables.TableDef.{TableDef}
 use Rattle.pfs_conf_values.specs.declared.timeouts.TimeoutName.{TimeoutName}
 use Rattle.pfs_conf_values.specs.declared.timeouts.TimeoutName.TheVariants as timeout
 
--- what a rules text says: its profile, the limits, the 16 timeouts by their places, the tables by their numbers, and the items in
--- order
+-- what a rules text says: its profile, its SYN cookies, the limits, the 16 timeouts by their places, the tables by their numbers,
+-- and the items in order
 pub record Conf : Type 0 where
   pub profile : Profile
+  pub syncookies : Syncookies
   pub limits : Limits
   pub timeouts : List ℕ
   pub tables : List TableDef
   pub items : List Item
 
 -- the configuration of these parts
-abbrev pub conf_of : Profile → Limits → List ℕ → List TableDef → List Item → Conf
-conf_of profile limits timeouts tables items =
-    record { profile = profile; limits = limits; timeouts = timeouts; tables = tables; items = items }
+abbrev pub conf_of : Profile → Syncookies → Limits → List ℕ → List TableDef → List Item → Conf
+conf_of profile syncookies limits timeouts tables items =
+    record { profile = profile; syncookies = syncookies; limits = limits; timeouts = timeouts; tables = tables; items = items }
 
 -- ---- what is read of it
 
@@ -100,6 +102,7 @@ no_options = record {
   max_src_conn_rate = None;
   overload = None;
   sloppy = false;
+  synproxy = false;
   timeouts = no_timeouts;
 }
 
@@ -124,6 +127,10 @@ rule_timeout_of conf n name = effective conf.profile (given_timeout name (option
 -- for `sloppy` (pf.conf(5), STATEFUL TRACKING OPTIONS, "sloppy")
 abbrev pub tracks_fully : Conf → ℕ → Bool
 tracks_fully conf n = is_openbsd conf.profile && not (options_of conf n).sloppy
+
+-- whether the rule of a number has `synproxy state` (pf.conf(5), STATEFUL FILTERING, "synproxy state")
+abbrev pub is_synproxy : Conf → ℕ → Bool
+is_synproxy conf n = (options_of conf n).synproxy
 
 -- the seconds of `max-src-conn-rate N/S`
 abbrev pub rate_seconds : Option Rate → ℕ
@@ -196,3 +203,19 @@ adds_to_const tables (Some o) = overloads_const_by tables o.overload
 -- whether an item is a rule whose `overload` names a `const` table
 abbrev pub overloads_const : List TableDef → Item → Bool
 overloads_const tables i = adds_to_const tables (option_and_then (λ (r : Rule). options_in r.action) (rule_in i.what))
+
+-- ---- what its load rules ask of the profile
+
+-- whether options are those of `synproxy state`
+abbrev pub proxies : Option StateOptions → Bool
+proxies None = false
+proxies (Some o) = o.synproxy
+
+-- whether an item is a rule with `synproxy state`
+abbrev pub has_synproxy : Item → Bool
+has_synproxy i = proxies (option_and_then (λ (r : Rule). options_in r.action) (rule_in i.what))
+
+-- whether an item needs the profile of OpenBSD 7.4, and the text has it not
+abbrev pub needs_profile : Profile → Item → Bool
+needs_profile profile.Own i = has_synproxy i
+needs_profile profile.OpenBsd74 i = false

@@ -4,12 +4,13 @@ use Rattle.std.specs.List.{IsDistinct, list_any}
 use Rattle.std.specs.Str.{bytes_eq}
 use Rattle.pfs_addr_values.specs.Names.{is_name}
 use Rattle.pfs_addr_values.specs.Prefixes.{IsNetwork}
-use Rattle.pfs_conf_values.specs.Configs.{Conf, entries_in, entry_count_of, is_adaptive, overloads_const, table_names, timeout_of}
+use Rattle.pfs_conf_values.specs.Configs.{Conf, entries_in, entry_count_of, is_adaptive, needs_profile, overloads_const, table_names, timeout_of}
 use Rattle.pfs_conf_values.specs.Entries.{TextEntry, same_network}
 use Rattle.pfs_conf_values.specs.Hashing.{hasher_of}
 use Rattle.pfs_conf_values.specs.LoadRules.{IsCount, IsItem}
 use Rattle.pfs_conf_values.specs.Order.{AreNamedOnce, IsPreorder}
 use Rattle.pfs_conf_values.specs.Settled.{settled_items}
+use Rattle.pfs_conf_values.specs.Syncookies.{AreSyncookies, need_profile}
 use Rattle.pfs_conf_values.specs.declared.hashing.RulesHasher.{RulesHasher}
 use Rattle.pfs_conf_values.specs.declared.limits.Limits.{Limits}
 use Rattle.pfs_conf_values.specs.declared.tables.TableDef.{TableDef}
@@ -37,6 +38,7 @@ pub record IsTable (t : TableDef) : Type 0 where
 
 -- what every configuration keeps (the load rules)
 pub record IsConfig (conf : Conf) : Type 0 where
+  pub syncookies : AreSyncookies conf.syncookies
   pub limits : AreLimits conf.limits
   pub size : length conf.timeouts ≡ 16
   pub seconds : (name : TimeoutName) → is_seconds name ≡ true → timeout_of conf name ≤ 2147483647
@@ -52,6 +54,8 @@ pub record IsConfig (conf : Conf) : Type 0 where
   pub preorder : IsPreorder 0 conf.items
   pub anchors : AreNamedOnce [] conf.items
   pub overloads : list_any (overloads_const conf.tables) conf.items ≡ false
+  pub cookies_profiled : need_profile conf.profile conf.syncookies ≡ false
+  pub profiled : list_any (needs_profile conf.profile) conf.items ≡ false
   pub settled : settled_items conf.profile conf.items ≡ conf.items
 
 -- a configuration, beside which are the count of its entries, and its hasher

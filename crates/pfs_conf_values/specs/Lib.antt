@@ -10,4 +10,5 @@ pub mod Order
 pub mod Profiles
 pub mod Settled
 pub mod Siblings
+pub mod Syncookies
 pub mod Timeouts

@@ -31,7 +31,7 @@ pub struct Overload {
     pub flush: Option<Scope>,
 }
 
-/// The options of `keep state`. Each maximum is 1 to 4294967295.
+/// The options of `keep state` or `synproxy state`. Each maximum is 1 to 4294967295.
 /// (pf.conf(5), STATEFUL TRACKING OPTIONS)
 #[derive(Debug, Clone, Copy, PartialEq, Eq, Hash)]
 pub struct StateOptions {
@@ -51,6 +51,8 @@ pub struct StateOptions {
     pub overload: Option<Overload>,
     /// `sloppy`: its states of TCP are tracked by the table of sloppy states, under every profile.
     pub sloppy: bool,
+    /// `synproxy state` in place of `keep state`: pf answers a SYN of TCP that comes in, in place of the server.
+    pub synproxy: bool,
     /// The rule's own timeouts.
     pub timeouts: RuleTimeouts,
 }
@@ -62,6 +64,7 @@ pub enum Action {
     Block,
     /// The packet passes, and no state is made: `pass .. no state`.
     Pass,
-    /// The packet passes and makes a state, if no limit refuses it: `pass .. keep state`.
+    /// The packet passes and makes a state, if no limit refuses it: `pass .. keep state`,
+    /// `pass .. synproxy state`.
     Keep(StateOptions),
 }

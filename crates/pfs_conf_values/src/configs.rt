@@ -2,11 +2,12 @@
 
 ghost use Rattle.std.specs.Prelude.{◌≡◌, ◌<◌, ◌≤◌, ◌-◌, ◌^◌, IfOk, IfSome, IsSome, length, min, position, slice_get};
 ghost use Rattle.std.specs.Option.{option_copied};
-ghost use Rattle.pfs_conf_values.specs.Configs.{conf_of, entries_in, entry_count_of, has_name, is_const_table, limit_of, options_at, rate_seconds, retention_in, retention_of, rule_at, rule_retention, rule_timeout_of, scope_of, src_track_or, table_named, timeout_of, tracks_fully};
+ghost use Rattle.pfs_conf_values.specs.Configs.{conf_of, entries_in, entry_count_of, has_name, is_const_table, is_synproxy, limit_of, options_at, rate_seconds, retention_in, retention_of, rule_at, rule_retention, rule_timeout_of, scope_of, src_track_or, table_named, timeout_of, tracks_fully};
 ghost use Rattle.pfs_conf_values.specs.Hashing.{hasher_of};
 ghost use Rattle.pfs_conf_values.specs.Invariants.{IsConfig, IsTable};
 ghost use Rattle.pfs_conf_values.specs.LoadRules.{AreOptions, IsItem, IsRule};
 ghost use Rattle.pfs_conf_values.specs.Profiles.{effective};
+ghost use Rattle.pfs_conf_values.specs.Syncookies.{AreSyncookies};
 
 use crate::actions::{Action, Rate, Scope, StateOptions};
 use crate::filters::TableNo;
@@ -14,12 +15,13 @@ use crate::hashing::RulesHasher;
 use crate::items::{Item, ItemKind, Rule, RuleNo};
 use crate::limits::{LimitName, Limits};
 use crate::profiles::Profile;
+use crate::syncookies::Syncookies;
 use crate::tables::{TableDef, copy_tables};
 use crate::timeouts::{TimeoutName, Timeouts};
 use pfs_addr_values::NoMemory;
 use std::marker::Model;
 
-/// What an accepted rules text says: its profile, limits, timeouts, tables and items, with defaults filled in.
+/// What an accepted rules text says: its profile, SYN cookies, limits, timeouts, tables and items, with defaults filled in.
 ///
 /// Clauses see a `Conf`. Every one keeps `IsConfig`, the load rules: `keeps_load_rules` states them to a proof, as do
 /// `limit`, `item_count` and `table_count`, and `item`, `rule`, `options` and `table` state what they give keeps of
@@ -27,6 +29,7 @@ use std::marker::Model;
 #[derive(Debug, Drop)]
 pub struct Config {
     profile: Profile,
+    syncookies: Syncookies,
     limits: Limits,
     timeouts: Timeouts,
     tables: Vec<TableDef>,
@@ -41,9 +44,9 @@ impl Model for Config {
 
     ghost Value = { Conf };
 
-    ghost view = { λ c. record { profile = c.profile; limits = c.limits; timeouts = c.timeouts; tables = c.tables.items; items = c.items.items } };
+    ghost view = { λ c. record { profile = c.profile; syncookies = c.syncookies; limits = c.limits; timeouts = c.timeouts; tables = c.tables.items; items = c.items.items } };
 
-    ghost invariant = { λ c. IsConfigKept c.entries c.hasher (record { profile = c.profile; limits = c.limits; timeouts = c.timeouts; tables = c.tables.items; items = c.items.items }) };
+    ghost invariant = { λ c. IsConfigKept c.entries c.hasher (record { profile = c.profile; syncookies = c.syncookies; limits = c.limits; timeouts = c.timeouts; tables = c.tables.items; items = c.items.items }) };
 }
 
 impl Config {
@@ -51,18 +54,22 @@ impl Config {
     /// memory.
     pub fn of_parts(
         profile: Profile,
+        syncookies: Syncookies,
         limits: Limits,
         timeouts: Timeouts,
         tables: Vec<TableDef>,
         items: Vec<Item>,
     ) -> Config
-        requires { IsConfig (conf_of profile limits timeouts tables.items items.items) }
-        ensures { result ≡ conf_of profile limits timeouts tables.items items.items }
+        requires { IsConfig (conf_of profile syncookies limits timeouts tables.items items.items) }
+        ensures { result ≡ conf_of profile syncookies limits timeouts tables.items items.items }
     {
         let entries = count_entries(&tables);
-        let hasher = RulesHasher::of_parts(profile, &limits, &timeouts, &tables, &items);
+        let hasher = RulesHasher::of_parts(
+            profile, syncookies, &limits, &timeouts, &tables, &items,
+        );
         Config {
             profile,
+            syncookies,
             limits,
             timeouts,
             tables,
@@ -86,6 +93,15 @@ impl Config {
         self.profile
     }
 
+    /// Whether SYNs that come in are answered by cookies. `adaptive` has an end below its start, which is at most 100 percent; without
+    /// the profile of OpenBSD 7.4 they never are. (pf.conf(5), OPTIONS, "set syncookies")
+    pub fn syncookies(&self) -> Syncookies
+        ensures value { result ≡ self.now.syncookies }
+        ensures kept { AreSyncookies result }
+    {
+        self.syncookies
+    }
+
     /// Whether the states of TCP that a rule makes are tracked by OpenBSD's table of full states: under its profile, but for
     /// `sloppy`. (pf.conf(5), STATEFUL TRACKING OPTIONS, "sloppy")
     pub fn tracks_fully(&self, number: RuleNo) -> bool
@@ -96,6 +112,17 @@ impl Config {
             None => false,
         };
         self.profile.is_openbsd() && !sloppy
+    }
+
+    /// Whether a rule has `synproxy state`: pf answers a SYN of TCP that comes in, in place of the server.
+    /// (pf.conf(5), STATEFUL FILTERING, "synproxy state")
+    pub fn is_synproxy(&self, number: RuleNo) -> bool
+        ensures { result ≡ is_synproxy self.now number.0 }
+    {
+        match self.options(number) {
+            Some(options) => options.synproxy,
+            None => false,
+        }
     }
 
     /// How many rules and anchors there are: at most 10,000.
@@ -248,6 +275,7 @@ impl Config {
         let tables = copy_tables(alloc, &self.tables)?;
         Ok(Config {
             profile: self.profile,
+            syncookies: self.syncookies,
             limits: self.limits,
             timeouts: self.timeouts,
             tables,

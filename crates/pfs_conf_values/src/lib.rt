@@ -9,6 +9,7 @@ mod items;
 mod limits;
 mod profiles;
 mod settling;
+mod syncookies;
 mod tables;
 mod timeouts;
 
@@ -20,5 +21,6 @@ pub use items::{Anchor, AnchorName, Item, ItemKind, Rule, RuleNo};
 pub use limits::{LimitName, Limits};
 pub use profiles::Profile;
 pub use settling::settle_items;
+pub use syncookies::Syncookies;
 pub use tables::{Entries, TableDef};
 pub use timeouts::{RuleTimeouts, TimeoutName, Timeouts};

@@ -79,11 +79,11 @@ told_where conf h number now true t e = refl
 told_where conf h number now false t e = rw e refl
 
 -- what a packet of the state makes of the machine is what comes of its touch
-pub told_after : (conf store_conf : Conf) (m : Held) (after : World) (p : PacketView) (now : ℕ) (number : StateNo) (t : Touched) → store_conf ≡ conf
+pub told_after : (conf store_conf : Conf) (m : Held) (after : World) (p : PacketView) (cookie : Bool) (now : ℕ) (number : StateNo) (t : Touched) → store_conf ≡ conf
     → option_map state_number (state_with (key_of p) m.world) ≡ Some number → after ≡ world_touched store_conf m.world p now (state_with (key_of p) m.world)
     → Some t ≡ option_map (renewal_of store_conf m.world p now) (state_with (key_of p) m.world)
-    → answer_of_touch conf (held_of after m.tables) number.0 now t ≡ answer_of_key conf m p now
-told_after conf store_conf m after p now number t made_for e is touch_is =
+    → answer_of_touch conf (held_of after m.tables) number.0 now t ≡ answer_of_key conf m p cookie now
+told_after conf store_conf m after p cookie now number t made_for e is touch_is =
     let (s, found, same) = found_state (state_with (key_of p) m.world) number e in
     let told : Some t ≡ Some (renewal_of store_conf m.world p now s) = touch_is ∙ ap (option_map (renewal_of store_conf m.world p now)) found in
     let t_is : t ≡ renewal_of store_conf m.world p now s = cc in
@@ -94,9 +94,9 @@ told_after conf store_conf m after p now number t made_for e is touch_is =
     let second : answer_of_touch conf (held_of (world_after_touch store_conf m.world s p now) m.tables) s.number now (renewal_of store_conf m.world p now s)
     ≡ answer_of_touch conf (held_of (world_after_touch store_conf m.world s p now) m.tables) s.number now (touch_of store_conf m.world p now s) =
     told_where conf (held_of (world_after_touch store_conf m.world s p now) m.tables) s.number now (completes_at p s) (touch_of store_conf m.world p now s) refl in
-    let third : answer_of_touch conf (held_of (world_after_touch store_conf m.world s p now) m.tables) s.number now (touch_of store_conf m.world p now s) ≡ answer_of_state conf m p now (Some s) =
+    let third : answer_of_touch conf (held_of (world_after_touch store_conf m.world s p now) m.tables) s.number now (touch_of store_conf m.world p now s) ≡ answer_of_state conf m p cookie now (Some s) =
     ap (λ (k : Conf). answer_of_touch conf (held_of (world_after_touch k m.world s p now) m.tables) s.number now (touch_of k m.world p now s)) made_for in
-    first ∙ (second ∙ (third ∙ sym (ap (answer_of_state conf m p now) found)))
+    first ∙ (second ∙ (third ∙ sym (ap (answer_of_state conf m p cookie now) found)))
 
 -- ---- what is held, opened after room was made
 

@@ -1,5 +1,5 @@
 -- A packet whose outcome needs no memory is found to need none before it is answered.
-use Rattle.std.proofs.Common.{◌≡◌, ◌∙◌, ℕ, if◌then◌else◌, Option, Some, None, IsSome, Result, Ok, Err, IsOk, OnErr, ap, refl, subst, sym}
+use Rattle.std.proofs.Common.{◌≡◌, ◌∙◌, ◌||◌, ℕ, Bool, true, false, if◌then◌else◌, Option, Some, None, Result, Ok, Err, IsOk, OnErr, ap, subst, sym}
 use Rattle.std.proofs.lemmas.Bool.{false≢true}
 use Rattle.pfs_addr_values.specs.Keys.{key_of}
 use Rattle.pfs_addr_values.specs.Packets.{PacketView}
@@ -7,79 +7,98 @@ use Rattle.pfs_conf_values.specs.Configs.{Conf, rule_of}
 use Rattle.pfs_conf_values.specs.declared.actions.Action.{Action}
 use Rattle.pfs_conf_values.specs.declared.actions.Action.TheVariants as action
 use Rattle.pfs_conf_values.specs.declared.filters.TableNo.{TableNo}
+use Rattle.pfs_store_contract.specs.Admission.{is_answered}
 use Rattle.pfs_store_contract.specs.Calls.{IsFreeRefusal, packet_limit}
 use Rattle.pfs_store_contract.specs.Handshakes.{hits_connections, hits_rate}
-use Rattle.pfs_store_contract.specs.Touching.{completes_at, world_after_touch}
+use Rattle.pfs_store_contract.specs.Touching.{completes_at, is_taken, world_after_touch}
 use Rattle.pfs_store_contract.specs.Worlds.{World, state_with}
 use Rattle.pfs_store_contract.specs.declared.records.Limit.{Limit}
 use Rattle.pfs_store_contract.specs.declared.records.State.{State}
-use Rattle.pfs_engine_machine.specs.Machine.{Held, Machine, machine_at_moment, answer_to_packet, answer_of_action, answer_of_exceeded, answer_of_key, answer_of_limits, answer_of_rule, answer_of_state, deciding_rule, exceeded_of, held_of}
+use Rattle.pfs_engine_machine.specs.Guards.{Guard, asked, brings_cookie, gets_cookie}
+use Rattle.pfs_engine_machine.specs.Machine.{Held, Machine, machine_at_moment, answer_behind_guard, answer_to_packet, answer_of_action, answer_of_exceeded, answer_of_key, answer_of_limits, answer_of_rule, answer_of_state, deciding_rule, exceeded_of, held_behind_guard, held_for, held_of, outcome_of_new}
 use Rattle.pfs_engine_machine.specs.Kept.{moment_of}
 use Rattle.pfs_engine_machine.specs.Refusals.{IsFree, IsFreeOf}
-use Rattle.pfs_engine_machine.specs.Runs.{IsRefusedIn, NeedsMemory, held_without_memory}
+use Rattle.pfs_engine_machine.specs.Runs.{IsRefusedIn, NeedsMemory, without_memory}
 use Rattle.pfs_engine_machine.specs.declared.events.Command.{Command}
 use Rattle.pfs_engine_machine.specs.declared.events.Event.{Event}
 use Rattle.pfs_engine_machine.specs.declared.events.Exceeded.{Exceeded}
 use Rattle.pfs_engine_machine.specs.declared.events.Outcome.{Outcome}
+use Rattle.pfs_engine_machine.specs.declared.events.Outcome.TheVariants as outcome
 use Rattle.pfs_engine_machine.specs.declared.events.Arrival.{Arrival}
 use Rattle.pfs_engine_machine.specs.declared.events.Arrival.TheVariants as arrival
-use Rattle.pfs_engine.specs.Calls.{holding, met_held}
-use Rattle.pfs_engine.specs.Packets.{NeedsNone, NeedsNoneAt, NeedsNoneBy, NeedsNoneOf}
+use Rattle.pfs_engine.specs.Calls.{answer_at_last, met_held}
+use Rattle.pfs_engine.specs.Packets.{NeedsNone, NeedsNoneAt, NeedsNoneBehindGuard, NeedsNoneBy, NeedsNoneOf, NeedsNoneUnless}
 
-free_limit : (conf : Conf) (m : Held) (p : PacketView) (now rule : ℕ) (limit : Option Limit) → IsFree conf m.world p (answer_of_limits conf m p now rule limit).0
-    → IsFreeRefusal conf m.world p rule limit
-free_limit conf m p now rule None free = free
-free_limit conf m p now rule (Some l) free = free
+free_limit : (conf : Conf) (m : Held) (p : PacketView) (cookie : Bool) (now rule : ℕ) (limit : Option Limit)
+    → IsFree conf m.world p (answer_of_limits conf m p cookie now rule limit).0 → IsFreeRefusal conf m.world p rule limit
+free_limit conf m p cookie now rule None free = by (cookie || is_answered conf rule p) free
+  where
+    by : (answered : Bool) → IsFree conf m.world p (outcome_of_new (record { 0 = rule }) answered) → ⊥
+    by true none = none
+    by false none = none
+free_limit conf m p cookie now rule (Some l) free = free
 
-free_action : (conf : Conf) (m : Held) (p : PacketView) (now rule : ℕ) (what : Action) → IsFree conf m.world p (answer_of_action conf m p now rule what).0
-    → NeedsNoneAt conf m p rule what
-free_action conf m p now rule action.Block free = tt
-free_action conf m p now rule action.Pass free = tt
-free_action conf m p now rule (action.Keep o) free = free_limit conf m p now rule (packet_limit conf m.world p rule) free
+free_action : (conf : Conf) (m : Held) (p : PacketView) (cookie : Bool) (now rule : ℕ) (what : Action)
+    → IsFree conf m.world p (answer_of_action conf m p cookie now rule what).0 → NeedsNoneAt conf m p rule what
+free_action conf m p cookie now rule action.Block free = tt
+free_action conf m p cookie now rule action.Pass free = tt
+free_action conf m p cookie now rule (action.Keep o) free = free_limit conf m p cookie now rule (packet_limit conf m.world p rule) free
 
-free_rule : (conf : Conf) (m : Held) (p : PacketView) (now : ℕ) (rule : Option ℕ) → IsFree conf m.world p (answer_of_rule conf m p now rule).0 → NeedsNoneBy conf m p rule
-free_rule conf m p now None free = tt
-free_rule conf m p now (Some rule) free = free_action conf m p now rule (rule_of conf rule).action free
+free_rule : (conf : Conf) (m : Held) (p : PacketView) (cookie : Bool) (now : ℕ) (rule : Option ℕ)
+    → IsFree conf m.world p (answer_of_rule conf m p cookie now rule).0 → NeedsNoneBy conf m p rule
+free_rule conf m p cookie now None free = tt
+free_rule conf m p cookie now (Some rule) free = free_action conf m p cookie now rule (rule_of conf rule).action free
 
-free_state : (conf : Conf) (m : Held) (p : PacketView) (now : ℕ) (found : Option State) → IsFree conf m.world p (answer_of_state conf m p now found).0 → NeedsNone conf m p found
-free_state conf m p now None free = free_rule conf m p now (deciding_rule conf m p) free
-free_state conf m p now (Some s) free = by (if completes_at p s then exceeded_of (hits_connections conf after s) (hits_rate conf after s) else None) free
+free_state : (conf : Conf) (m : Held) (p : PacketView) (cookie : Bool) (now : ℕ) (found : Option State)
+    → IsFree conf m.world p (answer_of_state conf m p cookie now found).0 → NeedsNone conf m p cookie found
+free_state conf m p cookie now None free = free_rule conf m p cookie now (deciding_rule conf m (asked p cookie)) free
+free_state conf m p cookie now (Some s) free = by (is_taken p s) (if completes_at p s then exceeded_of (hits_connections conf after s) (hits_rate conf after s) else None) free
   where
     after : World
     after = world_after_touch conf m.world s p now
 
-    by : (limits : Option Exceeded) → IsFree conf m.world p (answer_of_exceeded conf (held_of after m.tables) s.number s.dir s.rule s.source now limits).0
+    by : (taken : Bool) (limits : Option Exceeded) → IsFree conf m.world p (answer_of_exceeded conf (held_of after m.tables) s.number s.dir s.rule s.source now taken limits).0
         → IsFreeOf conf p s.rule
-    by (Some e) of = of
-    by None of = of
+    by taken (Some e) of = of
+    by true None of = of
+    by false None of = of
 
-pub needs_none : (conf : Conf) (m : Held) (p : PacketView) (now : ℕ) → IsFree conf m.world p (answer_of_key conf m p now).0 → NeedsNoneOf conf m p
-needs_none conf m p now free = free_state conf m p now (state_with (key_of p) m.world) free
+needs_none : (conf : Conf) (m : Held) (p : PacketView) (cookie : Bool) (now : ℕ) → IsFree conf m.world p (answer_of_key conf m p cookie now).0 → NeedsNoneOf conf m p cookie
+needs_none conf m p cookie now free = free_state conf m p cookie now (state_with (key_of p) m.world) free
+
+pub needs_none_behind_guard : (conf : Conf) (g : Guard) (h : Held) (p : PacketView) (now : ℕ)
+    → IsFree conf (held_behind_guard conf g h p now).world p (answer_behind_guard conf g h p now).0 → NeedsNoneBehindGuard conf g h p now
+needs_none_behind_guard conf g h p now = by (gets_cookie conf g h.world p)
+  where
+    cookie : Bool
+    cookie = brings_cookie g h.world p
+
+    by : (gets : Bool) → IsFree conf (if gets then h else held_for conf h p now).world p (if gets then (outcome.Cookie, h) else answer_to_packet conf h p cookie now).0
+        → NeedsNoneUnless gets conf (held_for conf h p now) p cookie
+    by true free = free
+    by false free = needs_none conf (held_for conf h p now) p cookie now free
 
 -- ---- memory that was refused was needed
 
 -- of what this is at a moment, to what comes
-needed : (conf : Conf) (m at : Machine) (e : Event) (w : Arrival) → e.what ≡ w → at ≡ machine_at_moment conf m e.time → NeedsMemory conf at.held (moment_of at.last) w
-    → NeedsMemory conf (machine_at_moment conf m e.time).held e.time e.what
+needed : (conf : Conf) (m at : Machine) (e : Event) (w : Arrival) → e.what ≡ w → at ≡ machine_at_moment conf m e.time → NeedsMemory conf at.guard at.held (moment_of at.last) w
+    → NeedsMemory conf (machine_at_moment conf m e.time).guard (machine_at_moment conf m e.time).held e.time e.what
 needed conf m at e w comes is needs =
     let now : moment_of at.last ≡ e.time = ap (λ (k : Machine). moment_of k.last) is in
-    subst (λ (v : Arrival). NeedsMemory conf (machine_at_moment conf m e.time).held e.time v) (sym comes)
-    (subst (λ (k : Machine). NeedsMemory conf k.held e.time w) is (subst (λ (n : ℕ). NeedsMemory conf at.held n w) now needs))
+    subst (λ (v : Arrival). NeedsMemory conf (machine_at_moment conf m e.time).guard (machine_at_moment conf m e.time).held e.time v) (sym comes)
+    (subst (λ (k : Machine). NeedsMemory conf k.guard k.held e.time w) is (subst (λ (n : ℕ). NeedsMemory conf at.guard at.held n w) now needs))
 
 -- what is held then
-abbrev left : Conf → Machine → Machine → ℕ → Arrival → Machine
-left conf at like now w = record like { held = held_without_memory conf at.held now w }
-
-remains : (conf : Conf) (m at new : Machine) (e : Event) (w : Arrival) → e.what ≡ w → at ≡ machine_at_moment conf m e.time → new ≡ left conf at at (moment_of at.last) w
-    → new ≡ left conf (machine_at_moment conf m e.time) (machine_at_moment conf m e.time) e.time e.what
+remains : (conf : Conf) (m at new : Machine) (e : Event) (w : Arrival) → e.what ≡ w → at ≡ machine_at_moment conf m e.time → new ≡ without_memory conf at (moment_of at.last) w
+    → new ≡ without_memory conf (machine_at_moment conf m e.time) e.time e.what
 remains conf m at new e w comes is same =
     let now : moment_of at.last ≡ e.time = ap (λ (k : Machine). moment_of k.last) is in
-    same ∙ (ap (λ (n : ℕ). left conf at at n w) now ∙ (ap (λ (k : Machine). left conf k k e.time w) is
-    ∙ ap (left conf (machine_at_moment conf m e.time) (machine_at_moment conf m e.time) e.time) (sym comes)))
+    same ∙ (ap (λ (n : ℕ). without_memory conf at n w) now ∙ (ap (λ (k : Machine). without_memory conf k e.time w) is
+    ∙ ap (without_memory conf (machine_at_moment conf m e.time) e.time) (sym comes)))
 
 pub refused_in : {E : Type 0} (conf : Conf) (m at new : Machine) (e : Event) (p : PacketView) (r : Result Outcome E) → e.what ≡ arrival.Packet p
-    → at ≡ machine_at_moment conf m e.time → OnErr r (new ≡ holding at (met_held conf at p))
-    → (IsFree conf (met_held conf at p).world p (answer_to_packet conf at.held p (moment_of at.last)).0 → IsOk r)
+    → at ≡ machine_at_moment conf m e.time → OnErr r (new ≡ without_memory conf at (moment_of at.last) (arrival.Packet p))
+    → (IsFree conf (met_held conf at p).world p (answer_at_last conf at p).0 → IsOk r)
     → OnErr r (IsRefusedIn conf m e new)
 refused_in conf m at new e p (Ok o) comes is same free = tt
 refused_in conf m at new e p (Err x) comes is same free = record {
@@ -89,7 +108,7 @@ refused_in conf m at new e p (Err x) comes is same free = record {
 
 -- so was memory that was refused to an entry that is added
 pub refused_at : {X E : Type 0} (conf : Conf) (m at new : Machine) (e : Event) (table : TableNo) (done : Command) (r : Result X E) → e.what ≡ arrival.Table table done
-    → at ≡ machine_at_moment conf m e.time → OnErr r (new ≡ at) → OnErr r (NeedsMemory conf at.held (moment_of at.last) (arrival.Table table done))
+    → at ≡ machine_at_moment conf m e.time → OnErr r (new ≡ at) → OnErr r (NeedsMemory conf at.guard at.held (moment_of at.last) (arrival.Table table done))
     → OnErr r (IsRefusedIn conf m e new)
 refused_at conf m at new e table done (Ok o) comes is same needs = tt
 refused_at conf m at new e table done (Err x) comes is same needs = record {

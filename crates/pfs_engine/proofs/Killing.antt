@@ -33,4 +33,4 @@ told_of_kill conf h number now t o limits added killed after tables completed op
     let met : (if t.completed then limits_by (options_of conf t.rule.0) else None) ≡ Some limits =
     ap (λ (b : Bool). if b then limits_by (options_of conf t.rule.0) else None) completed ∙ (ap limits_by options ∙ exceeded) in
     let here : (outcome.Kill t.rule limits added killed, held_of after tables) ≡ answer_by o = rw (a, b, c, d) refl in
-    here ∙ (sym (ap answer_by options) ∙ sym (ap (answer_of_exceeded conf h number t.dir t.rule t.source now) met))
+    here ∙ (sym (ap answer_by options) ∙ sym (ap (answer_of_exceeded conf h number t.dir t.rule t.source now t.taken) met))

@@ -1,3 +1,4 @@
+mod Admitting
 mod Belonging
 mod Free
 mod Fewer
@@ -5,3 +6,4 @@ mod Keeping
 mod Killing
 mod Metering
 mod Watching
+mod Turning

@@ -1,5 +1,5 @@
 -- What the meters of a packet show where no held state has its key, so that the rules decide.
-use Rattle.std.proofs.Common.{◌≡◌, ◌∙◌, ◌-◌, ℕ, Bool, true, false, Option, None, Some, Result, Ok, Err, IfOk, OnErr, ap, arith, refl, subst, sym}
+use Rattle.std.proofs.Common.{◌≡◌, ◌∙◌, ◌-◌, ℕ, Bool, Option, None, Some, Result, Ok, Err, IfOk, OnErr, ap, arith, refl, subst, sym}
 use Rattle.std.specs.Prelude.{option_map}
 use Rattle.pfs_addr_values.specs.Keys.{key_of}
 use Rattle.pfs_addr_values.specs.Packets.{PacketView}
@@ -33,11 +33,11 @@ where_refused : {E : Type 0} (r : Result Outcome E) (first : ℕ) → OnErr r (f
 where_refused (Ok o) first = tt
 where_refused (Err x) first = refl
 
-pub meters_by_rules : {E : Type 0} (counts : Bool) (conf : Conf) (h met : Held) (p : PacketView) (answer : Result Outcome E) (first compared : ℕ)
-    → state_with (key_of p) met.world ≡ None → AreVisits conf met p None compared → AreFirstLooks counts conf h.world p first
-    → IfOk answer (λ o. AreLooks conf 0 o 0) → AreMetersOf counts conf h met p answer compared first
-meters_by_rules counts conf h met p answer first compared none visits firsts no_looks = record {
-  visits = subst (λ (s : Option State). AreVisits conf met p s compared) (sym none) visits;
+pub meters_by_rules : {E : Type 0} (counts : Bool) (conf : Conf) (h met : Held) (p : PacketView) (cookie : Bool) (answer : Result Outcome E) (first compared : ℕ)
+    → state_with (key_of p) met.world ≡ None → AreVisits conf met p cookie None compared → AreFirstLooks counts conf h.world p first
+    → IfOk answer (λ o. AreLooks conf 0 o 0) → AreMetersOf counts conf h met p cookie answer compared first
+meters_by_rules counts conf h met p cookie answer first compared none visits firsts no_looks = record {
+  visits = subst (λ (s : Option State). AreVisits conf met p cookie s compared) (sym none) visits;
   first = first;
   first_looks = firsts;
   looks = record {

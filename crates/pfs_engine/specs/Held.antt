@@ -10,7 +10,8 @@ use Rattle.pfs_conf_values.specs.declared.limits.LimitName.TheVariants as limit_
 use Rattle.pfs_store_contract.specs.Calls.{state_number, state_rule}
 use Rattle.pfs_store_contract.specs.Worlds.{World, state_with}
 use Rattle.pfs_store_contract.specs.declared.records.Found.{Found}
-use Rattle.pfs_engine_machine.specs.Machine.{Held, answer_to_packet, held_for, held_of}
+use Rattle.pfs_engine_machine.specs.Guards.{Guard}
+use Rattle.pfs_engine_machine.specs.Machine.{Held, answer_behind_guard, answer_to_packet, held_behind_guard, held_for, held_of}
 use Rattle.pfs_engine_machine.specs.declared.events.Outcome.{Outcome}
 
 -- the configuration, what is held under it, how many more entries fit into each table without memory, and the store
@@ -69,7 +70,12 @@ IsAnsweredAs answer outcome wanted before after = IsAnsweredOr answer outcome wa
 abbrev pub IsAnswered : {E X : Type 0} → Result Outcome E → Outcome × Held → HeldView X → HeldView X → Type 0
 IsAnswered answer wanted before after = IsAnsweredAs answer (λ o. o) wanted before after
 
--- of a packet: where memory was refused, what it meets is held
-abbrev pub IsAnsweredTo : {E X : Type 0} → Result Outcome E → PacketView → ℕ → HeldView X → HeldView X → Type 0
-IsAnsweredTo answer p now before after =
-    IsAnsweredOr answer (λ o. o) (answer_to_packet before.config before.held p now) (held_for before.config before.held p now) before after
+-- of a packet that brings a cookie, or not: where memory was refused, what it meets is held
+abbrev pub IsAnsweredTo : {E X : Type 0} → Result Outcome E → PacketView → Bool → ℕ → HeldView X → HeldView X → Type 0
+IsAnsweredTo answer p cookie now before after =
+    IsAnsweredOr answer (λ o. o) (answer_to_packet before.config before.held p cookie now) (held_for before.config before.held p now) before after
+
+-- of a packet behind the guard
+abbrev pub IsAnsweredBehindGuard : {E X : Type 0} → Result Outcome E → Guard → PacketView → ℕ → HeldView X → HeldView X → Type 0
+IsAnsweredBehindGuard answer guard p now before after =
+    IsAnsweredOr answer (λ o. o) (answer_behind_guard before.config guard before.held p now) (held_behind_guard before.config guard before.held p now) before after

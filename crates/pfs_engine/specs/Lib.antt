@@ -1,4 +1,5 @@
 pub mod Calls
+pub mod Guarding
 pub mod Held
 pub mod Meters
 pub mod Packets

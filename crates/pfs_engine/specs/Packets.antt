@@ -1,5 +1,5 @@
 -- What an engine makes of a packet, by what its store reports of it, and which packets need no memory before they are answered.
-use Rattle.std.specs.Prelude.{ℕ, if◌then◌else◌, Option, Some, None}
+use Rattle.std.specs.Prelude.{ℕ, Bool, true, false, if◌then◌else◌, Option, Some, None}
 use Rattle.pfs_addr_values.specs.Keys.{key_of}
 use Rattle.pfs_addr_values.specs.Packets.{PacketView}
 use Rattle.pfs_conf_values.specs.Configs.{Conf, options_of, rule_of}
@@ -11,7 +11,8 @@ use Rattle.pfs_store_contract.specs.Handshakes.{over_rate}
 use Rattle.pfs_store_contract.specs.Worlds.{state_with}
 use Rattle.pfs_store_contract.specs.declared.records.State.{State}
 use Rattle.pfs_store_contract.specs.declared.records.Touched.{Touched}
-use Rattle.pfs_engine_machine.specs.Machine.{Held, answer_of_exceeded, deciding_rule, exceeded_of}
+use Rattle.pfs_engine_machine.specs.Guards.{Guard, asked, brings_cookie, gets_cookie}
+use Rattle.pfs_engine_machine.specs.Machine.{Held, answer_of_exceeded, deciding_rule, exceeded_of, held_for}
 use Rattle.pfs_engine_machine.specs.Refusals.{IsFreeOf}
 use Rattle.pfs_engine_machine.specs.declared.events.Outcome.{Outcome}
 
@@ -20,7 +21,7 @@ abbrev pub answer_of_touch : Conf → Held → ℕ → ℕ → Touched → Outco
 answer_of_touch conf h number now t =
     let o = options_of conf t.rule.0 in
     let limits = exceeded_of (exceeds_maximum o.max_src_conn t.connections) (over_rate o.max_src_conn_rate t.score.value) in
-    answer_of_exceeded conf h number t.dir t.rule t.source now (if t.completed then limits else None)
+    answer_of_exceeded conf h number t.dir t.rule t.source now t.taken (if t.completed then limits else None)
 
 -- a rule makes no state, or the state is refused, and no node is left
 abbrev pub NeedsNoneAt : Conf → Held → PacketView → ℕ → Action → Type 0
@@ -33,10 +34,18 @@ NeedsNoneBy conf h p None = Unit {0}
 NeedsNoneBy conf h p (Some rule) = NeedsNoneAt conf h p rule (rule_of conf rule).action
 
 -- a packet of this state needs none, or, where there is none, by the rule that decides
-abbrev pub NeedsNone : Conf → Held → PacketView → Option State → Type 0
-NeedsNone conf h p None = NeedsNoneBy conf h p (deciding_rule conf h p)
-NeedsNone conf h p (Some s) = IsFreeOf conf p s.rule
+abbrev pub NeedsNone : Conf → Held → PacketView → Bool → Option State → Type 0
+NeedsNone conf h p cookie None = NeedsNoneBy conf h p (deciding_rule conf h (asked p cookie))
+NeedsNone conf h p cookie (Some s) = IsFreeOf conf p s.rule
 
--- a packet that meets this needs none
-abbrev pub NeedsNoneOf : Conf → Held → PacketView → Type 0
-NeedsNoneOf conf h p = NeedsNone conf h p (state_with (key_of p) h.world)
+-- a packet that meets this, and brings a cookie, or not, needs none
+abbrev pub NeedsNoneOf : Conf → Held → PacketView → Bool → Type 0
+NeedsNoneOf conf h p cookie = NeedsNone conf h p cookie (state_with (key_of p) h.world)
+
+-- a packet needs none behind the guard, by whether it gets a cookie
+abbrev pub NeedsNoneUnless : Bool → Conf → Held → PacketView → Bool → Type 0
+NeedsNoneUnless true conf met p cookie = ⊥
+NeedsNoneUnless false conf met p cookie = NeedsNoneOf conf met p cookie
+
+abbrev pub NeedsNoneBehindGuard : Conf → Guard → Held → PacketView → ℕ → Type 0
+NeedsNoneBehindGuard conf g h p now = NeedsNoneUnless (gets_cookie conf g h.world p) conf (held_for conf h p now) p (brings_cookie g h.world p)

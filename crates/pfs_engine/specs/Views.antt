@@ -3,13 +3,14 @@ use Rattle.std.specs.Prelude.{ℕ, ◌≤◌, ◌<◌, ◌^◌, Option}
 use Rattle.pfs_addr_values.specs.Packets.{run_limit}
 use Rattle.pfs_conf_values.specs.Configs.{Conf}
 use Rattle.pfs_conf_values.specs.Invariants.{IsConfig}
+use Rattle.pfs_engine_machine.specs.Guards.{Guard}
 use Rattle.pfs_engine_machine.specs.Kept.{IsKept, moment_of}
 use Rattle.pfs_engine_machine.specs.Machine.{Held, Machine}
 use Rattle.pfs_engine.specs.declared.works.Work.{Work}
 
--- the machine of what is held, and of a first and a last moment
-abbrev pub machine_at : Held → Option ℕ → Option ℕ → Machine
-machine_at held first last = record { held = held; first = first; last = last }
+-- the machine of what is held, of the guard before it, and of a first and a last moment
+abbrev pub machine_at : Held → Guard → Option ℕ → Option ℕ → Machine
+machine_at held guard first last = record { held = held; guard = guard; first = first; last = last }
 
 -- the configuration, the machine, how many packets were answered, and the work of the latest call
 pub record View : Type 0 where

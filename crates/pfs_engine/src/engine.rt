@@ -8,12 +8,14 @@ ghost use Rattle.pfs_conf_values.specs.Configs.{limit_of};
 ghost use Rattle.pfs_eval.specs.Tables.{entered_to};
 ghost use Rattle.pfs_engine_machine.specs.Kept.{IsWithinLimits, moment_of};
 ghost use Rattle.pfs_engine_machine.specs.Refusals.{IsFree};
-ghost use Rattle.pfs_engine_machine.specs.Machine.{machine_at_moment, amounts_of, answer_to_command, answer_to_packet, due, entries_held, nodes_held, start, states_held, step, machine_after, outcomes_of};
+ghost use Rattle.pfs_engine_machine.specs.Machine.{machine_at_moment, amounts_of, answer_to_command, due, entries_held, nodes_held, start, states_held, step, machine_after, outcomes_of};
 ghost use Rattle.pfs_engine_machine.specs.Runs.{MayChange, MayCome, AreAllowed, IsInOrder, IsRefusedIn, IsStopped, NeedsMemory, packets_in, packets_of};
-ghost use Rattle.pfs_engine.specs.Calls.{CountsEvent, CountsPacket, IsAnsweredBy, IsAt, IsLimited, IsWorkBehind, IsWorkOfEvent, IsWorkOfPacket, IsWorkOfSeconds, Keeps, StaysWithin, met_held};
+ghost use Rattle.pfs_engine.specs.Calls.{CountsEvent, CountsPacket, IsAnsweredBy, IsAt, IsLimited, IsWorkBehind, IsWorkOfEvent, IsWorkOfPacket, IsWorkOfSeconds, Keeps, StaysWithin, answer_at_last, met_held};
 
+use crate::guard::Guard;
 use crate::held::Held;
-use crate::packets::{Meters, answer};
+use crate::packets::{Meters, answer_behind_guard};
+use crate::passing::pass_due;
 use crate::works::Work;
 use pfs_addr_values::{NoMemory, Packet, RUN_LIMIT};
 use pfs_conf_values::{Config, LimitName, TableNo};
@@ -24,12 +26,13 @@ use std::marker::Model;
 
 /// A machine that runs events under a configuration, over any store.
 ///
-/// Clauses see a `View`: the configuration, the machine (what the store holds, the entries of the tables, and the first
-/// and the last moment), how many packets were answered, and the work of the latest call. What is held is at all times
+/// Clauses see a `View`: the configuration, the machine (what the store holds, the entries of the tables, the SYN cookies that are
+/// out, and the first and the last moment), how many packets were answered, and the work of the latest call. What is held is at all times
 /// within the limits, as each call that changes it says.
 #[derive(Drop)]
 pub struct Engine<S: Store> {
     held: Held<S>,
+    guard: Guard,
     first: Option<u64>,
     last: Option<u64>,
     taken: u64,
@@ -37,18 +40,22 @@ pub struct Engine<S: Store> {
 }
 
 impl<S: Store> Model for Engine<S> {
+    ghost use Rattle.std.specs.Coded.{codes};
+    ghost use Rattle.pfs_cookies.specs.Cookies.{cookies_code};
     ghost use Rattle.pfs_engine.specs.Views.{IsWhole, View, machine_at};
 
     ghost Value = { View };
 
+    ghost coded = { Prim.hlevel (codes, cookies_code) };
+
     ghost view = { λ e. record {
       config = e.held.config;
-      machine = machine_at e.held.held e.first e.last;
+      machine = machine_at e.held.held e.guard e.first e.last;
       taken = e.taken;
       work = e.work;
     } };
 
-    ghost invariant = { λ e. IsWhole e.held.config (machine_at e.held.held e.first e.last) e.taken };
+    ghost invariant = { λ e. IsWhole e.held.config (machine_at e.held.held e.guard e.first e.last) e.taken };
 }
 
 impl<S: Store + Drop> Engine<S> {
@@ -63,8 +70,10 @@ impl<S: Store + Drop> Engine<S> {
         ensures limits { IfOk result (λ e. IsWithinLimits e.config e.machine.held) }
         ensures work { IfOk result (λ e. e.work ≡ record { visits = 0; looks = 0; slices = 0; most_states = 0; most_nodes = 0 }) }
     {
+        let guard = Guard::new(alloc, &config);
         Ok(Engine {
             held: Held::new(alloc, config, store)?,
+            guard,
             first: None,
             last: None,
             taken: 0,
@@ -132,8 +141,8 @@ impl<S: Store> Engine<S> {
     }
 
     /// Lets time pass to a moment: does all purges due, one slice of the states and one of the source nodes for each
-    /// whole second after the last moment; none before the first event. It takes no memory. (pf.conf(5), OPTIONS,
-    /// "interval"; the slices are own to this profile)
+    /// whole second after the last moment, and behind them turns the secret of SYN cookies; none before the first event. It takes no
+    /// memory. (pf.conf(5), OPTIONS, "interval" and "set syncookies"; the slices are own to this profile)
     pub fn advance(&mut self, now: u64)
         requires order { ForSome self.old.machine.last (λ last. last ≤ now) }
         requires moment { now < 2 ^ 32 }
@@ -144,29 +153,31 @@ impl<S: Store> Engine<S> {
         ensures config { self.new.config ≡ self.old.config }
         ensures taken { self.new.taken ≡ self.old.taken }
     {
-        self.work = self.held.purge_due(self.last, now);
+        self.work = pass_due(&mut self.guard, &mut self.held, self.last, now);
         self.first = Some(self.first.unwrap_or(now));
         self.last = Some(now);
     }
 
-    /// Takes a packet at the last moment, whatever its protocol: it is one of a held state, or the rules decide on it. Fewer
-    /// than 1,000,000,000 packets were taken before. Under the profile of OpenBSD 7.4 a SYN without ACK for a state of TCP that both
+    /// Takes a packet at the last moment, whatever its protocol: it gets a SYN cookie, or it is one of a held state, or the rules
+    /// decide on it, or on the SYN whose cookie it brings. Fewer than 1,000,000,000 packets were taken before. Under the profile of OpenBSD 7.4 a SYN without ACK for a state of TCP that both
     /// peers have closed, or that was reset, takes that state out, and is one of no held state.
     ///
-    /// `NoMemory` where memory was refused for a new state, for the node that a refusal leaves under that profile, or for the entry
-    /// of an overload table; then nothing that is held has changed, but that such a state has left.
-    /// (pf.conf(5), STATEFUL FILTERING and STATEFUL TRACKING OPTIONS)
+    /// `NoMemory` where memory was refused for a cookie, a new state, for the node that a refusal leaves under that profile, or for the
+    /// entry of an overload table; then nothing that is held has changed, but that such a state has left. A cookie that it brings stays
+    /// out; where it was to get one, cookies are on.
+    /// (pf.conf(5), STATEFUL FILTERING and STATEFUL TRACKING OPTIONS; OPTIONS, "set syncookies")
     pub fn packet(&mut self, packet: &Packet) -> Result<Outcome, NoMemory>
         requires started { IsSome self.old.machine.last }
         requires room { self.old.taken < run_limit }
         ensures answered { IsAnsweredBy result packet.now self.old self.new }
         ensures limited { IsLimited result packet.now self.old self.new }
 
-        // Memory is asked for only where a state is made, where a refusal leaves a node, or a TCP packet is one of a rule with `overload`.
+        // Memory is asked for only where a cookie is given, a state is made, where a refusal leaves a node, or a TCP packet is one of a rule
+        // with `overload`.
         ensures free { IsFree self.old.config (met_held self.old.config self.old.machine packet.now).world packet.now
-            (answer_to_packet self.old.config self.old.machine.held packet.now (moment_of self.old.machine.last)).0 → IsOk result }
-        ensures work { IsWorkOfPacket S.counts self.old.config self.old.machine.held (met_held self.old.config self.old.machine packet.now)
-            packet.now result self.new.work }
+            (answer_at_last self.old.config self.old.machine packet.now).0 → IsOk result }
+        ensures work { IsWorkOfPacket S.counts self.old.config self.old.machine packet.now (moment_of self.old.machine.last) result
+            self.new.work }
     {
         self.take(packet, Work::none())
     }
@@ -178,13 +189,19 @@ impl<S: Store> Engine<S> {
         ensures answered { IsAnsweredBy result packet.now self.old self.new }
         ensures limited { IsLimited result packet.now self.old self.new }
         ensures free { IsFree self.old.config (met_held self.old.config self.old.machine packet.now).world packet.now
-            (answer_to_packet self.old.config self.old.machine.held packet.now (moment_of self.old.machine.last)).0 → IsOk result }
-        ensures work { IsWorkBehind purges (IsWorkOfPacket S.counts self.old.config self.old.machine.held
-            (met_held self.old.config self.old.machine packet.now) packet.now result) self.new.work }
+            (answer_at_last self.old.config self.old.machine packet.now).0 → IsOk result }
+        ensures work { IsWorkBehind purges (IsWorkOfPacket S.counts self.old.config self.old.machine packet.now
+            (moment_of self.old.machine.last) result) self.new.work }
     {
         let mut meters = Meters::new();
         let now = self.last.unwrap_or(0);
-        let outcome = answer(&mut self.held, packet, now, &mut meters);
+        let outcome = answer_behind_guard(
+            &mut self.guard,
+            &mut self.held,
+            packet,
+            now,
+            &mut meters,
+        );
         let work = Work::of_packet(meters.visits.count(), meters.looks.count());
         self.work = Work::of_event(purges, work);
         self.taken = taken_after(self.taken, &outcome);
@@ -201,6 +218,7 @@ impl<S: Store> Engine<S> {
         ensures answer { (Outcome.Expire result, self.new.machine.held)
             ≡ answer_to_command self.old.config self.old.machine.held (moment_of self.old.machine.first) (moment_of self.old.machine.last) table.0 (Command.Expire seconds) }
         ensures keeps { Keeps self.old self.new }
+        ensures guard { self.new.machine.guard ≡ self.old.machine.guard }
         ensures taken { self.new.taken ≡ self.old.taken }
         ensures work { self.new.work ≡ self.old.work }
     {
@@ -221,6 +239,7 @@ impl<S: Store> Engine<S> {
         ensures err { OnErr result (self.new.machine ≡ self.old.machine) }
         ensures needed { OnErr result (entered_to self.old.machine.held.tables (limit_of self.old.config LimitName.TableEntries) table.0 entry.now ≡ Entered.New) }
         ensures keeps { Keeps self.old self.new }
+        ensures guard { self.new.machine.guard ≡ self.old.machine.guard }
         ensures taken { self.new.taken ≡ self.old.taken }
         ensures work { self.new.work ≡ self.old.work }
     {
@@ -237,6 +256,7 @@ impl<S: Store> Engine<S> {
         ensures answer { (Outcome.Delete result, self.new.machine.held)
             ≡ answer_to_command self.old.config self.old.machine.held (moment_of self.old.machine.first) (moment_of self.old.machine.last) table.0 (Command.Delete entry.now) }
         ensures keeps { Keeps self.old self.new }
+        ensures guard { self.new.machine.guard ≡ self.old.machine.guard }
         ensures taken { self.new.taken ≡ self.old.taken }
         ensures work { self.new.work ≡ self.old.work }
     {
@@ -251,8 +271,9 @@ impl<S: Store> Engine<S> {
         ensures ok { IfOk result (λ o. (o, self.new.machine.held) ≡ answer_to_command self.old.config self.old.machine.held
             (moment_of self.old.machine.first) (moment_of self.old.machine.last) table.0 command.now) }
         ensures err { OnErr result (self.new.machine ≡ self.old.machine) }
-        ensures needed { OnErr result (NeedsMemory self.old.config self.old.machine.held (moment_of self.old.machine.last) (Arrival.Table table command.now)) }
+        ensures needed { OnErr result (NeedsMemory self.old.config self.old.machine.guard self.old.machine.held (moment_of self.old.machine.last) (Arrival.Table table command.now)) }
         ensures keeps { Keeps self.old self.new }
+        ensures guard { self.new.machine.guard ≡ self.old.machine.guard }
         ensures taken { self.new.taken ≡ self.old.taken }
         ensures work { self.new.work ≡ self.old.work }
     {
@@ -278,9 +299,10 @@ impl<S: Store> Engine<S> {
     /// Fewer than 1,000,000,000 packets were taken before, and a command is about a table of the configuration's that is
     /// not `const`. The outcome is what `packet` or `command` answers, `Skip`, or `Held` with what `amounts` answers.
     ///
-    /// `NoMemory` where memory was refused to what needs it: a packet that makes a new state, a source node or an entry of an
-    /// overload table, or an entry that is added and new. Then the purges due are done, the engine is at the event's moment, and
-    /// nothing else has changed, but that a state has left which the packet does not meet. All else takes no memory. (pf.conf(5), STATEFUL FILTERING and STATEFUL TRACKING OPTIONS;
+    /// `NoMemory` where memory was refused to what needs it: a packet that gets a SYN cookie, or makes a new state, a source node or an
+    /// entry of an overload table, or an entry that is added and new. Then the purges due are done, the engine is at the event's moment,
+    /// and nothing else has changed, but that a state has left which the packet does not meet, or that SYN cookies are on. All else
+    /// takes no memory. (pf.conf(5), STATEFUL FILTERING and STATEFUL TRACKING OPTIONS;
     /// pfctl(8), "-T" and "-si")
     #[tactic(auto, unfolding(pfs_engine_machine::specs::Machine::step))]
     pub fn step(&mut self, event: &Event) -> Result<Outcome, NoMemory>

@@ -1,6 +1,6 @@
 //! A packet of a held state: what its handshake hits, the overload table, and the states that are killed.
 
-ghost use Rattle.std.specs.Prelude.{◌≡◌, ◌≤◌, ◌<◌, ◌^◌, true, false, None, Some, filter, length, IsOk, OnOk};
+ghost use Rattle.std.specs.Prelude.{◌≡◌, ◌≤◌, ◌<◌, ◌^◌, Bool, true, false, None, Some, filter, length, IsOk, OnOk};
 ghost use Rattle.std.specs.Option.{ForSome, option_copied};
 ghost use Rattle.pfs_addr_values.specs.Keys.{key_of};
 ghost use Rattle.pfs_addr_values.specs.Packets.{run_limit};
@@ -15,7 +15,7 @@ ghost use Rattle.pfs_store_contract.specs.Worlds.{state_with};
 ghost use Rattle.pfs_store_contract.specs.declared.records.State.{State};
 ghost use Rattle.pfs_engine_machine.specs.Kept.{IsKept};
 ghost use Rattle.pfs_engine_machine.specs.Looks.{AreLooks, AreLooksOfKill};
-ghost use Rattle.pfs_engine_machine.specs.Machine.{addition_of, answer_of_key, exceeded_of, tables_after_addition};
+ghost use Rattle.pfs_engine_machine.specs.Machine.{addition_of, answer_of_key, exceeded_of, outcome_of_held, tables_after_addition};
 ghost use Rattle.pfs_engine_machine.specs.Refusals.{IsFreeOf, is_tcp};
 ghost use Rattle.pfs_engine.specs.Held.{Holds, IsAnswered, IsDone, IsReachedBy, tables_held};
 ghost use Rattle.pfs_engine.specs.Meters.{AreFurtherLooks, AreLooksOf};
@@ -48,7 +48,7 @@ pub(crate) fn take_packet_of_state<S: Store>(
     requires found { IsReachedBy S.reaches held.old packet.now found }
     requires moment { now ≤ 2 ^ 63 }
     requires looks { looks.old ≤ 2 }
-    ensures answered { IsAnswered result (answer_of_key held.old.config held.old.held packet.now now) held.old held.new }
+    ensures answered { (cookie : Bool) → IsAnswered result (answer_of_key held.old.config held.old.held packet.now cookie now) held.old held.new }
     ensures free { (s : State) → state_with (key_of packet.now) held.old.held.world ≡ Some s →
         IsFreeOf held.old.config packet.now s.rule → IsOk result }
     ensures looks { AreLooksOf S.counts held.old.config held.old.held.world packet.now result looks.old looks.new }
@@ -108,14 +108,15 @@ fn complete_handshake<S: Store>(
     ensures looks { AreFurtherLooks S.counts looks.old looks.new
         (AreLooks held.old.config (source_states held.old.config.profile touched.now.dir touched.now.source held.old.held.world.states) result) }
 {
+    let unhindered = passed(touched);
     if !touched.completed {
-        return Outcome::State(touched.rule);
+        return unhindered;
     }
     let Some(options) = options(&held.config, touched.rule) else {
-        return Outcome::State(touched.rule);
+        return unhindered;
     };
     let Some(exceeded) = exceeded_limits(options, touched) else {
-        return Outcome::State(touched.rule);
+        return unhindered;
     };
     let added = add_source(&mut held.tables, options.overload, touched.source, now);
     let which = Killing {
@@ -131,6 +132,17 @@ fn complete_handshake<S: Store>(
         exceeded,
         overload: added,
         killed,
+    }
+}
+
+/// What comes of a packet of a held state that exceeds no limit: it goes on, or pf takes it itself.
+fn passed(touched: &Touched) -> Outcome
+    ensures { result ≡ outcome_of_held touched.now.rule touched.now.taken }
+{
+    if touched.taken {
+        Outcome::Taken(touched.rule)
+    } else {
+        Outcome::State(touched.rule)
     }
 }
 

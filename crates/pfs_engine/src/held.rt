@@ -1,20 +1,21 @@
 //! What is held under a configuration, as one value.
 
-ghost use Rattle.std.specs.Prelude.{◌≡◌, ◌<◌, ◌≤◌, ◌^◌, None, length, true, IfOk, IfSome, OnErr, option_map};
-ghost use Rattle.std.specs.Option.{ForSome};
+ghost use Rattle.std.specs.Prelude.{◌≡◌, ◌<◌, ◌≤◌, ◌^◌, false, None, is_none, length, true, IfOk, IfSome, OnErr, option_map};
 ghost use Rattle.pfs_addr_values.specs.Keys.{key_of};
 ghost use Rattle.pfs_conf_values.specs.Configs.{limit_of};
 ghost use Rattle.pfs_conf_values.specs.Invariants.{IsConfig};
 ghost use Rattle.pfs_eval.specs.Tables.{entered_to, entry_count};
 ghost use Rattle.pfs_eval.specs.Verdict.{IsRuleAt};
 ghost use Rattle.pfs_store_contract.specs.Calls.{state_number, state_rule};
+ghost use Rattle.pfs_store_contract.specs.Counts.{half_open};
 ghost use Rattle.pfs_store_contract.specs.Worlds.{empty_world, state_with};
-ghost use Rattle.pfs_engine_machine.specs.Machine.{answer_to_command, deciding_rule, due, held_of, start, world_after_purges};
+ghost use Rattle.pfs_engine_machine.specs.Machine.{answer_to_command, deciding_rule, held_of, start, world_after_purges};
+ghost use Rattle.pfs_engine_machine.specs.Shares.{seconds};
 ghost use Rattle.pfs_engine_machine.specs.Visits.{AreVisits};
-ghost use Rattle.pfs_engine.specs.Calls.{IsWorkOfSeconds};
 ghost use Rattle.pfs_engine.specs.Held.{Holds, IsAnsweredAs, IsDone};
+ghost use Rattle.pfs_engine.specs.Meters.{IsWorkOfPurges};
 
-use crate::purges::purge_due;
+use crate::purges::purge_each;
 use crate::works::Work;
 use pfs_addr_values::{FlowKey, Meter, NoMemory, Packet};
 use pfs_conf_values::{Config, LimitName, RuleNo, TableNo};
@@ -84,6 +85,13 @@ impl<S: Store> Held<S> {
         self.store.state_count()
     }
 
+    /// How many states are half open.
+    pub(crate) fn half_open(&self) -> u64
+        ensures { result ≡ half_open self.now.held.world.states }
+    {
+        self.store.half_open_count()
+    }
+
     /// How many source nodes are held.
     pub(crate) fn nodes(&self) -> u64
         ensures { result ≡ length self.now.held.world.nodes }
@@ -107,25 +115,32 @@ impl<S: Store> Held<S> {
         self.store.find(&FlowKey::of(packet))
     }
 
+    /// Whether no state has the key of a packet.
+    pub(crate) fn is_new(&self, packet: &Packet) -> bool
+        ensures { result ≡ is_none (state_with (key_of packet.now) self.now.held.world) }
+    {
+        self.find(packet).is_none()
+    }
+
     /// The rule that decides on a packet whose key no state has, if one does. It takes no memory.
     pub(crate) fn decide(&self, packet: &Packet, visits: &mut Meter) -> Option<RuleNo>
         requires { visits.old ≡ 0 }
         ensures rule { option_map (λ r. r.0) result ≡ deciding_rule self.now.config self.now.held packet.now }
         ensures known { IfSome result (λ r. IsRuleAt self.now.config.items r.0) }
-        ensures visits { AreVisits self.now.config self.now.held packet.now None visits.new }
+        ensures visits { AreVisits self.now.config self.now.held packet.now false None visits.new }
     {
         self.book.decide(&self.tables, packet, visits)
     }
 
-    /// All purges due between the last moment and this one; none before the first event. No memory is taken.
-    pub(crate) fn purge_due(&mut self, last: Option<u64>, now: u64) -> Work
-        requires order { ForSome last (λ m. m ≤ now) }
-        requires moment { now < 2 ^ 32 }
+    /// The purges of the seconds after one moment up to another, and the greatest slices. No memory is taken.
+    pub(crate) fn purge(&mut self, from: u64, to: u64) -> Work
+        requires order { from ≤ to }
+        requires moment { to < 2 ^ 32 }
         ensures held { Holds self.old self.new
-            (held_of (world_after_purges self.old.config self.old.held.world (due last now)) self.old.held.tables) }
-        ensures work { IsWorkOfSeconds S.counts self.old.config self.old.held.world (due last now) result }
+            (held_of (world_after_purges self.old.config self.old.held.world (seconds from to)) self.old.held.tables) }
+        ensures work { IsWorkOfPurges S.counts self.old.config self.old.held.world (seconds from to) result }
     {
-        purge_due(&mut self.store, last, now)
+        purge_each(&mut self.store, from, to)
     }
 
     /// Takes the entries out of a table that were added `seconds` before `now`, or earlier; those that the rules text says count

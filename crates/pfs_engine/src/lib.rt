@@ -2,10 +2,12 @@
 #![tactic(auto)]
 
 mod engine;
+mod guard;
 mod handshakes;
 mod held;
 pub mod laws;
 mod packets;
+mod passing;
 mod purges;
 mod watches;
 mod works;

@@ -1,26 +1,29 @@
 //! What one packet does.
 
-ghost use Rattle.std.specs.Prelude.{◌≡◌, ◌<◌, ◌≤◌, ◌^◌, None, Some, true, false, if◌then◌else◌, IfOk, IfSome, IsOk, option_map};
+ghost use Rattle.std.specs.Prelude.{◌≡◌, ◌<◌, ◌≤◌, ◌^◌, ◌||◌, None, Some, true, false, if◌then◌else◌, IfOk, IfSome, IsOk, OnErr, OnOk, option_map};
 ghost use Rattle.pfs_addr_values.specs.Keys.{key_of};
 ghost use Rattle.pfs_addr_values.specs.Packets.{run_limit};
 ghost use Rattle.pfs_eval.specs.Verdict.{IsRuleAt};
+ghost use Rattle.pfs_store_contract.specs.Admission.{is_answered};
 ghost use Rattle.pfs_store_contract.specs.Calls.{state_number, state_rule};
 ghost use Rattle.pfs_store_contract.specs.Touching.{may_reopen, reopens};
 ghost use Rattle.pfs_store_contract.specs.Worlds.{state_with};
+ghost use Rattle.pfs_engine_machine.specs.Guards.{asked, guard_after_packet, guard_for};
 ghost use Rattle.pfs_engine_machine.specs.Kept.{IsKept};
 ghost use Rattle.pfs_engine_machine.specs.Looks.{AreLooks};
-ghost use Rattle.pfs_engine_machine.specs.Machine.{answer_of_rule, deciding_rule, held_for};
+ghost use Rattle.pfs_engine_machine.specs.Machine.{answer_of_rule, deciding_rule, held_for, outcome_of_new, outcome_of_pass};
 ghost use Rattle.pfs_engine_machine.specs.Visits.{AreVisits};
-ghost use Rattle.pfs_engine.specs.Held.{Holds, IsAnswered, IsAnsweredTo, IsReachedBy};
-ghost use Rattle.pfs_engine.specs.Meters.{AreFirstLooks, AreMetersOf};
-ghost use Rattle.pfs_engine.specs.Packets.{NeedsNone, NeedsNoneBy, NeedsNoneOf};
+ghost use Rattle.pfs_engine.specs.Held.{Holds, IsAnswered, IsAnsweredBehindGuard, IsAnsweredTo, IsReachedBy};
+ghost use Rattle.pfs_engine.specs.Meters.{AreFirstLooks, AreMetersBehindGuard, AreMetersOf};
+ghost use Rattle.pfs_engine.specs.Packets.{NeedsNone, NeedsNoneBehindGuard, NeedsNoneBy, NeedsNoneOf};
 
+use crate::guard::Guard;
 use crate::handshakes::take_packet_of_state;
 use crate::held::Held;
-use pfs_addr_values::{FlowKey, Meter, NoMemory, Packet};
+use pfs_addr_values::{Flags, FlowKey, Meter, NoMemory, Packet, Proto};
 use pfs_conf_values::{Action, Config, RuleNo};
 use pfs_engine_machine::Outcome;
-use pfs_store_contract::{Found, Store};
+use pfs_store_contract::{Found, Store, is_answered};
 
 /// The meters of one packet.
 #[derive(Drop)]
@@ -43,9 +46,10 @@ impl Meters {
     }
 }
 
-/// What a packet does: it is one of a held state, or the rules decide on it. On an error what it meets is held.
-/// (pf.conf(5), STATEFUL FILTERING)
-pub(crate) fn answer<S: Store>(
+/// What a packet does: it gets a cookie, or it is one of a held state, or the rules decide on it, or on the SYN whose cookie it
+/// brings. On an error what it meets is held, behind the guard that it meets. (pf.conf(5), STATEFUL FILTERING)
+pub(crate) fn answer_behind_guard<S: Store>(
+    guard: &mut Guard,
     held: &mut Held<S>,
     packet: &Packet,
     now: u64,
@@ -55,14 +59,45 @@ pub(crate) fn answer<S: Store>(
     requires room { held.old.held.world.made < run_limit }
     requires moment { now ≤ 2 ^ 63 }
     requires meters { meters.old ≡ record { visits = 0; looks = 0 } }
-    ensures answered { IsAnsweredTo result packet.now now held.old held.new }
-    ensures free { NeedsNoneOf held.old.config (held_for held.old.config held.old.held packet.now now) packet.now → IsOk result }
+    ensures answered { IsAnsweredBehindGuard result guard.old packet.now now held.old held.new }
+    ensures guard { OnOk result (guard.new ≡ guard_after_packet held.old.config guard.old held.old.held.world packet.now now) }
+    ensures refused { OnErr result (guard.new ≡ guard_for held.old.config guard.old held.old.held.world packet.now now) }
+    ensures free { NeedsNoneBehindGuard held.old.config guard.old held.old.held packet.now now → IsOk result }
+    ensures meters { AreMetersBehindGuard S.counts held.old.config guard.old held.old.held packet.now now result
+        meters.new.visits meters.new.looks }
+{
+    if guard.gets_cookie(held, packet) {
+        return guard.give(&held.config, packet, now);
+    }
+    let cookie = guard.brings_cookie(held, packet);
+    let outcome = answer(held, packet, cookie, now, meters)?;
+    if cookie {
+        guard.take(packet);
+    }
+    Ok(outcome)
+}
+
+/// What a packet does that gets no cookie, by whether it brings one.
+fn answer<S: Store>(
+    held: &mut Held<S>,
+    packet: &Packet,
+    cookie: bool,
+    now: u64,
+    meters: &mut Meters,
+) -> Result<Outcome, NoMemory>
+    requires kept { IsKept held.old.config held.old.held now }
+    requires room { held.old.held.world.made < run_limit }
+    requires moment { now ≤ 2 ^ 63 }
+    requires meters { meters.old ≡ record { visits = 0; looks = 0 } }
+    requires tcp { cookie ≡ true → packet.now.proto ≡ Proto.Tcp }
+    ensures answered { IsAnsweredTo result packet.now cookie now held.old held.new }
+    ensures free { NeedsNoneOf held.old.config (held_for held.old.config held.old.held packet.now now) packet.now cookie → IsOk result }
     ensures meters { AreMetersOf S.counts held.old.config held.old.held (held_for held.old.config held.old.held packet.now now)
-        packet.now result meters.new.visits meters.new.looks }
+        packet.now cookie result meters.new.visits meters.new.looks }
 {
     match meet(held, packet, now, &mut meters.looks) {
         Some(found) => take_packet_of_state(held, found, packet, now, &mut meters.looks),
-        None => by_rules(held, packet, now, &mut meters.visits),
+        None => by_rules(held, packet, cookie, now, &mut meters.visits),
     }
 }
 
@@ -104,26 +139,50 @@ fn may_reopen(config: &Config, packet: &Packet) -> bool
     config.profile().is_openbsd() && flags.syn && !flags.ack
 }
 
-/// What the rules make of a packet that no held state has.
+/// What the rules make of a packet that no held state has, or of the SYN whose cookie it brings.
 fn by_rules<S: Store>(
     held: &mut Held<S>,
     packet: &Packet,
+    cookie: bool,
     now: u64,
     visits: &mut Meter,
 ) -> Result<Outcome, NoMemory>
     requires fresh { state_with (key_of packet.now) held.old.held.world ≡ None }
     requires room { held.old.held.world.made < run_limit }
+    requires tcp { cookie ≡ true → packet.now.proto ≡ Proto.Tcp }
     requires visits { visits.old ≡ 0 }
-    ensures answered { IsAnswered result (answer_of_rule held.old.config held.old.held packet.now now
-        (deciding_rule held.old.config held.old.held packet.now)) held.old held.new }
-    ensures visits { AreVisits held.old.config held.old.held packet.now None visits.new }
-    ensures free { NeedsNone held.old.config held.old.held packet.now None → IsOk result }
+    ensures answered { IsAnswered result (answer_of_rule held.old.config held.old.held packet.now cookie now
+        (deciding_rule held.old.config held.old.held (asked packet.now cookie))) held.old held.new }
+    ensures visits { AreVisits held.old.config held.old.held packet.now cookie None visits.new }
+    ensures free { NeedsNone held.old.config held.old.held packet.now cookie None → IsOk result }
     ensures no_looks { IfOk result (λ o. AreLooks held.old.config 0 o 0) }
 {
-    match held.decide(packet, visits) {
-        Some(rule) => by_action(held, packet, rule, now),
-        None => Ok(Outcome::Pass(None)),
+    match held.decide(&asked(packet, cookie), visits) {
+        Some(rule) => by_action(held, packet, rule, cookie, now),
+        None => Ok(passed(None, cookie)),
     }
+}
+
+/// The packet that rules are asked for: where it brings a cookie, the SYN that pf answered for them.
+fn asked(packet: &Packet, cookie: bool) -> Packet
+    requires { cookie ≡ true → packet.now.proto ≡ Proto.Tcp }
+    ensures { result ≡ asked packet.now cookie }
+{
+    if !cookie {
+        return *packet;
+    }
+    let syn_alone = Flags {
+        syn: true,
+        ..Flags::default()
+    };
+    Packet::new(
+        packet.dir(),
+        packet.ifname(),
+        packet.proto(),
+        packet.source(),
+        packet.destination(),
+        syn_alone,
+    )
 }
 
 /// What the rule that decides makes of it.
@@ -131,12 +190,13 @@ fn by_action<S: Store>(
     held: &mut Held<S>,
     packet: &Packet,
     rule: RuleNo,
+    cookie: bool,
     now: u64,
 ) -> Result<Outcome, NoMemory>
     requires fresh { state_with (key_of packet.now) held.old.held.world ≡ None }
     requires known { IsRuleAt held.old.config.items rule.0 }
     requires room { held.old.held.world.made < run_limit }
-    ensures answered { IsAnswered result (answer_of_rule held.old.config held.old.held packet.now now (Some rule.0)) held.old held.new }
+    ensures answered { IsAnswered result (answer_of_rule held.old.config held.old.held packet.now cookie now (Some rule.0)) held.old held.new }
     ensures free { NeedsNoneBy held.old.config held.old.held packet.now (Some rule.0) → IsOk result }
     ensures no_looks { IfOk result (λ o. AreLooks held.old.config 0 o 0) }
 {
@@ -145,10 +205,32 @@ fn by_action<S: Store>(
     };
     match &found.action {
         Action::Block => Ok(Outcome::Block(rule)),
-        Action::Pass => Ok(Outcome::Pass(Some(rule))),
-        Action::Keep(_) => match held.store.admit(packet, rule, now)? {
-            Ok(_) => Ok(Outcome::New(rule)),
+        Action::Pass => Ok(passed(Some(rule), cookie)),
+        Action::Keep(_) => match held.store.admit(packet, rule, cookie, now)? {
+            Ok(_) => Ok(made(&held.config, rule, packet, cookie)),
             Err(limit) => Ok(Outcome::Drop(rule, limit)),
         },
+    }
+}
+
+/// What comes of a packet that no state is made for: it passes; with a cookie it has nowhere to go.
+fn passed(rule: Option<RuleNo>, cookie: bool) -> Outcome
+    ensures { result ≡ outcome_of_pass rule cookie }
+{
+    if cookie {
+        Outcome::Stateless(rule)
+    } else {
+        Outcome::Pass(rule)
+    }
+}
+
+/// What came of a packet that made a state of a rule: it goes on, or pf answers it itself, as it does where it brings a cookie.
+fn made(config: &Config, rule: RuleNo, packet: &Packet, cookie: bool) -> Outcome
+    ensures { result ≡ outcome_of_new rule (cookie || is_answered config.now rule.0 packet.now) }
+{
+    if cookie || is_answered(config, rule, packet) {
+        Outcome::Answered(rule)
+    } else {
+        Outcome::New(rule)
     }
 }

@@ -1,10 +1,8 @@
 //! The purges that are due when time passes.
 
 ghost use Rattle.std.specs.Prelude.{◌≡◌, ◌+◌, ◌<◌, ◌≤◌, ◌^◌, ◌==◌, ◌&&◌, if◌then◌else◌, max};
-ghost use Rattle.std.specs.Option.{ForSome};
-ghost use Rattle.pfs_engine_machine.specs.Machine.{due, world_after_purges};
+ghost use Rattle.pfs_engine_machine.specs.Machine.{world_after_purges};
 ghost use Rattle.pfs_engine_machine.specs.Shares.{seconds};
-ghost use Rattle.pfs_engine.specs.Calls.{IsWorkOfSeconds};
 ghost use Rattle.pfs_engine.specs.Meters.{CountsOn, IsWorkOfPurges};
 ghost use Rattle.pfs_engine.specs.Watches.{IsOnTheWay, IsWatched, all_until};
 
@@ -12,26 +10,6 @@ use crate::watches::Watch;
 use crate::works::Work;
 use pfs_addr_values::Meter;
 use pfs_store_contract::{Slice, Store};
-
-/// All purges due between the last moment and this one; none before the first event. No memory is taken.
-pub(crate) fn purge_due<S: Store>(store: &mut S, last: Option<u64>, now: u64) -> Work
-    requires order { ForSome last (λ m. m ≤ now) }
-    requires moment { now < 2 ^ 32 }
-    ensures world { S.world store.new ≡ world_after_purges (S.config store.old) (S.world store.old) (due last now) }
-    ensures work { IsWorkOfSeconds S.counts (S.config store.old) (S.world store.old) (due last now) result }
-    ensures config { S.config store.new ≡ S.config store.old }
-{
-    match last {
-        Some(last) => {
-            let work = purge_each(store, last, now);
-            Work {
-                slices: 2 * (now - last),
-                ..work
-            }
-        }
-        None => Work::none(),
-    }
-}
 
 /// How far the seconds that are due have been done, the work of them, and what is known of those to come.
 #[derive(Clone, Copy)]
@@ -42,8 +20,8 @@ pub(crate) struct Passage {
     pub(crate) nodes: Watch,
 }
 
-/// The purges of the seconds after one moment up to another, and the greatest slices.
-fn purge_each<S: Store>(store: &mut S, from: u64, to: u64) -> Work
+/// The purges of the seconds after one moment up to another, and the greatest slices. No memory is taken.
+pub(crate) fn purge_each<S: Store>(store: &mut S, from: u64, to: u64) -> Work
     requires order { from ≤ to }
     requires moment { to < 2 ^ 32 }
     ensures world { S.world store.new ≡ world_after_purges (S.config store.old) (S.world store.old) (seconds from to) }

@@ -18,7 +18,7 @@ use Rattle.pfs_store_contract.specs.Counts.{has_node, is_node, is_of_node, node_
 use Rattle.pfs_store_contract.specs.Handshakes.{hits_connections, hits_rate, over_rate}
 use Rattle.pfs_store_contract.specs.Leaving.{world_without}
 use Rattle.pfs_store_contract.specs.Purging.{node_round, node_share, purge, state_round, state_share, state_slice, stays}
-use Rattle.pfs_store_contract.specs.Touching.{completes_at, may_reopen, node_score, nodes_scored, nodes_touched, score_in, world_after_touch}
+use Rattle.pfs_store_contract.specs.Touching.{completes_at, is_taken, may_reopen, node_score, nodes_scored, nodes_touched, score_in, world_after_touch}
 use Rattle.pfs_store_contract.specs.Worlds.{World, state_with}
 use Rattle.pfs_store_contract.specs.declared.records.Limit.{Limit}
 use Rattle.pfs_store_contract.specs.declared.records.Node.{Node}
@@ -28,14 +28,17 @@ use Rattle.pfs_track.specs.Scores.{score_after, zero_score}
 use Rattle.pfs_track.specs.declared.scores.Score.{Score}
 use Rattle.pfs_engine_machine.proofs.Counts.{any-push, count-filter_le, count-push}
 use Rattle.pfs_engine_machine.specs.Kept.{moment_of, own_scope}
-use Rattle.pfs_engine_machine.specs.Machine.{Held, Machine, answer_to_arrival, machine_at_moment, answer_to_packet, answer_of_exceeded, answer_of_key, answer_of_state, answer_of_handshake, due, exceeded_of, first_moment, held_for, held_of, world_after_purges, start, step, machine_after, outcomes_of}
+use Rattle.pfs_engine_machine.specs.Guards.{Guard, brings_cookie, gets_cookie}
+use Rattle.pfs_engine_machine.specs.Machine.{Held, Machine, answer_behind_guard, answer_to_arrival, machine_at_moment, answer_to_packet, answer_of_exceeded, answer_of_key, answer_of_state, answer_of_handshake, due, exceeded_of, first_moment, held_for, held_of, world_after_purges, start, step, machine_after, outcomes_of}
 use Rattle.pfs_engine_machine.specs.Rates.{Handshake, completed_state, score_through, handshake_at, handshaking_state, handshakes, history_score, is_from, moments_of, with_handshake}
 use Rattle.pfs_engine_machine.specs.Runs.{IsInOrder}
 use Rattle.pfs_engine_machine.specs.declared.events.Event.{Event}
 use Rattle.pfs_engine_machine.specs.declared.events.Arrival.{Arrival}
 use Rattle.pfs_engine_machine.specs.declared.events.Arrival.TheVariants as arrival
+use Rattle.pfs_engine_machine.specs.declared.events.Outcome.TheVariants as outcome
+use Rattle.pfs_engine_machine.proofs.GuardLaws.{gets-alone}
 use Rattle.pfs_engine_machine.proofs.PacketChanges.{Changes, key_has}
-use Rattle.pfs_engine_machine.proofs.Reopening.{anew-completes, completing_meets, met_has, met_same}
+use Rattle.pfs_engine_machine.proofs.Reopening.{alone-completes, anew-completes, completing_meets, met_has, met_same}
 use Rattle.pfs_engine_machine.proofs.KeptAdmission.{nodes_with-own}
 use Rattle.pfs_engine_machine.proofs.Limits.{world_with_stray}
 use Rattle.pfs_engine_machine.proofs.Hearing.{IsRated, RemembersIn, found-count, heard, is_of, long, rated, scope-rated, score-this, scored-in, states-touched}
@@ -95,10 +98,10 @@ more-count rule source seconds now history count count' nodes h noded r = record
   noded = noded;
 }
 
-admitted-in : (conf : Conf) (rule : ℕ) (source : Addr) (x : Rate) (now : ℕ) (history : Score) (w : World) (p : PacketView) (other at : ℕ) → IsRated conf rule x
-    → RemembersIn conf rule source x.seconds now history w → RemembersIn conf rule source x.seconds now history (world_after_admission conf w p other at)
-admitted-in conf rule source x now history w p other at i r =
-    let new : State = new_state conf (w.made + 1) p other at in
+admitted-in : (conf : Conf) (rule : ℕ) (source : Addr) (x : Rate) (now : ℕ) (history : Score) (w : World) (p : PacketView) (cookie : Bool) (other at : ℕ) → IsRated conf rule x
+    → RemembersIn conf rule source x.seconds now history w → RemembersIn conf rule source x.seconds now history (world_after_admission conf w p other cookie at)
+admitted-in conf rule source x now history w p cookie other at i r =
+    let new : State = new_state conf (w.made + 1) p other cookie at in
     let before : ℕ = node_states conf (own_scope rule) source w.states in
     let grown = count-push (is_of_node conf (own_scope rule) source) w.states new in
     let nodes : List Node = nodes_with w.nodes (w.made + 1) p.source.addr at (node_scope_of conf other) in
@@ -107,8 +110,8 @@ admitted-in conf rule source x now history w p other at i r =
     (λ some. go ((other == rule) && same_addr p.source.addr source) refl grown some held.noded) held
   where
     go : (b : Bool) → ((other == rule) && same_addr p.source.addr source) ≡ b
-        → node_states conf (own_scope rule) source (w.states ++ new_state conf (w.made + 1) p other at ∷ []) ≡ node_states conf (own_scope rule) source w.states + cond b 1 0
-        → 0 < node_states conf (own_scope rule) source (w.states ++ new_state conf (w.made + 1) p other at ∷ [])
+        → node_states conf (own_scope rule) source (w.states ++ new_state conf (w.made + 1) p other cookie at ∷ []) ≡ node_states conf (own_scope rule) source w.states + cond b 1 0
+        → 0 < node_states conf (own_scope rule) source (w.states ++ new_state conf (w.made + 1) p other cookie at ∷ [])
         → (0 < node_states conf (own_scope rule) source w.states → has_node (own_scope rule) source (nodes_with w.nodes (w.made + 1) p.source.addr at (node_scope_of conf other)) ≡ true)
         → has_node (own_scope rule) source (nodes_with w.nodes (w.made + 1) p.source.addr at (node_scope_of conf other)) ≡ true
     go true e g some h =
@@ -152,12 +155,12 @@ touched-in conf rule source x now history w p s i found r =
     go true = scored-in conf rule source x now history (node_states conf (own_scope rule) source w.states) w.nodes s i (found-count conf rule source p w s found) r
     go false = r
 
-packet-in : (conf : Conf) (rule : ℕ) (source : Addr) (x : Rate) (now : ℕ) (history : Score) (w : World) (p : PacketView) → IsRated conf rule x
+packet-in : (conf : Conf) (rule : ℕ) (source : Addr) (x : Rate) (now : ℕ) (history : Score) (w : World) (p : PacketView) (cookie : Bool) → IsRated conf rule x
     → RemembersIn conf rule source x.seconds now history w
-    → Changes conf w p now (RemembersIn conf rule source x.seconds now (heard rule source x.seconds history now (completed_state p (state_with (key_of p) w))))
-packet-in conf rule source x now history w p i r = record {
+    → Changes conf w p cookie now (RemembersIn conf rule source x.seconds now (heard rule source x.seconds history now (completed_state p (state_with (key_of p) w))))
+packet-in conf rule source x now history w p cookie i r = record {
   passes = λ fresh. given (state_with (key_of p) w) None w fresh r;
-  admits = λ other fresh none. given (state_with (key_of p) w) None (world_after_admission conf w p other now) fresh (admitted-in conf rule source x now history w p other now i r);
+  admits = λ other fresh none. given (state_with (key_of p) w) None (world_after_admission conf w p other cookie now) fresh (admitted-in conf rule source x now history w p cookie other now i r);
   touches = λ s found. given (state_with (key_of p) w) (Some s) (world_after_touch conf w s p now) found (touched-in conf rule source x now history w p s i found r);
   refuses = λ other limit fresh met. given (state_with (key_of p) w) None (world_after_refusal conf w p.source.addr other now limit) fresh
       (refused-in conf rule source x.seconds now history w p other now limit r);
@@ -216,19 +219,42 @@ completed_when_met conf h p now = by (may_reopen conf p) refl
     by true e = none e (state_with (key_of p) (held_for conf h p now).world) ∙ sym (none e (state_with (key_of p) h.world))
     by false e = ap (λ (m : Held). completed_state p (state_with (key_of p) m.world)) (met_same conf h p now e)
 
-acted-in : (conf : Conf) (rule : ℕ) (source : Addr) (x : Rate) (first now : ℕ) (history : Score) (h : Held) → IsRated conf rule x → (what : Arrival)
+-- nor does one that gets a cookie
+none_completed : (conf : Conf) (g : Guard) (w : World) (p : PacketView) (found : Option State) → gets_cookie conf g w p ≡ true → completed_state p found ≡ None
+none_completed conf g w p None gets = refl
+none_completed conf g w p (Some s) gets = ap (λ (b : Bool). cond b (Some s) None) (alone-completes p s (gets-alone conf g w p gets))
+
+answered-in : (conf : Conf) (rule : ℕ) (source : Addr) (x : Rate) (now : ℕ) (history : Score) (h : Held) (p : PacketView) (cookie : Bool) → IsRated conf rule x
     → RemembersIn conf rule source x.seconds now history h.world
-    → RemembersIn conf rule source x.seconds now (heard rule source x.seconds history now (handshaking_state h.world what)) (answer_to_arrival conf h first now what).1.world
-acted-in conf rule source x first now history h i arrival.Skip r = r
-acted-in conf rule source x first now history h i (arrival.Table table done) r = r
-acted-in conf rule source x first now history h i arrival.Held r = r
-acted-in conf rule source x first now history h i (arrival.Packet p) r =
+    → RemembersIn conf rule source x.seconds now (heard rule source x.seconds history now (completed_state p (state_with (key_of p) h.world))) (answer_to_packet conf h p cookie now).1.world
+answered-in conf rule source x now history h p cookie i r =
     let met : Held = held_for conf h p now in
     let same : completed_state p (state_with (key_of p) met.world) ≡ completed_state p (state_with (key_of p) h.world) = completed_when_met conf h p now in
-    subst (λ (o : Option State). RemembersIn conf rule source x.seconds now (heard rule source x.seconds history now o) (answer_of_key conf met p now).1.world) same
-    (key_has conf met p now (RemembersIn conf rule source x.seconds now (heard rule source x.seconds history now (completed_state p (state_with (key_of p) met.world))))
-    (packet-in conf rule source x now history met.world p i
+    subst (λ (o : Option State). RemembersIn conf rule source x.seconds now (heard rule source x.seconds history now o) (answer_of_key conf met p cookie now).1.world) same
+    (key_has conf met p cookie now (RemembersIn conf rule source x.seconds now (heard rule source x.seconds history now (completed_state p (state_with (key_of p) met.world))))
+    (packet-in conf rule source x now history met.world p cookie i
     (met_has conf h p now (RemembersIn conf rule source x.seconds now history) r (λ stay. without-in conf rule source x now history h.world stay i r))))
+
+guarded-in : (conf : Conf) (rule : ℕ) (source : Addr) (x : Rate) (now : ℕ) (history : Score) (g : Guard) (h : Held) (p : PacketView) → IsRated conf rule x
+    → RemembersIn conf rule source x.seconds now history h.world
+    → RemembersIn conf rule source x.seconds now (heard rule source x.seconds history now (completed_state p (state_with (key_of p) h.world))) (answer_behind_guard conf g h p now).1.world
+guarded-in conf rule source x now history g h p i r = by (gets_cookie conf g h.world p) refl
+  where
+    after : Option State → World → Type 0
+    after o w = RemembersIn conf rule source x.seconds now (heard rule source x.seconds history now o) w
+
+    by : (b : Bool) → gets_cookie conf g h.world p ≡ b
+        → after (completed_state p (state_with (key_of p) h.world)) (cond b (outcome.Cookie, h) (answer_to_packet conf h p (brings_cookie g h.world p) now)).1.world
+    by true e = subst (λ (o : Option State). after o h.world) (sym (none_completed conf g h.world p (state_with (key_of p) h.world) e)) r
+    by false e = answered-in conf rule source x now history h p (brings_cookie g h.world p) i r
+
+acted-in : (conf : Conf) (rule : ℕ) (source : Addr) (x : Rate) (first now : ℕ) (history : Score) (g : Guard) (h : Held) → IsRated conf rule x → (what : Arrival)
+    → RemembersIn conf rule source x.seconds now history h.world
+    → RemembersIn conf rule source x.seconds now (heard rule source x.seconds history now (handshaking_state h.world what)) (answer_to_arrival conf g h first now what).1.world
+acted-in conf rule source x first now history g h i arrival.Skip r = r
+acted-in conf rule source x first now history g h i (arrival.Table table done) r = r
+acted-in conf rule source x first now history g h i arrival.Held r = r
+acted-in conf rule source x first now history g h i (arrival.Packet p) r = guarded-in conf rule source x now history g h p i r
 
 abbrev RemembersAt : Conf → ℕ → Addr → ℕ → Score → Machine → Type 0
 RemembersAt conf rule source seconds history m = RemembersIn conf rule source seconds (moment_of m.last) history m.held.world
@@ -238,7 +264,7 @@ step-in : (conf : Conf) (rule : ℕ) (source : Addr) (x : Rate) (history : Score
     → RemembersAt conf rule source x.seconds (heard rule source x.seconds history e.time (handshake_at conf m e)) (step conf m e).1
 unfolding step
 step-in conf rule source x history m e i h r =
-    acted-in conf rule source x (first_moment m.first e.time) e.time history (machine_at_moment conf m e.time).held i e.what (due-in conf rule source x history i m.held.world m.last e.time h r)
+    acted-in conf rule source x (first_moment m.first e.time) e.time history (machine_at_moment conf m e.time).guard (machine_at_moment conf m e.time).held i e.what (due-in conf rule source x history i m.held.world m.last e.time h r)
 
 -- ---- the history
 
@@ -317,24 +343,36 @@ score-in conf x now history w p s i found act_done r =
     ∙ score-this s.rule.0 s.source x.seconds now history (node_states conf (own_scope s.rule.0) s.source w.states) w.nodes r.nodes (r.noded some)
 
 -- the outcome says whether the score is over the limit
-rate-hit : (conf : Conf) (h : Held) (s : State) (now : ℕ) (conn rate : Bool)
-    → rate_hit (answer_of_exceeded conf h s.number s.dir s.rule s.source now (exceeded_of conn rate)).0 ≡ rate
-rate-hit conf h s now true true = refl
-rate-hit conf h s now true false = refl
-rate-hit conf h s now false true = refl
-rate-hit conf h s now false false = refl
+rate-hit : (conf : Conf) (h : Held) (s : State) (now : ℕ) (taken conn rate : Bool)
+    → rate_hit (answer_of_exceeded conf h s.number s.dir s.rule s.source now taken (exceeded_of conn rate)).0 ≡ rate
+rate-hit conf h s now taken true true = refl
+rate-hit conf h s now taken true false = refl
+rate-hit conf h s now taken false true = refl
+rate-hit conf h s now true false false = refl
+rate-hit conf h s now false false false = refl
 
-hit-in : (conf : Conf) (x : Rate) (now : ℕ) (h : Held) (p : PacketView) (s : State) → IsRated conf s.rule.0 x → completed_state p (state_with (key_of p) h.world) ≡ Some s
-    → rate_hit (answer_to_packet conf h p now).0 ≡ nat_lt (1000 * x.limit) (score_in s.source (world_after_touch conf h.world s p now).nodes (node_scope_of conf s.rule.0)).value
-hit-in conf x now h p s i e =
+hit-in : (conf : Conf) (x : Rate) (now : ℕ) (h : Held) (p : PacketView) (cookie : Bool) (s : State) → IsRated conf s.rule.0 x → completed_state p (state_with (key_of p) h.world) ≡ Some s
+    → rate_hit (answer_to_packet conf h p cookie now).0 ≡ nat_lt (1000 * x.limit) (score_in s.source (world_after_touch conf h.world s p now).nodes (node_scope_of conf s.rule.0)).value
+hit-in conf x now h p cookie s i e =
     let q = completed-is p (state_with (key_of p) h.world) s e in
     let v : Held = held_of (world_after_touch conf h.world s p now) h.tables in
     let score : Score = score_in s.source v.world.nodes (node_scope_of conf s.rule.0) in
-    ap (λ (m : Held). rate_hit (answer_of_key conf m p now).0) (completing_meets conf h p now s q.1)
-    ∙ ap (λ (found : Option State). rate_hit (answer_of_state conf h p now found).0) q.0
-    ∙ ap (λ (b : Bool). rate_hit (answer_of_handshake conf v s now b).0) q.1
-    ∙ rate-hit conf v s now (hits_connections conf v.world s) (hits_rate conf v.world s)
+    ap (λ (m : Held). rate_hit (answer_of_key conf m p cookie now).0) (completing_meets conf h p now s q.1)
+    ∙ ap (λ (found : Option State). rate_hit (answer_of_state conf h p cookie now found).0) q.0
+    ∙ ap (λ (b : Bool). rate_hit (answer_of_handshake conf v s now (is_taken p s) b).0) q.1
+    ∙ rate-hit conf v s now (is_taken p s) (hits_connections conf v.world s) (hits_rate conf v.world s)
     ∙ ap (λ (r : Option Rate). over_rate r score.value) i.is
+
+-- a packet that completes a handshake gets no cookie
+guarded-hit : (conf : Conf) (x : Rate) (now : ℕ) (g : Guard) (h : Held) (p : PacketView) (s : State) → IsRated conf s.rule.0 x → completed_state p (state_with (key_of p) h.world) ≡ Some s
+    → rate_hit (answer_behind_guard conf g h p now).0 ≡ nat_lt (1000 * x.limit) (score_in s.source (world_after_touch conf h.world s p now).nodes (node_scope_of conf s.rule.0)).value
+guarded-hit conf x now g h p s i e = by (gets_cookie conf g h.world p) refl
+  where
+    by : (b : Bool) → gets_cookie conf g h.world p ≡ b
+        → rate_hit (cond b (outcome.Cookie, h) (answer_to_packet conf h p (brings_cookie g h.world p) now)).0
+        ≡ nat_lt (1000 * x.limit) (score_in s.source (world_after_touch conf h.world s p now).nodes (node_scope_of conf s.rule.0)).value
+    by true f = absurd (let no = sym (none_completed conf g h.world p (state_with (key_of p) h.world) f) ∙ e in cc)
+    by false f = hit-in conf x now h p (brings_cookie g h.world p) s i e
 
 score-at : (conf : Conf) (x : Rate) (now : ℕ) (history : Score) (w : World) (what : Arrival) (s : State) → IsRated conf s.rule.0 x → handshaking_state w what ≡ Some s
     → RemembersIn conf s.rule.0 s.source x.seconds now history w → score_compared conf w now what s ≡ score_after x.seconds history now
@@ -344,12 +382,12 @@ score-at conf x now history w arrival.Held s i e r = cc
 score-at conf x now history w (arrival.Packet p) s i e r =
     let q = completed-is p (state_with (key_of p) w) s e in score-in conf x now history w p s i q.0 q.1 r
 
-hit-at : (conf : Conf) (x : Rate) (first now : ℕ) (h : Held) (what : Arrival) (s : State) → IsRated conf s.rule.0 x → handshaking_state h.world what ≡ Some s
-    → rate_hit (answer_to_arrival conf h first now what).0 ≡ nat_lt (1000 * x.limit) (score_compared conf h.world now what s).value
-hit-at conf x first now h arrival.Skip s i e = cc
-hit-at conf x first now h (arrival.Table table done) s i e = cc
-hit-at conf x first now h arrival.Held s i e = cc
-hit-at conf x first now h (arrival.Packet p) s i e = hit-in conf x now h p s i e
+hit-at : (conf : Conf) (x : Rate) (first now : ℕ) (g : Guard) (h : Held) (what : Arrival) (s : State) → IsRated conf s.rule.0 x → handshaking_state h.world what ≡ Some s
+    → rate_hit (answer_to_arrival conf g h first now what).0 ≡ nat_lt (1000 * x.limit) (score_compared conf h.world now what s).value
+hit-at conf x first now g h arrival.Skip s i e = cc
+hit-at conf x first now g h (arrival.Table table done) s i e = cc
+hit-at conf x first now g h arrival.Held s i e = cc
+hit-at conf x first now g h (arrival.Packet p) s i e = guarded-hit conf x now g h p s i e
 
 pub score-is-remembered : (conf : Conf) (events : List Event) → IsConfig conf → IsInOrder None events → ScoreIsRemembered conf events
 score-is-remembered conf events sound order before e s rate is =
@@ -380,7 +418,7 @@ outcome-hit : (conf : Conf) (events : List Event) → IsConfig conf → IsInOrde
 unfolding step
 outcome-hit conf events sound order before e s rate is =
     let m : Machine = machine_after conf (start conf) before in
-    hit-at conf rate (first_moment m.first e.time) e.time (machine_at_moment conf m e.time).held e.what s (rated conf sound s.rule.0 rate is.rated) is.completes
+    hit-at conf rate (first_moment m.first e.time) e.time (machine_at_moment conf m e.time).guard (machine_at_moment conf m e.time).held e.what s (rated conf sound s.rule.0 rate is.rated) is.completes
     ∙ ap (λ (y : Score). nat_lt (1000 * rate.limit) y.value) (score-is-remembered conf events sound order before e s rate is)
 
 pub rate-is-remembered : (conf : Conf) (events : List Event) → IsConfig conf → IsInOrder None events → RateIsRemembered conf events

@@ -8,17 +8,18 @@ use Rattle.pfs_addr_values.specs.Packets.{PacketView}
 use Rattle.pfs_addr_values.specs.Sameness.{same_addr}
 use Rattle.pfs_addr_values.specs.declared.addresses.Addr.{Addr}
 use Rattle.pfs_addr_values.specs.declared.packets.Dir.{Dir}
+use Rattle.pfs_addr_values.specs.declared.flag_sets.Flags.{Flags}
 use Rattle.pfs_addr_values.specs.declared.packets.Dir.TheVariants as dir
 use Rattle.pfs_addr_values.specs.declared.protocols.Proto.{Proto}
 use Rattle.pfs_addr_values.specs.declared.protocols.Proto.TheVariants as proto
 use Rattle.pfs_conf_values.proofs.RuleLaws.{options_of-AreOptions}
-use Rattle.pfs_conf_values.specs.Configs.{Conf, options_of, scope_of, tracks_fully}
+use Rattle.pfs_conf_values.specs.Configs.{Conf, is_synproxy, options_of, scope_of, tracks_fully}
 use Rattle.pfs_conf_values.specs.Invariants.{IsConfig}
 use Rattle.pfs_conf_values.specs.LoadRules.{IsCount}
 use Rattle.pfs_conf_values.specs.declared.actions.Scope.{Scope}
 use Rattle.pfs_conf_values.specs.declared.actions.Scope.TheVariants as scope
 use Rattle.pfs_store_contract.proofs.MomentLaws.{world_at-up_to_now}
-use Rattle.pfs_store_contract.specs.Admission.{world_after_admission, new_node, new_state, nodes_with}
+use Rattle.pfs_store_contract.specs.Admission.{asks_in, is_answered, world_after_admission, new_node, new_phase, new_state, nodes_with}
 use Rattle.pfs_store_contract.specs.Calls.{packet_limit}
 use Rattle.pfs_store_contract.specs.Leaving.{end_on}
 use Rattle.pfs_store_contract.specs.SourceLimits.{source_limit}
@@ -29,14 +30,15 @@ use Rattle.pfs_store_contract.specs.declared.records.Node.{Node}
 use Rattle.pfs_store_contract.specs.declared.records.NodeScope.{NodeScope}
 use Rattle.pfs_store_contract.specs.declared.records.NodeScope.TheVariants as node_scope
 use Rattle.pfs_store_contract.specs.declared.records.State.{State}
-use Rattle.pfs_track.specs.StatePhases.{first_phase, is_done}
+use Rattle.pfs_track.specs.StatePhases.{cookie_phase, first_phase, is_done, proxied_phase}
 use Rattle.pfs_engine_machine.proofs.Counts.{any-push, count-push_failing, count-push_le, count-push_passing}
+use Rattle.pfs_engine_machine.proofs.GuardLaws.{IsTcpWith}
 use Rattle.pfs_engine_machine.proofs.Keys.{keys-push}
 use Rattle.pfs_engine_machine.proofs.Limits.{MeetsNone, held_free, meets_none, new_free, nodes_room, not_reached, refused_has, world_with_stray}
 use Rattle.pfs_engine_machine.proofs.Numbers.{Rise-more, Rise-push}
 use Rattle.pfs_engine_machine.proofs.Scopes.{IsScopeOf, global-IsScopeOf, none_without_node, own_scope-IsScopeOf, scope-alone, scope-shared}
 use Rattle.pfs_engine_machine.specs.Kept.{HasNode, HasSource, IsKept, IsPhaseOf, IsWithinShared, TracksAlone, own_scope}
-use Rattle.std.proofs.lemmas.Bool.{and_parts}
+use Rattle.std.proofs.lemmas.Bool.{and_parts, and_right, false≢true}
 use Rattle.pfs_store_contract.proofs.ScopeLaws.{same_scope_self, same_scope_true}
 use Rattle.pfs_engine_machine.specs.Machine.{Held, held_of, held_refused}
 
@@ -59,15 +61,15 @@ room_states conf w rule source found sound whole at free noded n is = by (has_no
         omega (arith, none_without_node conf found source w.nodes whole e w.states noded, count.0)
 
 -- the states of each source of a rule that tracks sources by itself
-states_with : (conf : Conf) (w : World) (p : PacketView) (rule now other : ℕ) (source : Addr) → IsConfig conf → TracksAlone conf other
+states_with : (conf : Conf) (w : World) (p : PacketView) (cookie : Bool) (rule now other : ℕ) (source : Addr) → IsConfig conf → TracksAlone conf other
     → MeetsNone conf w rule p.source.addr → All (HasNode conf w.nodes) w.states
     → (n : ℕ) → (options_of conf other).max_src_states ≡ Some n → node_states conf (own_scope other) source w.states ≤ n
-    → node_states conf (own_scope other) source (world_after_admission conf w p rule now).states ≤ n
-states_with conf w p rule now other source sound alone free noded n is before =
-    by (is_of_node conf (own_scope other) source (new_state conf (w.made + 1) p rule now)) refl
+    → node_states conf (own_scope other) source (world_after_admission conf w p rule cookie now).states ≤ n
+states_with conf w p cookie rule now other source sound alone free noded n is before =
+    by (is_of_node conf (own_scope other) source (new_state conf (w.made + 1) p rule cookie now)) refl
   where
-    by : (b : Bool) → is_of_node conf (own_scope other) source (new_state conf (w.made + 1) p rule now) ≡ b
-        → node_states conf (own_scope other) source (w.states ++ new_state conf (w.made + 1) p rule now ∷ []) ≤ n
+    by : (b : Bool) → is_of_node conf (own_scope other) source (new_state conf (w.made + 1) p rule cookie now) ≡ b
+        → node_states conf (own_scope other) source (w.states ++ new_state conf (w.made + 1) p rule cookie now ∷ []) ≤ n
     by true e =
         let one = (and_parts (rule == other) (same_addr p.source.addr source) e).0 in
         let same : other ≡ rule = grind (arith, nat_tests) in
@@ -76,9 +78,9 @@ states_with conf w p rule now other source sound alone free noded n is before =
         let max : (options_of conf rule).max_src_states ≡ Some n = sym (ap (λ i. (options_of conf i).max_src_states) same) ∙ is in
         let room = room_states conf w rule p.source.addr (own_scope rule) sound (own_scope-IsScopeOf conf rule own) (scope-alone conf rule own) free.sources noded n max in
         let count : node_states conf (own_scope other) source w.states ≡ node_states conf (own_scope rule) p.source.addr w.states = rw (same, from) refl in
-        omega (arith, count-push_passing (is_of_node conf (own_scope other) source) w.states (new_state conf (w.made + 1) p rule now) e, count, room)
+        omega (arith, count-push_passing (is_of_node conf (own_scope other) source) w.states (new_state conf (w.made + 1) p rule cookie now) e, count, room)
     by false e =
-        omega (arith, count-push_failing (is_of_node conf (own_scope other) source) w.states (new_state conf (w.made + 1) p rule now) e, before)
+        omega (arith, count-push_failing (is_of_node conf (own_scope other) source) w.states (new_state conf (w.made + 1) p rule cookie now) e, before)
 
 -- a new state is no connection
 undone : (full : Bool) (p : Proto) → is_done (first_phase full p) ≡ false
@@ -87,24 +89,32 @@ undone false proto.Tcp = refl
 undone full proto.Udp = refl
 undone full (proto.Other n) = refl
 
-connections_with : (conf : Conf) (w : World) (p : PacketView) (rule now : ℕ) (found : NodeScope) (source : Addr)
-    → node_connections conf found source (world_after_admission conf w p rule now).states ≡ node_connections conf found source w.states
-connections_with conf w p rule now found source =
-    count-push_failing (is_connection conf found source) w.states (new_state conf (w.made + 1) p rule now)
-    (ap (λ b. b && is_of_node conf found source (new_state conf (w.made + 1) p rule now)) (undone (tracks_fully conf rule) p.proto))
+undone_new : (conf : Conf) (rule : ℕ) (p : PacketView) (cookie : Bool) → is_done (new_phase conf rule p cookie) ≡ false
+undone_new conf rule p true = refl
+undone_new conf rule p false = by (is_answered conf rule p)
+  where
+    by : (b : Bool) → is_done (if b then proxied_phase (tracks_fully conf rule) else first_phase (tracks_fully conf rule) p.proto) ≡ false
+    by true = refl
+    by false = undone (tracks_fully conf rule) p.proto
+
+connections_with : (conf : Conf) (w : World) (p : PacketView) (cookie : Bool) (rule now : ℕ) (found : NodeScope) (source : Addr)
+    → node_connections conf found source (world_after_admission conf w p rule cookie now).states ≡ node_connections conf found source w.states
+connections_with conf w p cookie rule now found source =
+    count-push_failing (is_connection conf found source) w.states (new_state conf (w.made + 1) p rule cookie now)
+    (ap (λ b. b && is_of_node conf found source (new_state conf (w.made + 1) p rule cookie now)) (undone_new conf rule p cookie))
 
 -- the states of each rule
-rule_states_with : (conf : Conf) (w : World) (p : PacketView) (rule now other : ℕ) → MeetsNone conf w rule p.source.addr
-    → (n : ℕ) → (options_of conf other).max ≡ Some n → rule_states other w.states ≤ n → rule_states other (world_after_admission conf w p rule now).states ≤ n
-rule_states_with conf w p rule now other free n is before = by (rule == other) refl
+rule_states_with : (conf : Conf) (w : World) (p : PacketView) (cookie : Bool) (rule now other : ℕ) → MeetsNone conf w rule p.source.addr
+    → (n : ℕ) → (options_of conf other).max ≡ Some n → rule_states other w.states ≤ n → rule_states other (world_after_admission conf w p rule cookie now).states ≤ n
+rule_states_with conf w p cookie rule now other free n is before = by (rule == other) refl
   where
-    by : (b : Bool) → (rule == other) ≡ b → rule_states other (w.states ++ new_state conf (w.made + 1) p rule now ∷ []) ≤ n
+    by : (b : Bool) → (rule == other) ≡ b → rule_states other (w.states ++ new_state conf (w.made + 1) p rule cookie now ∷ []) ≤ n
     by true e =
         let same : other ≡ rule = grind (arith, nat_tests) in
         let max : (options_of conf rule).max ≡ Some n = sym (ap (λ i. (options_of conf i).max) same) ∙ is in
         let room = not_reached (options_of conf rule).max (rule_states rule w.states) n free.most max in
-        omega (arith, count-push_passing (is_of_rule other) w.states (new_state conf (w.made + 1) p rule now) e, ap (λ i. rule_states i w.states) same, room)
-    by false e = omega (arith, count-push_failing (is_of_rule other) w.states (new_state conf (w.made + 1) p rule now) e, before)
+        omega (arith, count-push_passing (is_of_rule other) w.states (new_state conf (w.made + 1) p rule cookie now) e, ap (λ i. rule_states i w.states) same, room)
+    by false e = omega (arith, count-push_failing (is_of_rule other) w.states (new_state conf (w.made + 1) p rule cookie now) e, before)
 
 -- ---- the nodes
 
@@ -175,11 +185,11 @@ nodes_with-own nodes number now source found = by (has_node found source nodes) 
     by true e = e
     by false e = any-push (is_node found source) nodes (new_node number found source now) ∙ rw (e, same_scope_self found, same_addr_self source) refl
 
-noded_with : (conf : Conf) (w : World) (p : PacketView) (rule now : ℕ) → All (HasNode conf w.nodes) w.states
-    → All (HasNode conf (world_after_admission conf w p rule now).nodes) (world_after_admission conf w p rule now).states
-noded_with conf w p rule now h =
+noded_with : (conf : Conf) (w : World) (p : PacketView) (cookie : Bool) (rule now : ℕ) → All (HasNode conf w.nodes) w.states
+    → All (HasNode conf (world_after_admission conf w p rule cookie now).nodes) (world_after_admission conf w p rule cookie now).states
+noded_with conf w p cookie rule now h =
     let nodes = nodes_with w.nodes (w.made + 1) p.source.addr now (node_scope_of conf rule) in
-    All-push (HasNode conf nodes) w.states (new_state conf (w.made + 1) p rule now)
+    All-push (HasNode conf nodes) w.states (new_state conf (w.made + 1) p rule cookie now)
     (All-weaker (HasNode conf w.nodes) (HasNode conf nodes)
     (λ s k found is. nodes_with-more w.nodes (w.made + 1) now p.source.addr (node_scope_of conf rule) found s.source (k found is)) w.states h)
     (λ found is. ap (λ at. has_node found p.source.addr (nodes_with w.nodes (w.made + 1) p.source.addr now at)) is ∙ nodes_with-own w.nodes (w.made + 1) now p.source.addr found)
@@ -192,9 +202,27 @@ phase_first false proto.Tcp = tt
 phase_first full proto.Udp = tt
 phase_first full (proto.Other n) = tt
 
+-- pf answers TCP alone
+answered_tcp : (conf : Conf) (rule : ℕ) (dir : Dir) (protocol : Proto) (flags : Flags) → (is_synproxy conf rule && asks_in dir protocol flags) ≡ true
+    → IsPhaseOf protocol (proxied_phase (tracks_fully conf rule))
+answered_tcp conf rule dir proto.Tcp flags e = tt
+answered_tcp conf rule dir.In proto.Udp flags e = absurd (false≢true (sym (and_right (is_synproxy conf rule) false refl) ∙ e))
+answered_tcp conf rule dir.Out proto.Udp flags e = absurd (false≢true (sym (and_right (is_synproxy conf rule) false refl) ∙ e))
+answered_tcp conf rule dir.In (proto.Other n) flags e = absurd (false≢true (sym (and_right (is_synproxy conf rule) false refl) ∙ e))
+answered_tcp conf rule dir.Out (proto.Other n) flags e = absurd (false≢true (sym (and_right (is_synproxy conf rule) false refl) ∙ e))
+
+phase_new : (conf : Conf) (rule : ℕ) (p : PacketView) (cookie : Bool) → IsTcpWith cookie p.proto → IsPhaseOf p.proto (new_phase conf rule p cookie)
+phase_new conf rule p true tcp = subst (λ (q : Proto). IsPhaseOf q (cookie_phase (tracks_fully conf rule))) (sym (tcp refl)) tt
+phase_new conf rule p false tcp = by (is_answered conf rule p) refl
+  where
+    by : (b : Bool) → is_answered conf rule p ≡ b
+        → IsPhaseOf p.proto (if b then proxied_phase (tracks_fully conf rule) else first_phase (tracks_fully conf rule) p.proto)
+    by true e = answered_tcp conf rule p.dir p.proto p.flags e
+    by false e = phase_first (tracks_fully conf rule) p.proto
+
 -- the source of a packet is in its key
-source_first : (conf : Conf) (number rule now : ℕ) (p : PacketView) → HasSource (new_state conf number p rule now)
-source_first conf number rule now p = by p.dir
+source_first : (conf : Conf) (number rule now : ℕ) (p : PacketView) (cookie : Bool) → HasSource (new_state conf number p rule cookie now)
+source_first conf number rule now p cookie = by p.dir
   where
     by : (d : Dir) → (end_on d (record { proto = p.proto; a = first_end d p; b = second_end d p })).addr ≡ p.source.addr
     by dir.In = refl
@@ -202,33 +230,33 @@ source_first conf number rule now p = by p.dir
 
 -- ---- what is kept
 
-pub kept_admitted : (conf : Conf) (m : Held) (p : PacketView) (rule now : ℕ) → IsConfig conf → state_with (key_of p) m.world ≡ None
+pub kept_admitted : (conf : Conf) (m : Held) (p : PacketView) (cookie : Bool) (rule now : ℕ) → IsConfig conf → IsTcpWith cookie p.proto → state_with (key_of p) m.world ≡ None
     → packet_limit conf m.world p rule ≡ None → IsKept conf m now
-    → IsKept conf (held_of (world_after_admission conf m.world p rule now) m.tables) now
-kept_admitted conf m p rule now sound fresh met k =
+    → IsKept conf (held_of (world_after_admission conf m.world p rule cookie now) m.tables) now
+kept_admitted conf m p cookie rule now sound tcp fresh met k =
     let w = m.world in
-    let new = new_state conf (w.made + 1) p rule now in
+    let new = new_state conf (w.made + 1) p rule cookie now in
     let free = meets_none conf w rule p.source.addr met in
     record {
       limits = record {
         states = omega (arith, length-append w.states (new ∷ []), free.room);
         nodes = nodes_room conf w (options_of conf rule) p.source.addr (w.made + 1) now (node_scope_of conf rule) free.sources k.limits.nodes;
         entries = k.limits.entries;
-        rule_states = λ other n is. rule_states_with conf w p rule now other free n is (k.limits.rule_states other n is);
+        rule_states = λ other n is. rule_states_with conf w p cookie rule now other free n is (k.limits.rule_states other n is);
         source_nodes = λ other alone n is.
             scope_nodes_with conf w rule (w.made + 1) now other p.source.addr (node_scope_of conf rule) refl free.sources n is (k.limits.source_nodes other alone n is);
         source_states = λ other source alone n is.
-            states_with conf w p rule now other source sound alone free k.noded n is (k.limits.source_states other source alone n is);
+            states_with conf w p cookie rule now other source sound alone free k.noded n is (k.limits.source_states other source alone n is);
         source_connections = λ other source alone n is.
-            omega (arith, connections_with conf w p rule now (own_scope other) source, k.limits.source_connections other source alone n is);
+            omega (arith, connections_with conf w p cookie rule now (own_scope other) source, k.limits.source_connections other source alone n is);
       };
       numbers = Rise-push 0 w.made w.states new k.numbers (omega arith);
       keys = keys-push w.states new fresh k.keys;
-      noded = noded_with conf w p rule now k.noded;
-      sources = All-push HasSource w.states new k.sources (source_first conf (w.made + 1) rule now p);
-      phases = All-push (λ (s : State). IsPhaseOf s.key.proto s.phase) w.states new k.phases (phase_first (tracks_fully conf rule) p.proto);
+      noded = noded_with conf w p cookie rule now k.noded;
+      sources = All-push HasSource w.states new k.sources (source_first conf (w.made + 1) rule now p cookie);
+      phases = All-push (λ (s : State). IsPhaseOf s.key.proto s.phase) w.states new k.phases (phase_new conf rule p cookie tcp);
       tables = k.tables;
-      moments = world_at-up_to_now conf w p rule now None k.moments;
+      moments = world_at-up_to_now conf w p rule cookie now None k.moments;
     }
 
 -- a node without a state, of a source that meets no limit
@@ -256,7 +284,7 @@ kept_stray conf m p rule now free k =
       phases = k.phases;
       sources = k.sources;
       tables = k.tables;
-      moments = world_at-up_to_now conf w p rule now None k.moments;
+      moments = world_at-up_to_now conf w p rule false now None k.moments;
     }
 
 pub kept_refused : (conf : Conf) (m : Held) (p : PacketView) (rule now : ℕ) (l : Limit) → packet_limit conf m.world p rule ≡ Some l → IsKept conf m now
@@ -265,12 +293,12 @@ kept_refused conf m p rule now l met k =
     refused_has conf m.world rule p.source.addr now l (λ (w : World). IsKept conf (held_of w m.tables) now) met k (λ free. kept_stray conf m p rule now free k)
 
 -- directly after it, the maxima of a rule with shared nodes hold too
-pub shared_admitted : (conf : Conf) (m : Held) (p : PacketView) (rule now : ℕ) → IsConfig conf
+pub shared_admitted : (conf : Conf) (m : Held) (p : PacketView) (cookie : Bool) (rule now : ℕ) → IsConfig conf
     → packet_limit conf m.world p rule ≡ None → scope_of conf rule ≡ Some scope.Global → IsKept conf m now
-    → IsWithinShared conf rule p.source.addr m.world (world_after_admission conf m.world p rule now)
-shared_admitted conf m p rule now sound met shared k =
+    → IsWithinShared conf rule p.source.addr m.world (world_after_admission conf m.world p rule cookie now)
+shared_admitted conf m p cookie rule now sound met shared k =
     let w = m.world in
-    let new = new_state conf (w.made + 1) p rule now in
+    let new = new_state conf (w.made + 1) p rule cookie now in
     let free = meets_none conf w rule p.source.addr met in
     let own = scope-shared conf rule shared in
     record {

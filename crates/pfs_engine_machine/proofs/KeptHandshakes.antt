@@ -19,7 +19,7 @@ use Rattle.pfs_store_contract.proofs.MomentLaws.{left-up_to_now, world_touched-u
 use Rattle.pfs_store_contract.specs.Counts.{has_node, is_of_node, is_of_rule, node_connections, node_scope_of, node_states, rule_states, scope_nodes}
 use Rattle.pfs_store_contract.specs.Handshakes.{flush_of, hits_connections, hits_rate, stays_at_kill}
 use Rattle.pfs_store_contract.specs.Leaving.{world_without}
-use Rattle.pfs_store_contract.specs.Touching.{completes_at, goes_forward, nodes_touched, numbered_state_after, world_after_touch}
+use Rattle.pfs_store_contract.specs.Touching.{completes_at, is_taken, goes_forward, nodes_touched, numbered_state_after, world_after_touch}
 use Rattle.pfs_store_contract.specs.Worlds.{IsUpToNow, World, state_with}
 use Rattle.pfs_store_contract.specs.declared.records.Node.{Node}
 use Rattle.pfs_store_contract.specs.declared.records.NodeScope.{NodeScope}
@@ -239,27 +239,27 @@ kept_killed conf m p now s limits found k =
 kept_by_handshake : (conf : Conf) (m : Held) (p : PacketView) (now : ℕ) (s : State) (conn rate : Bool) → state_with (key_of p) m.world ≡ Some s
     → IsKept conf m now → conn ≡ hits_connections conf (world_after_touch conf m.world s p now) s
     → (completes : Bool) → completes_at p s ≡ completes
-    → IsKept conf (answer_of_exceeded conf (held_of (world_after_touch conf m.world s p now) m.tables) s.number s.dir s.rule s.source now (if completes then exceeded_of conn rate else None)).1 now
+    → IsKept conf (answer_of_exceeded conf (held_of (world_after_touch conf m.world s p now) m.tables) s.number s.dir s.rule s.source now (is_taken p s) (if completes then exceeded_of conn rate else None)).1 now
 kept_by_handshake conf m p now s conn rate found k is false done = kept_touched conf m p now s found (inl done) k
 kept_by_handshake conf m p now s true true found k is true done = kept_killed conf m p now s exceeded.Both found k
 kept_by_handshake conf m p now s true false found k is true done = kept_killed conf m p now s exceeded.Connections found k
 kept_by_handshake conf m p now s false true found k is true done = kept_killed conf m p now s exceeded.Rate found k
 kept_by_handshake conf m p now s false false found k is true done = kept_touched conf m p now s found (inr (sym is)) k
 
-pub kept_held : (conf : Conf) (m : Held) (p : PacketView) (now : ℕ) (s : State) → state_with (key_of p) m.world ≡ Some s
-    → IsKept conf m now → IsKept conf (answer_of_state conf m p now (Some s)).1 now
-kept_held conf m p now s found k =
+pub kept_held : (conf : Conf) (m : Held) (p : PacketView) (cookie : Bool) (now : ℕ) (s : State) → state_with (key_of p) m.world ≡ Some s
+    → IsKept conf m now → IsKept conf (answer_of_state conf m p cookie now (Some s)).1 now
+kept_held conf m p cookie now s found k =
     let after = world_after_touch conf m.world s p now in
     kept_by_handshake conf m p now s (hits_connections conf after s) (hits_rate conf after s) found k refl (completes_at p s) refl
 
 -- no state is made
-pub made_held : (conf : Conf) (m : Held) (p : PacketView) (now : ℕ) (s : State) → (answer_of_state conf m p now (Some s)).1.world.made ≡ m.world.made
-made_held conf m p now s = by (if completes_at p s then exceeded_of (hits_connections conf after s) (hits_rate conf after s) else None)
+pub made_held : (conf : Conf) (m : Held) (p : PacketView) (cookie : Bool) (now : ℕ) (s : State) → (answer_of_state conf m p cookie now (Some s)).1.world.made ≡ m.world.made
+made_held conf m p cookie now s = by (if completes_at p s then exceeded_of (hits_connections conf after s) (hits_rate conf after s) else None)
   where
     after : World
     after = world_after_touch conf m.world s p now
 
-    by : (limits : Option Exceeded) → (answer_of_exceeded conf (held_of after m.tables) s.number s.dir s.rule s.source now limits).1.world.made ≡ m.world.made
+    by : (limits : Option Exceeded) → (answer_of_exceeded conf (held_of after m.tables) s.number s.dir s.rule s.source now (is_taken p s) limits).1.world.made ≡ m.world.made
     by (Some e) = refl
     by None = refl
 

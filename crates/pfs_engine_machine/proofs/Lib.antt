@@ -3,7 +3,11 @@ mod Alike
 pub mod Answering
 mod Changes
 mod Connections
+mod CookieEnds
+mod CookieLives
 pub mod Counts
+pub mod GuardLaws
+pub mod GuardTurns
 mod Hearing
 mod HeldNumbers
 mod Histories

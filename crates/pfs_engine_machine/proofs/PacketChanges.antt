@@ -7,7 +7,7 @@ use Rattle.pfs_store_contract.specs.Admission.{world_after_admission, world_afte
 use Rattle.pfs_store_contract.specs.Calls.{packet_limit}
 use Rattle.pfs_store_contract.specs.Handshakes.{stays_at_kill, flush_of, hits_connections, hits_rate}
 use Rattle.pfs_store_contract.specs.Leaving.{world_without}
-use Rattle.pfs_store_contract.specs.Touching.{completes_at, world_after_touch}
+use Rattle.pfs_store_contract.specs.Touching.{completes_at, is_taken, world_after_touch}
 use Rattle.pfs_store_contract.specs.Worlds.{World, state_with}
 use Rattle.pfs_store_contract.specs.declared.records.Limit.{Limit}
 use Rattle.pfs_store_contract.specs.declared.records.State.{State}
@@ -18,26 +18,26 @@ use Rattle.pfs_engine_machine.specs.declared.events.Exceeded.{Exceeded}
 use Rattle.pfs_engine_machine.specs.declared.events.Outcome.{Outcome}
 
 -- a fact of what a packet leaves, from what it may do to what it meets
-pub record Changes (conf : Conf) (w : World) (p : PacketView) (now : ℕ) (Q : World → Type 0) : Type 0 where
+pub record Changes (conf : Conf) (w : World) (p : PacketView) (cookie : Bool) (now : ℕ) (Q : World → Type 0) : Type 0 where
   pub passes : state_with (key_of p) w ≡ None → Q w
-  pub admits : (rule : ℕ) → state_with (key_of p) w ≡ None → packet_limit conf w p rule ≡ None → Q (world_after_admission conf w p rule now)
+  pub admits : (rule : ℕ) → state_with (key_of p) w ≡ None → packet_limit conf w p rule ≡ None → Q (world_after_admission conf w p rule cookie now)
   pub refuses : (rule : ℕ) (limit : Limit) → state_with (key_of p) w ≡ None → packet_limit conf w p rule ≡ Some limit → Q (world_after_refusal conf w p.source.addr rule now limit)
   pub touches : (s : State) → state_with (key_of p) w ≡ Some s → Q (world_after_touch conf w s p now)
   pub kills : (v : World) (stays : State → Bool) → Q v → Q (world_without conf v stays now)
 
-handshake_has : (conf : Conf) (h : Held) (s : State) (now : ℕ) (completes : Bool) (Q : World → Type 0)
-    → ((v : World) (stays : State → Bool) → Q v → Q (world_without conf v stays now)) → Q h.world → Q (answer_of_handshake conf h s now completes).1.world
-handshake_has conf h s now completes Q kills k = by (if completes then exceeded_of (hits_connections conf h.world s) (hits_rate conf h.world s) else None)
+handshake_has : (conf : Conf) (h : Held) (s : State) (now : ℕ) (taken completes : Bool) (Q : World → Type 0)
+    → ((v : World) (stays : State → Bool) → Q v → Q (world_without conf v stays now)) → Q h.world → Q (answer_of_handshake conf h s now taken completes).1.world
+handshake_has conf h s now taken completes Q kills k = by (if completes then exceeded_of (hits_connections conf h.world s) (hits_rate conf h.world s) else None)
   where
-    by : (limits : Option Exceeded) → Q (answer_of_exceeded conf h s.number s.dir s.rule s.source now limits).1.world
+    by : (limits : Option Exceeded) → Q (answer_of_exceeded conf h s.number s.dir s.rule s.source now taken limits).1.world
     by (Some e) = kills h.world (stays_at_kill conf.profile (flush_of (options_of conf s.rule.0).overload) s.number s.dir s.rule s.source) k
     by None = k
 
-pub key_has : (conf : Conf) (h : Held) (p : PacketView) (now : ℕ) (Q : World → Type 0) → Changes conf h.world p now Q → Q (answer_of_key conf h p now).1.world
-key_has conf h p now Q c = go (state_with (key_of p) h.world) refl
+pub key_has : (conf : Conf) (h : Held) (p : PacketView) (cookie : Bool) (now : ℕ) (Q : World → Type 0) → Changes conf h.world p cookie now Q → Q (answer_of_key conf h p cookie now).1.world
+key_has conf h p cookie now Q c = go (state_with (key_of p) h.world) refl
   where
-    go : (found : Option State) → state_with (key_of p) h.world ≡ found → Q (answer_of_key conf h p now).1.world
-    go None fresh = answering.answered_has conf h p now (λ (a : Outcome × Held). Q a.1.world) (record {
+    go : (found : Option State) → state_with (key_of p) h.world ≡ found → Q (answer_of_key conf h p cookie now).1.world
+    go None fresh = answering.answered_has conf h p cookie now (λ (a : Outcome × Held). Q a.1.world) (record {
       held = λ s found. absurd (let same = sym fresh ∙ found in cc);
       passes = c.passes fresh;
       passed = λ rule. c.passes fresh;
@@ -46,27 +46,27 @@ key_has conf h p now Q c = go (state_with (key_of p) h.world) refl
       made = λ rule none. c.admits rule fresh none;
     })
     go (Some s) found =
-        subst (λ (o : Option State). Q (answer_of_state conf h p now o).1.world) (sym found)
-        (handshake_has conf (held_of (world_after_touch conf h.world s p now) h.tables) s now (completes_at p s) Q c.kills (c.touches s found))
+        subst (λ (o : Option State). Q (answer_of_state conf h p cookie now o).1.world) (sym found)
+        (handshake_has conf (held_of (world_after_touch conf h.world s p now) h.tables) s now (is_taken p s) (completes_at p s) Q c.kills (c.touches s found))
 
 -- ---- a fact that each change keeps
 
 pub record IsKeptByPackets (conf : Conf) (P : World → Type 0) : Type 0 where
   pub touches : (w : World) (s : State) (p : PacketView) (now : ℕ) → P w → P (world_after_touch conf w s p now)
   pub kills : (w : World) (stays : State → Bool) (now : ℕ) → P w → P (world_without conf w stays now)
-  pub admits : (w : World) (p : PacketView) (rule now : ℕ) → packet_limit conf w p rule ≡ None → P w → P (world_after_admission conf w p rule now)
+  pub admits : (w : World) (p : PacketView) (cookie : Bool) (rule now : ℕ) → packet_limit conf w p rule ≡ None → P w → P (world_after_admission conf w p rule cookie now)
   pub refuses : (w : World) (p : PacketView) (rule now : ℕ) (limit : Limit) → packet_limit conf w p rule ≡ Some limit → P w
       → P (world_after_refusal conf w p.source.addr rule now limit)
 
-key_keeps : (conf : Conf) (P : World → Type 0) → IsKeptByPackets conf P → (h : Held) (p : PacketView) (now : ℕ) → P h.world → P (answer_of_key conf h p now).1.world
-key_keeps conf P k h p now i = key_has conf h p now P (record {
+key_keeps : (conf : Conf) (P : World → Type 0) → IsKeptByPackets conf P → (h : Held) (p : PacketView) (cookie : Bool) (now : ℕ) → P h.world → P (answer_of_key conf h p cookie now).1.world
+key_keeps conf P k h p cookie now i = key_has conf h p cookie now P (record {
   passes = λ fresh. i;
-  admits = λ rule fresh none. k.admits h.world p rule now none i;
+  admits = λ rule fresh none. k.admits h.world p cookie rule now none i;
   refuses = λ rule limit fresh met. k.refuses h.world p rule now limit met i;
   touches = λ s found. k.touches h.world s p now i;
   kills = λ v stays j. k.kills v stays now j;
 })
 
-pub answered_keeps : (conf : Conf) (P : World → Type 0) → IsKeptByPackets conf P → (h : Held) (p : PacketView) (now : ℕ) → P h.world → P (answer_to_packet conf h p now).1.world
-answered_keeps conf P k h p now i =
-    key_keeps conf P k (held_for conf h p now) p now (met_has conf h p now P i (λ stays. k.kills h.world stays now i))
+pub answered_keeps : (conf : Conf) (P : World → Type 0) → IsKeptByPackets conf P → (h : Held) (p : PacketView) (cookie : Bool) (now : ℕ) → P h.world → P (answer_to_packet conf h p cookie now).1.world
+answered_keeps conf P k h p cookie now i =
+    key_keeps conf P k (held_for conf h p now) p cookie now (met_has conf h p now P i (λ stays. k.kills h.world stays now i))

@@ -65,6 +65,12 @@ ends_not_complete full forward flags s r h =
     by false true x y done closed same e f = same (done y) ∙ f
     by false false x y done closed same e f = f
 
+proxy_not_complete : (done forward ack others : Bool) → ack ≡ false → (not done && forward && ack && others) ≡ false
+proxy_not_complete true forward ack others h = refl
+proxy_not_complete false false ack others h = refl
+proxy_not_complete false true true others h = absurd (false≢true (sym h))
+proxy_not_complete false true false others h = refl
+
 not_complete : (ph : StatePhase) (forward : Bool) (flags : Flags) → flags.ack ≡ false → completes ph forward flags ≡ false
 not_complete (phase.Tcp p) true flags h = ends_not_complete false true flags p.maker p.other h
 not_complete (phase.Tcp p) false flags h = ends_not_complete false false flags p.other p.maker h
@@ -72,12 +78,16 @@ not_complete (phase.FullTcp p) true flags h = ends_not_complete true true flags 
 not_complete (phase.FullTcp p) false flags h = ends_not_complete true false flags p.other p.maker h
 not_complete (phase.Udp p) forward flags h = refl
 not_complete (phase.Other p) forward flags h = refl
+not_complete (phase.Proxied p) forward flags h = proxy_not_complete p.complete forward flags.ack (not (flags.syn || flags.fin || flags.rst)) h
+
+pub alone-completes : (p : PacketView) (s : State) → p.flags.ack ≡ false → completes_at p s ≡ false
+alone-completes p s h = not_complete s.phase (goes_forward p s) p.flags h
 
 -- so one that may begin a connection anew completes none
 pub anew-completes : (conf : Conf) (p : PacketView) (s : State) → may_reopen conf p ≡ true → completes_at p s ≡ false
 anew-completes conf p s h =
     let flags = (and_parts (is_openbsd conf.profile) (p.flags.syn && not p.flags.ack) h).1 in
-    not_complete s.phase (goes_forward p s) p.flags (unset p.flags.ack (and_parts p.flags.syn (not p.flags.ack) flags).1)
+    alone-completes p s (unset p.flags.ack (and_parts p.flags.syn (not p.flags.ack) flags).1)
   where
     unset : (b : Bool) → not b ≡ true → b ≡ false
     unset true e = absurd (false≢true e)

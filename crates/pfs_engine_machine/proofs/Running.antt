@@ -13,6 +13,12 @@ unfolding machine_after
 machine_after-push conf m [] e = refl
 machine_after-push conf m (x ∷ xs) e = machine_after-push conf (step conf m x).1 xs e
 
+-- and more of them
+pub machine_after-append : (conf : Conf) (m : Machine) (xs ys : List Event) → machine_after conf m (xs ++ ys) ≡ machine_after conf (machine_after conf m xs) ys
+unfolding machine_after
+machine_after-append conf m [] ys = refl
+machine_after-append conf m (x ∷ xs) ys = machine_after-append conf (step conf m x).1 xs ys
+
 pub outcomes_of-push : (conf : Conf) (m : Machine) (xs : List Event) (e : Event) → outcomes_of conf m (xs ++ e ∷ []) ≡ outcomes_of conf m xs ++ (step conf (machine_after conf m xs) e).0 ∷ []
 unfolding machine_after outcomes_of
 outcomes_of-push conf m [] e = refl

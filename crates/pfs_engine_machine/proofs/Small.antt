@@ -53,9 +53,9 @@ made-admitted nodes made now source (Some scope) h n k = go (has_node scope sour
     go true e = omega (arith, h n e)
     go false e = made-more (λ (d : Node). d.number) made nodes new refl h n e
 
-small-admitted : (conf : Conf) (w : World) (p : PacketView) (rule now : ℕ) → packet_limit conf w p rule ≡ None → IsSmall conf w → IsSmall conf (world_after_admission conf w p rule now)
-small-admitted conf w p rule now e k =
-    let new : State = new_state conf (w.made + 1) p rule now in
+small-admitted : (conf : Conf) (w : World) (p : PacketView) (cookie : Bool) (rule now : ℕ) → packet_limit conf w p rule ≡ None → IsSmall conf w → IsSmall conf (world_after_admission conf w p rule cookie now)
+small-admitted conf w p cookie rule now e k =
+    let new : State = new_state conf (w.made + 1) p rule cookie now in
     let free = meets_none conf w rule p.source.addr e in
     record {
       states = omega (arith, length-append w.states (new ∷ []), free.room);
@@ -141,8 +141,8 @@ small-nodes conf w s k =
 
 pub small-done : (conf : Conf) (m : Held) (a : RunAct) → IsSmall conf m.world → IsSmall conf (act_done conf m a).world
 small-done conf m (Purge s) k = small-nodes conf (state_slice conf m.world s) s (small-states conf m.world s k)
-small-done conf m (Arrive now p) k =
-    answered_keeps conf (IsSmall conf) (record { touches = small-touched conf; kills = small-without conf; admits = small-admitted conf; refuses = small-refused conf }) m p now k
+small-done conf m (Arrive now p cookie) k =
+    answered_keeps conf (IsSmall conf) (record { touches = small-touched conf; kills = small-without conf; admits = small-admitted conf; refuses = small-refused conf }) m p cookie now k
 small-done conf m (Change first now table done) k = k
 
 pub small-done_all : (conf : Conf) (m : Held) (acts : List RunAct) → IsSmall conf m.world → IsSmall conf (acts_done conf m acts).world

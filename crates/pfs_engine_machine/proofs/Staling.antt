@@ -98,9 +98,9 @@ state-packets conf k n = record {
     fate = fate-same (state_share conf) (interval_of conf) k n _ _ w.pending_states (numbers-renewed s.number p now w.states) h.fate;
   };
   kills = λ w stays now h. record { made = h.made; fate = fate-kill (state_share conf) (interval_of conf) k n stays w.states w.pending_states h.fate };
-  admits = λ w p rule now none h. record {
+  admits = λ w p cookie rule now none h. record {
     made = omega (arith, h.made);
-    fate = fate-push (λ (s : State). s.number) (state_share conf) (interval_of conf) k n w.states (new_state conf (w.made + 1) p rule now) w.pending_states (omega (arith, h.made)) h.fate;
+    fate = fate-push (λ (s : State). s.number) (state_share conf) (interval_of conf) k n w.states (new_state conf (w.made + 1) p rule cookie now) w.pending_states (omega (arith, h.made)) h.fate;
   };
   refuses = λ w p rule now l met h.
       refused_has conf w rule p.source.addr now l (StateAwaits conf k n) met h (λ free. record { made = omega (arith, h.made); fate = h.fate });
@@ -134,10 +134,10 @@ state-goes conf n m [] one small h all = state-end conf n m.world one h
 state-goes conf n m (Purge s ∷ acts) one small h all =
     state-goes conf n (act_done conf m (Purge s)) acts one (small-done conf m (Purge s) small) (state-purged conf (purges acts) n m.world s one small (all [] acts s refl) h)
     (λ before rest t e. all (Purge s ∷ before) rest t (ap (λ (xs : List RunAct). Purge s ∷ xs) e))
-state-goes conf n m (Arrive now p ∷ acts) one small h all =
-    state-goes conf n (act_done conf m (Arrive now p)) acts one (small-done conf m (Arrive now p) small)
-    (answered_keeps conf (StateAwaits conf (purges acts) n) (state-packets conf (purges acts) n) m p now h)
-    (λ before rest t e. all (Arrive now p ∷ before) rest t (ap (λ (xs : List RunAct). Arrive now p ∷ xs) e))
+state-goes conf n m (Arrive now p cookie ∷ acts) one small h all =
+    state-goes conf n (act_done conf m (Arrive now p cookie)) acts one (small-done conf m (Arrive now p cookie) small)
+    (answered_keeps conf (StateAwaits conf (purges acts) n) (state-packets conf (purges acts) n) m p cookie now h)
+    (λ before rest t e. all (Arrive now p cookie ∷ before) rest t (ap (λ (xs : List RunAct). Arrive now p cookie ∷ xs) e))
 state-goes conf n m (Change first now table done ∷ acts) one small h all =
     state-goes conf n (act_done conf m (Change first now table done)) acts one small h
     (λ before rest t e. all (Change first now table done ∷ before) rest t (ap (λ (xs : List RunAct). Change first now table done ∷ xs) e))
@@ -186,7 +186,7 @@ node-packets conf k n = record {
     fate = fate-same (node_share conf) (interval_of conf) k n _ _ w.pending_nodes (numbers-touched conf w.nodes s now (completes_at p s)) h.fate;
   };
   kills = λ w stays now h. node-left conf k n w (filter stays w.states) (filter (holds_number (filter stays w.states)) w.pending_states) now h;
-  admits = λ w p rule now none h. record {
+  admits = λ w p cookie rule now none h. record {
     made = omega (arith, h.made);
     fate = node-admitted conf k n w.made now w.nodes w.pending_nodes p.source.addr (node_scope_of conf rule) h.made h.fate;
   };
@@ -227,10 +227,10 @@ node-goes conf n m (Purge s ∷ acts) one small h all =
     node-goes conf n (act_done conf m (Purge s)) acts one (small-done conf m (Purge s) small)
     (node-purged conf (purges acts) n m.world s one (small-states conf m.world s small) (all [] acts s refl) sliced)
     (λ before rest t e. all (Purge s ∷ before) rest t (ap (λ (xs : List RunAct). Purge s ∷ xs) e))
-node-goes conf n m (Arrive now p ∷ acts) one small h all =
-    node-goes conf n (act_done conf m (Arrive now p)) acts one (small-done conf m (Arrive now p) small)
-    (answered_keeps conf (NodeAwaits conf (purges acts) n) (node-packets conf (purges acts) n) m p now h)
-    (λ before rest t e. all (Arrive now p ∷ before) rest t (ap (λ (xs : List RunAct). Arrive now p ∷ xs) e))
+node-goes conf n m (Arrive now p cookie ∷ acts) one small h all =
+    node-goes conf n (act_done conf m (Arrive now p cookie)) acts one (small-done conf m (Arrive now p cookie) small)
+    (answered_keeps conf (NodeAwaits conf (purges acts) n) (node-packets conf (purges acts) n) m p cookie now h)
+    (λ before rest t e. all (Arrive now p cookie ∷ before) rest t (ap (λ (xs : List RunAct). Arrive now p cookie ∷ xs) e))
 node-goes conf n m (Change first now table done ∷ acts) one small h all =
     node-goes conf n (act_done conf m (Change first now table done)) acts one small h
     (λ before rest t e. all (Change first now table done ∷ before) rest t (ap (λ (xs : List RunAct). Change first now table done ∷ xs) e))

@@ -40,7 +40,7 @@ numbered-packets : (conf : Conf) → IsKeptByPackets conf AreNumbered
 numbered-packets conf = record {
   touches = λ w s p now h. record { rise = Rise-map (numbered_state_after s.number p now) (λ t. (renewed-same s.number p now t).number) 0 w.made w.states h.rise };
   kills = λ w stay now h. record { rise = Rise-filter stay 0 w.made w.states h.rise };
-  admits = λ w p rule now none h. record { rise = Rise-push 0 w.made w.states (new_state conf (w.made + 1) p rule now) h.rise (omega arith) };
+  admits = λ w p cookie rule now none h. record { rise = Rise-push 0 w.made w.states (new_state conf (w.made + 1) p rule cookie now) h.rise (omega arith) };
   refuses = λ w p rule now l met h. refused_has conf w rule p.source.addr now l AreNumbered met h (λ free. record { rise = Rise-more 0 w.made w.states h.rise });
 }
 
@@ -48,8 +48,8 @@ numbered-all : (conf : Conf) (m : Held) (acts : List RunAct) → AreNumbered m.w
 numbered-all conf m [] h = h
 numbered-all conf m (Purge s ∷ acts) h =
     numbered-all conf (act_done conf m (Purge s)) acts (record { rise = Rise-filter (stays conf m.world.states s (take (state_share conf) (state_round m.world))) 0 m.world.made m.world.states h.rise })
-numbered-all conf m (Arrive now p ∷ acts) h =
-    numbered-all conf (act_done conf m (Arrive now p)) acts (answered_keeps conf AreNumbered (numbered-packets conf) m p now h)
+numbered-all conf m (Arrive now p cookie ∷ acts) h =
+    numbered-all conf (act_done conf m (Arrive now p cookie)) acts (answered_keeps conf AreNumbered (numbered-packets conf) m p cookie now h)
 numbered-all conf m (Change first now table done ∷ acts) h = numbered-all conf (act_done conf m (Change first now table done)) acts h
 
 above : (low high : ℕ) (ss : List State) → Rise low ss high → AllByRecursion (λ (t : State). low < t.number) ss
@@ -110,12 +110,12 @@ another s w p apart h x e n =
 before-left : (conf : Conf) (s : State) (w : World) (stay : State → Bool) (now : ℕ) → IsAsBefore s w → IsAsBefore s (world_without conf w stay now)
 before-left conf s w stay now h = record { made = h.made; same = each-filter (λ (t : State). t.number ≡ s.number → t ≡ s) stay w.states h.same }
 
-before-packet : (conf : Conf) (s : State) (w : World) (p : PacketView) (now : ℕ) → same_key s.key (key_of p) ≡ false → IsAsBefore s w → Changes conf w p now (IsAsBefore s)
-before-packet conf s w p now apart h = record {
+before-packet : (conf : Conf) (s : State) (w : World) (p : PacketView) (cookie : Bool) (now : ℕ) → same_key s.key (key_of p) ≡ false → IsAsBefore s w → Changes conf w p cookie now (IsAsBefore s)
+before-packet conf s w p cookie now apart h = record {
   passes = λ fresh. h;
   admits = λ rule fresh none. record {
     made = omega (arith, h.made);
-    same = each-push (λ (t : State). t.number ≡ s.number → t ≡ s) w.states (new_state conf (w.made + 1) p rule now) h.same (λ n. absurd (omega (arith, n, h.made)));
+    same = each-push (λ (t : State). t.number ≡ s.number → t ≡ s) w.states (new_state conf (w.made + 1) p rule cookie now) h.same (λ n. absurd (omega (arith, n, h.made)));
   };
   refuses = λ rule l fresh met. refused_has conf w rule p.source.addr now l (IsAsBefore s) met h (λ free. record { made = omega (arith, h.made); same = h.same });
   touches = λ x e. before-touched conf s w x p now (another s w p apart h x e) h;
@@ -127,9 +127,9 @@ before-done conf s m (Purge now) apart h = record {
   made = h.made;
   same = each-filter (λ (t : State). t.number ≡ s.number → t ≡ s) (stays conf m.world.states now (take (state_share conf) (state_round m.world))) m.world.states h.same;
 }
-before-done conf s m (Arrive now p) apart h =
+before-done conf s m (Arrive now p cookie) apart h =
     let met = met_has conf m p now (IsAsBefore s) h (λ stay. before-left conf s m.world stay now h) in
-    key_has conf (held_for conf m p now) p now (IsAsBefore s) (before-packet conf s (held_for conf m p now).world p now apart met)
+    key_has conf (held_for conf m p now) p cookie now (IsAsBefore s) (before-packet conf s (held_for conf m p now).world p cookie now apart met)
 before-done conf s m (Change first now table done) apart h = h
 
 before-all : (conf : Conf) (s : State) (m : Held) (acts rest : List RunAct) → AllByRecursion (λ (a : RunAct). brings s.key a ≡ false) (acts ++ rest) → IsAsBefore s m.world

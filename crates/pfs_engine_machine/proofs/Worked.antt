@@ -27,6 +27,8 @@ use Rattle.pfs_conf_values.specs.declared.items.Item.{Item}
 use Rattle.pfs_conf_values.specs.declared.items.RuleNo.{RuleNo}
 use Rattle.pfs_conf_values.specs.declared.items.ItemKind.TheVariants as item
 use Rattle.pfs_conf_values.specs.declared.profiles.Profile.TheVariants as profile
+use Rattle.pfs_conf_values.specs.declared.syncookies.Syncookies.{Syncookies}
+use Rattle.pfs_conf_values.specs.declared.syncookies.Syncookies.TheVariants as syncookies
 use Rattle.pfs_conf_values.specs.declared.tables.TableDef.{TableDef}
 use Rattle.pfs_store_contract.specs.declared.records.Limit.{Limit}
 use Rattle.pfs_store_contract.specs.declared.records.Limit.TheVariants as limit
@@ -55,6 +57,7 @@ usual = record { closed = 90; first = 120; udp = 60; track = 0; interval = 10 }
 abbrev conf : ℕ → ℕ → Times → List TableDef → List Item → Conf
 conf states nodes t tables items = record {
   profile = profile.Own;
+  syncookies = syncookies.Never;
   limits = record { states = states; src_nodes = nodes; tables = 1000; table_entries = 200000 };
   timeouts = t.first ∷ 30 ∷ 86400 ∷ 900 ∷ 45 ∷ t.closed ∷ t.udp ∷ 30 ∷ 60 ∷ 60 ∷ 30 ∷ 60 ∷ t.track ∷ t.interval ∷ 0 ∷ 0 ∷ [];
   tables = tables;
@@ -484,3 +487,29 @@ flushed_by_side = refl
 flushed_of_source : run_of both_ways to_and_from ≡ (flushed_global 3, (1, 1, 1))
 unfolding outcomes_of machine_after step verdict matches_item table_answer covers cleared_addr
 flushed_of_source = refl
+
+-- ---- SYN cookies: at most ten states, of which adaptive begins above two
+
+abbrev cookies_by : Syncookies → Conf
+cookies_by s = record (of_openbsd (conf 10 100 usual [] (rule false (of_proto Tcp) (action.Keep no_options) ∷ []))) { syncookies = s }
+
+abbrev answer : ℕ → ℕ → ℕ → Event
+answer now n port = comes now (from_server n port (flagged true true false))
+
+-- nothing is held of a SYN
+always_given : run_of (cookies_by syncookies.Always) (syn 0 1 1 ∷ ask 0 ∷ syn 1 1 1 ∷ [])
+    ≡ (outcome.Cookie ∷ amounts 0 0 0 ∷ outcome.Cookie ∷ [], (0, 0, 0))
+unfolding outcomes_of machine_after step verdict matches_item table_answer
+always_given = refl
+
+-- the fourth comes while three are half open
+adaptive_begun : run_of (cookies_by (syncookies.Adaptive 20 10)) (syn 0 1 1 ∷ syn 0 1 2 ∷ syn 0 1 3 ∷ syn 0 1 4 ∷ syn 0 1 5 ∷ [])
+    ≡ (made 0 ∷ made 0 ∷ made 0 ∷ outcome.Cookie ∷ outcome.Cookie ∷ [], (3, 0, 0))
+unfolding outcomes_of machine_after step verdict matches_item table_answer
+adaptive_begun = refl
+
+-- a connection that the server has answered is not half open
+adaptive_calm : run_of (cookies_by (syncookies.Adaptive 20 10)) (syn 0 1 1 ∷ syn 0 1 2 ∷ syn 0 1 3 ∷ answer 0 1 3 ∷ syn 0 1 4 ∷ [])
+    ≡ (made 0 ∷ made 0 ∷ made 0 ∷ of_state 0 ∷ made 0 ∷ [], (4, 0, 0))
+unfolding outcomes_of machine_after step verdict matches_item table_answer
+adaptive_calm = refl

@@ -61,9 +61,11 @@ HasNode conf nodes s = ForSome (node_scope_of conf s.rule.0) (λ scope. has_node
 abbrev pub IsPhaseOf : Proto → StatePhase → Type 0
 IsPhaseOf proto.Tcp (phase.Tcp p) = Unit {0}
 IsPhaseOf proto.Tcp (phase.FullTcp p) = Unit {0}
+IsPhaseOf proto.Tcp (phase.Proxied p) = Unit {0}
 IsPhaseOf proto.Tcp _ = ⊥
 IsPhaseOf _ (phase.Tcp p) = ⊥
 IsPhaseOf _ (phase.FullTcp p) = ⊥
+IsPhaseOf _ (phase.Proxied p) = ⊥
 IsPhaseOf _ _ = Unit {0}
 
 -- the source of a state is the end of its key on the side from which packets of its direction come

@@ -1,4 +1,6 @@
 pub mod Acts
+pub mod CookieLife
+pub mod Guards
 pub mod Kept
 pub mod Looks
 pub mod Machine

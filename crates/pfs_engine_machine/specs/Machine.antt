@@ -1,5 +1,5 @@
 -- The machine: what is held, what one event does to it, and a run of events. (pf.conf(5), STATEFUL FILTERING and STATEFUL TRACKING OPTIONS)
-use Rattle.std.specs.Prelude.{ℕ, ◌+◌, ◌-◌, Bool, true, false, if◌then◌else◌, Option, Some, None, List, [], ◌∷◌, length, filter, unwrap_or}
+use Rattle.std.specs.Prelude.{ℕ, ◌+◌, ◌-◌, ◌||◌, Bool, true, false, if◌then◌else◌, Option, Some, None, List, [], ◌∷◌, length, filter, unwrap_or}
 use Rattle.std.specs.List.{range_with_len}
 use Rattle.pfs_addr_values.specs.Keys.{key_of}
 use Rattle.pfs_addr_values.specs.Packets.{PacketView}
@@ -16,15 +16,16 @@ use Rattle.pfs_conf_values.specs.declared.actions.Action.TheVariants as action
 use Rattle.pfs_conf_values.specs.declared.actions.Overload.{Overload}
 use Rattle.pfs_conf_values.specs.declared.items.RuleNo.{RuleNo}
 use Rattle.pfs_conf_values.specs.declared.limits.LimitName.TheVariants as limit_name
-use Rattle.pfs_store_contract.specs.Admission.{limit_met, world_after_admission, world_after_refusal}
+use Rattle.pfs_store_contract.specs.Admission.{is_answered, limit_met, world_after_admission, world_after_refusal}
 use Rattle.pfs_store_contract.specs.Calls.{world_reopened}
 use Rattle.pfs_store_contract.specs.Handshakes.{flush_of, goes_with, hits_connections, hits_rate, stays_at_kill}
 use Rattle.pfs_store_contract.specs.Leaving.{world_without}
 use Rattle.pfs_store_contract.specs.Purging.{purge}
-use Rattle.pfs_store_contract.specs.Touching.{completes_at, world_after_touch}
+use Rattle.pfs_store_contract.specs.Touching.{completes_at, is_taken, world_after_touch}
 use Rattle.pfs_store_contract.specs.Worlds.{World, empty_world, state_with}
 use Rattle.pfs_store_contract.specs.declared.records.Limit.{Limit}
 use Rattle.pfs_store_contract.specs.declared.records.State.{State}
+use Rattle.pfs_engine_machine.specs.Guards.{Guard, asked, brings_cookie, gets_cookie, guard_after_packet, guard_after_seconds, no_guard}
 use Rattle.pfs_engine_machine.specs.declared.events.Amounts.{Amounts}
 use Rattle.pfs_engine_machine.specs.declared.events.Command.{Command}
 use Rattle.pfs_engine_machine.specs.declared.events.Command.TheVariants as command
@@ -44,15 +45,16 @@ pub record Held : Type 0 where
 abbrev pub held_of : World → List (List Entry) → Held
 held_of world tables = record { world = world; tables = tables }
 
--- what is held, and the moments of the first event and of the last
+-- what is held, the guard before it, and the moments of the first event and of the last
 pub record Machine : Type 0 where
   pub held : Held
+  pub guard : Guard
   pub first : Option ℕ
   pub last : Option ℕ
 
--- before the first event: no state, and the tables as the rules text fills them
+-- before the first event: no state, no cookie, and the tables as the rules text fills them
 abbrev pub start : Conf → Machine
-start conf = record { held = held_of empty_world (config_entries conf); first = None; last = None }
+start conf = record { held = held_of empty_world (config_entries conf); guard = no_guard; first = None; last = None }
 
 -- how many states, source nodes and entries are held
 abbrev pub states_held : Machine → ℕ
@@ -64,7 +66,7 @@ nodes_held m = length m.held.world.nodes
 abbrev pub entries_held : Machine → ℕ
 entries_held m = entry_count m.held.tables
 
--- ---- time passes: in each whole second a slice of the states and one of the nodes
+-- ---- time passes: in each whole second a slice of the states and one of the nodes, and behind them the guard's turn
 
 -- the seconds due at a moment, in rising order: those after the last one up to it, and none before the first event
 abbrev pub due : Option ℕ → ℕ → List ℕ
@@ -80,10 +82,11 @@ world_after_purges conf w (s ∷ ss) = world_after_purges conf (purge conf w s) 
 abbrev pub first_moment : Option ℕ → ℕ → ℕ
 first_moment first now = unwrap_or first now
 
--- the machine at a moment: all purges due are done
+-- the machine at a moment: all seconds due are done
 abbrev pub machine_at_moment : Conf → Machine → ℕ → Machine
 machine_at_moment conf m now = record {
   held = held_of (world_after_purges conf m.held.world (due m.last now)) m.held.tables;
+  guard = guard_after_seconds conf m.held.world m.guard (due m.last now);
   first = Some (first_moment m.first now);
   last = Some now;
 }
@@ -115,60 +118,84 @@ exceeded_of true false = Some exceeded.Connections
 exceeded_of false true = Some exceeded.Rate
 exceeded_of false false = None
 
--- a packet of the state of this number, direction, rule and source exceeds these limits, or none
-abbrev pub answer_of_exceeded : Conf → Held → ℕ → Dir → RuleNo → Addr → ℕ → Option Exceeded → Outcome × Held
-answer_of_exceeded conf h number dir rule source now (Some limits) = answer_of_kill conf h number dir rule source now limits
-answer_of_exceeded conf h number dir rule source now None = (outcome.State rule, h)
+-- a packet of a state of this rule goes on, or pf takes it itself
+abbrev pub outcome_of_held : RuleNo → Bool → Outcome
+outcome_of_held rule taken = if taken then outcome.Taken rule else outcome.State rule
 
--- a packet of this state completes its handshake, or not
-abbrev pub answer_of_handshake : Conf → Held → State → ℕ → Bool → Outcome × Held
-answer_of_handshake conf h s now completes =
+-- a packet of the state of this number, direction, rule and source exceeds these limits, or none, and is taken, or not
+abbrev pub answer_of_exceeded : Conf → Held → ℕ → Dir → RuleNo → Addr → ℕ → Bool → Option Exceeded → Outcome × Held
+answer_of_exceeded conf h number dir rule source now taken (Some limits) = answer_of_kill conf h number dir rule source now limits
+answer_of_exceeded conf h number dir rule source now taken None = (outcome_of_held rule taken, h)
+
+-- a packet of this state is taken, or not, and completes its handshake, or not
+abbrev pub answer_of_handshake : Conf → Held → State → ℕ → Bool → Bool → Outcome × Held
+answer_of_handshake conf h s now taken completes =
     let limits = exceeded_of (hits_connections conf h.world s) (hits_rate conf h.world s) in
-    answer_of_exceeded conf h s.number s.dir s.rule s.source now (if completes then limits else None)
+    answer_of_exceeded conf h s.number s.dir s.rule s.source now taken (if completes then limits else None)
 
--- ---- one packet
+-- ---- one packet, which brings a cookie, or not
 
 -- what is held after a refusal at this limit
 abbrev pub held_refused : Conf → Held → PacketView → ℕ → ℕ → Limit → Held
 held_refused conf h p now rule l = held_of (world_after_refusal conf h.world p.source.addr rule now l) h.tables
 
+-- a packet that makes a state of this rule goes on, or pf answers it itself
+abbrev pub outcome_of_new : RuleNo → Bool → Outcome
+outcome_of_new rule answered = if answered then outcome.Answered rule else outcome.New rule
+
 -- the state that it would make meets a limit, or none
-abbrev pub answer_of_limits : Conf → Held → PacketView → ℕ → ℕ → Option Limit → Outcome × Held
-answer_of_limits conf h p now rule None = (outcome.New (record { 0 = rule }), held_of (world_after_admission conf h.world p rule now) h.tables)
-answer_of_limits conf h p now rule (Some l) = (outcome.Drop (record { 0 = rule }) l, held_refused conf h p now rule l)
+abbrev pub answer_of_limits : Conf → Held → PacketView → Bool → ℕ → ℕ → Option Limit → Outcome × Held
+answer_of_limits conf h p cookie now rule None =
+    (outcome_of_new (record { 0 = rule }) (cookie || is_answered conf rule p), held_of (world_after_admission conf h.world p rule cookie now) h.tables)
+answer_of_limits conf h p cookie now rule (Some l) = (outcome.Drop (record { 0 = rule }) l, held_refused conf h p now rule l)
+
+-- a packet that no state is made for passes, by this rule or by none; with a cookie it has nowhere to go
+abbrev pub outcome_of_pass : Option RuleNo → Bool → Outcome
+outcome_of_pass rule cookie = if cookie then outcome.Stateless rule else outcome.Pass rule
 
 -- what the rule that decides says
-abbrev pub answer_of_action : Conf → Held → PacketView → ℕ → ℕ → Action → Outcome × Held
-answer_of_action conf h p now rule action.Block = (outcome.Block (record { 0 = rule }), h)
-answer_of_action conf h p now rule action.Pass = (outcome.Pass (Some (record { 0 = rule })), h)
-answer_of_action conf h p now rule (action.Keep o) = answer_of_limits conf h p now rule (limit_met conf h.world rule p.source.addr)
+abbrev pub answer_of_action : Conf → Held → PacketView → Bool → ℕ → ℕ → Action → Outcome × Held
+answer_of_action conf h p cookie now rule action.Block = (outcome.Block (record { 0 = rule }), h)
+answer_of_action conf h p cookie now rule action.Pass = (outcome_of_pass (Some (record { 0 = rule })) cookie, h)
+answer_of_action conf h p cookie now rule (action.Keep o) = answer_of_limits conf h p cookie now rule (limit_met conf h.world rule p.source.addr)
 
 -- a rule decides, or none
-abbrev pub answer_of_rule : Conf → Held → PacketView → ℕ → Option ℕ → Outcome × Held
-answer_of_rule conf h p now None = (outcome.Pass None, h)
-answer_of_rule conf h p now (Some rule) = answer_of_action conf h p now rule (rule_of conf rule).action
+abbrev pub answer_of_rule : Conf → Held → PacketView → Bool → ℕ → Option ℕ → Outcome × Held
+answer_of_rule conf h p cookie now None = (outcome_of_pass None cookie, h)
+answer_of_rule conf h p cookie now (Some rule) = answer_of_action conf h p cookie now rule (rule_of conf rule).action
 
 -- the rule that decides
 abbrev pub deciding_rule : Conf → Held → PacketView → Option ℕ
 deciding_rule conf h p = verdict (matches_item h.tables p) conf.items
 
 -- a held state has its key, or none
-abbrev pub answer_of_state : Conf → Held → PacketView → ℕ → Option State → Outcome × Held
-answer_of_state conf h p now (Some s) =
-    answer_of_handshake conf (held_of (world_after_touch conf h.world s p now) h.tables) s now (completes_at p s)
-answer_of_state conf h p now None = answer_of_rule conf h p now (deciding_rule conf h p)
+abbrev pub answer_of_state : Conf → Held → PacketView → Bool → ℕ → Option State → Outcome × Held
+answer_of_state conf h p cookie now (Some s) =
+    answer_of_handshake conf (held_of (world_after_touch conf h.world s p now) h.tables) s now (is_taken p s) (completes_at p s)
+answer_of_state conf h p cookie now None = answer_of_rule conf h p cookie now (deciding_rule conf h (asked p cookie))
 
 -- what a packet meets: where it is a SYN for a connection that has closed, its state has left before
 abbrev pub held_for : Conf → Held → PacketView → ℕ → Held
 held_for conf h p now = held_of (world_reopened conf h.world p now (state_with (key_of p) h.world)) h.tables
 
 -- what a packet does to what it meets at a moment
-abbrev pub answer_of_key : Conf → Held → PacketView → ℕ → Outcome × Held
-answer_of_key conf h p now = answer_of_state conf h p now (state_with (key_of p) h.world)
+abbrev pub answer_of_key : Conf → Held → PacketView → Bool → ℕ → Outcome × Held
+answer_of_key conf h p cookie now = answer_of_state conf h p cookie now (state_with (key_of p) h.world)
 
 -- what a packet does at a moment
-abbrev pub answer_to_packet : Conf → Held → PacketView → ℕ → Outcome × Held
-answer_to_packet conf h p now = answer_of_key conf (held_for conf h p now) p now
+abbrev pub answer_to_packet : Conf → Held → PacketView → Bool → ℕ → Outcome × Held
+answer_to_packet conf h p cookie now = answer_of_key conf (held_for conf h p now) p cookie now
+
+-- ---- a packet, behind the guard
+
+-- what it meets: where it gets a cookie, all that is held
+abbrev pub held_behind_guard : Conf → Guard → Held → PacketView → ℕ → Held
+held_behind_guard conf g h p now = if gets_cookie conf g h.world p then h else held_for conf h p now
+
+-- it gets a cookie, and nothing that is held changes; else it may bring one
+abbrev pub answer_behind_guard : Conf → Guard → Held → PacketView → ℕ → Outcome × Held
+answer_behind_guard conf g h p now =
+    if gets_cookie conf g h.world p then (outcome.Cookie, h) else answer_to_packet conf h p (brings_cookie g h.world p) now
 
 -- ---- an administrator: old entries leave a table, an entry is added, that very entry is taken out (pfctl(8), "-T")
 
@@ -195,20 +222,26 @@ amounts_of h = record { states = length h.world.states; nodes = length h.world.n
 -- ---- one event
 
 -- what comes
-abbrev pub answer_to_arrival : Conf → Held → ℕ → ℕ → Arrival → Outcome × Held
-answer_to_arrival conf h first now arrival.Skip = (outcome.Skip, h)
-answer_to_arrival conf h first now (arrival.Packet p) = answer_to_packet conf h p now
-answer_to_arrival conf h first now (arrival.Table table done) = answer_to_command conf h first now table.0 done
-answer_to_arrival conf h first now arrival.Held = (outcome.Held (amounts_of h), h)
+abbrev pub answer_to_arrival : Conf → Guard → Held → ℕ → ℕ → Arrival → Outcome × Held
+answer_to_arrival conf g h first now arrival.Skip = (outcome.Skip, h)
+answer_to_arrival conf g h first now (arrival.Packet p) = answer_behind_guard conf g h p now
+answer_to_arrival conf g h first now (arrival.Table table done) = answer_to_command conf h first now table.0 done
+answer_to_arrival conf g h first now arrival.Held = (outcome.Held (amounts_of h), h)
 
--- what it leaves is held
-abbrev pub leaving : Machine → Outcome × Held → Outcome × Machine
-leaving m a = (a.0, record { held = a.1; first = m.first; last = m.last })
+-- the guard after it
+abbrev pub guard_after_arrival : Conf → Guard → Held → ℕ → Arrival → Guard
+guard_after_arrival conf g h now (arrival.Packet p) = guard_after_packet conf g h.world p now
+guard_after_arrival conf g h now _ = g
 
--- the purges due, and then what comes
+-- what comes at the moment of a machine
+abbrev pub arrive : Conf → Machine → ℕ → ℕ → Arrival → Outcome × Machine
+arrive conf m first now what =
+    let answer = answer_to_arrival conf m.guard m.held first now what in
+    (answer.0, record m { held = answer.1; guard = guard_after_arrival conf m.guard m.held now what })
+
+-- the seconds due, and then what comes
 unfoldable pub step : Conf → Machine → Event → Outcome × Machine
-step conf m e =
-    leaving (machine_at_moment conf m e.time) (answer_to_arrival conf (machine_at_moment conf m e.time).held (first_moment m.first e.time) e.time e.what)
+step conf m e = arrive conf (machine_at_moment conf m e.time) (first_moment m.first e.time) e.time e.what
 
 -- ---- a run of events: the outcome of each in turn, and the machine after all of them
 

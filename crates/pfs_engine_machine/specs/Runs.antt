@@ -10,7 +10,8 @@ use Rattle.pfs_engine_machine.specs.declared.events.Event.{Event}
 use Rattle.pfs_engine_machine.specs.declared.events.Outcome.{Outcome}
 use Rattle.pfs_engine_machine.specs.declared.events.Arrival.{Arrival}
 use Rattle.pfs_engine_machine.specs.declared.events.Arrival.TheVariants as arrival
-use Rattle.pfs_engine_machine.specs.Machine.{Held, Machine, answer_to_packet, held_for, machine_after, machine_at_moment, outcomes_of}
+use Rattle.pfs_engine_machine.specs.Guards.{Guard, guard_for}
+use Rattle.pfs_engine_machine.specs.Machine.{Held, Machine, answer_behind_guard, held_behind_guard, machine_after, machine_at_moment, outcomes_of}
 use Rattle.pfs_engine_machine.specs.Refusals.{IsFree}
 
 -- ---- what may come
@@ -50,20 +51,22 @@ AreAllowed conf (e ∷ es) = MayCome conf e.what × AreAllowed conf es
 -- ---- where a run stops
 
 -- what comes at a moment needs memory: a packet that is not free of it, or an entry that is new
-abbrev pub NeedsMemory : Conf → Held → ℕ → Arrival → Type 0
-NeedsMemory conf h now (arrival.Packet p) = IsFree conf (held_for conf h p now).world p (answer_to_packet conf h p now).0 → ⊥
-NeedsMemory conf h now (arrival.Table table (command.Add e)) = entered_to h.tables (limit_of conf limit_name.TableEntries) table.0 e ≡ entered.New
-NeedsMemory conf h now _ = ⊥
+abbrev pub NeedsMemory : Conf → Guard → Held → ℕ → Arrival → Type 0
+NeedsMemory conf g h now (arrival.Packet p) = IsFree conf (held_behind_guard conf g h p now).world p (answer_behind_guard conf g h p now).0 → ⊥
+NeedsMemory conf g h now (arrival.Table table (command.Add e)) = entered_to h.tables (limit_of conf limit_name.TableEntries) table.0 e ≡ entered.New
+NeedsMemory conf g h now _ = ⊥
 
--- where memory is refused to what comes, nothing has changed but that a state has left which the packet does not meet
-abbrev pub held_without_memory : Conf → Held → ℕ → Arrival → Held
-held_without_memory conf h now (arrival.Packet p) = held_for conf h p now
-held_without_memory conf h now _ = h
+-- where memory is refused to what comes, nothing has changed but that a state has left which the packet does not meet, or that cookies
+-- are on
+abbrev pub without_memory : Conf → Machine → ℕ → Arrival → Machine
+without_memory conf m now (arrival.Packet p) =
+    record m { held = held_behind_guard conf m.guard m.held p now; guard = guard_for conf m.guard m.held.world p now }
+without_memory conf m now _ = m
 
 -- memory was refused in what came at this event, which needs memory there: the machine is at the event's moment
 pub record IsRefusedIn (conf : Conf) (m : Machine) (e : Event) (new : Machine) : Type 0 where
-  pub needs : NeedsMemory conf (machine_at_moment conf m e.time).held e.time e.what
-  pub moment : new ≡ (let at = machine_at_moment conf m e.time in record at { held = held_without_memory conf at.held e.time e.what })
+  pub needs : NeedsMemory conf (machine_at_moment conf m e.time).guard (machine_at_moment conf m e.time).held e.time e.what
+  pub moment : new ≡ without_memory conf (machine_at_moment conf m e.time) e.time e.what
 
 -- memory was refused for the outcome of this event, before anything changed, or in what came
 abbrev pub IsRefusedAt : Conf → Machine → Event → Machine → Type 0

@@ -1,5 +1,5 @@
 -- What is to go goes in time, whatever arrives. (own; pf.conf(5), OPTIONS, "interval")
-use Rattle.std.specs.Prelude.{◌≡◌, ℕ, ◌*◌, Bool, true, false, ◌==◌, None, List, ◌∷◌, ◌++◌}
+use Rattle.std.specs.Prelude.{◌≡◌, ℕ, ◌*◌, Bool, true, false, ◌==◌, List, ◌∷◌, ◌++◌}
 use Rattle.std.specs.List.{All, Contains, list_any}
 use Rattle.pfs_addr_values.specs.Keys.{key_of}
 use Rattle.pfs_addr_values.specs.Sameness.{same_key}
@@ -15,7 +15,7 @@ use Rattle.pfs_engine_machine.specs.Acts.{RunAct, Arrive, Change, Purge, acts_of
 
 -- these acts come one after another in the run of these events, the second part with twice as many purges as `interval` has seconds
 pub record AreTwoRounds (conf : Conf) (events : List Event) (earlier meanwhile later : List RunAct) : Type 0 where
-  pub run : acts_of None events ≡ (earlier ++ meanwhile) ++ later
+  pub run : acts_of conf events ≡ (earlier ++ meanwhile) ++ later
   pub purges : purges meanwhile ≡ 2 * timeout_of conf timeout.Interval
 
 -- at each purge of the second part this holds of the world before it and of its second
@@ -26,7 +26,7 @@ AtEachPurge conf earlier meanwhile Holds =
 -- a packet with this key arrives
 abbrev pub brings : FlowKey → RunAct → Bool
 brings key (Purge s) = false
-brings key (Arrive now p) = same_key key (key_of p)
+brings key (Arrive now p cookie) = same_key key (key_of p)
 brings key (Change first now table done) = false
 
 -- A state that is held before 2 * interval purges in a row, of whose key no packet arrives meanwhile, and that is expired at

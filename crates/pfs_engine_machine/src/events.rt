@@ -61,8 +61,19 @@ pub enum Outcome {
     State(RuleNo),
     /// The rule passed the packet and made a state.
     New(RuleNo),
+    /// The rule passed the packet and made a state, and pf answered it itself, so that it goes no further. ("synproxy state", or
+    /// where the packet brought back a SYN cookie)
+    Answered(RuleNo),
+    /// The packet is one of a held state of this rule, and pf took it itself, so that it goes no further. ("synproxy state")
+    Taken(RuleNo),
     /// The packet passed without a state, by this rule or by none.
     Pass(Option<RuleNo>),
+    /// The packet asked for a connection, and pf answered it by a SYN cookie. Nothing is held of it but the cookie: neither states
+    /// nor rules were looked at. ("set syncookies")
+    Cookie,
+    /// The packet brought back a SYN cookie, but no rule, or this one, passes a SYN of its key without a state. So it goes no
+    /// further, since no other host knows of its connection. ("set syncookies")
+    Stateless(Option<RuleNo>),
     /// The rule blocked the packet.
     Block(RuleNo),
     /// The rule passed the packet, and its state was refused for this limit.

@@ -2,10 +2,12 @@
 //! the laws of every run, which compute nothing.
 #![tactic(auto)]
 
+mod cookies;
 mod events;
 mod rates;
 mod staying;
 
+pub use cookies::cookie_life;
 pub use events::{Amounts, Arrival, Command, Event, Exceeded, Outcome};
 pub use pfs_eval::{Added, Entered, TableEntry};
 pub use pfs_store_contract::Limit;

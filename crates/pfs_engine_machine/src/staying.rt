@@ -13,7 +13,7 @@ use pfs_conf_values::Config;
 /// meanwhile, is gone after the last of them; so is a source node that has no state and is past its retention at each.
 /// It holds of every list of events, in whatever order their moments come. (pf.conf(5), OPTIONS, "interval"; own)
 pub fn staleness(config: &Config, events: &[Event])
-    ensures run { (machine_after config.now (start config.now) events.now).held ≡ after config.now (acts_of None events.now) }
+    ensures run { (machine_after config.now (start config.now) events.now).held ≡ after config.now (acts_of config.now events.now) }
     ensures states { StatesGo config.now events.now }
     ensures nodes { NodesGo config.now events.now }
 {
@@ -21,8 +21,8 @@ pub fn staleness(config: &Config, events: &[Event])
 }
 
 /// After each purge, each packet and each command of a run whose moments do not fall, states, source nodes and
-/// table entries are within their limits, and each rule and source within its maxima. (pf.conf(5), OPTIONS, "set limit",
-/// and STATEFUL TRACKING OPTIONS)
+/// table entries are within their limits, and each rule and source within its maxima; a packet that gets
+/// a SYN cookie changes nothing of it. (pf.conf(5), OPTIONS, "set limit", and STATEFUL TRACKING OPTIONS)
 pub fn within_limits(config: &Config, events: &[Event])
     requires order { IsInOrder None events.now }
     ensures { StaysWithinLimits config.now events.now }

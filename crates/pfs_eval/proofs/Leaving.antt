@@ -1,10 +1,11 @@
 -- Entries of which a test holds leave a table: the old ones, or the very one that is named.
-use Rattle.std.proofs.Common.{◌≡◌, ℕ, ◌+◌, ◌<◌, Bool, not, List, [], filter, length, get_or, set, refl, ap, sym, ◌∙◌, arith}
+use Rattle.std.proofs.Common.{◌≡◌, ℕ, ◌+◌, ◌<◌, Bool, not, List, [], filter, length, get_or, set, true, refl, ap, sym, ◌∙◌, arith}
 use Rattle.std.proofs.lemmas.List.{map-set, get_or-map, length-map}
 use Rattle.std.proofs.lemmas.List.Elements.{All-filter}
 use Rattle.std.proofs.lemmas.List.Filters.{length-filter_both}
 use Rattle.std.proofs.lemmas.List.Sums.{sum_by-set}
 use Rattle.pfs_addr_values.specs.Prefixes.{IsNetwork}
+use Rattle.pfs_eval.specs.Blooms.{may_have}
 use Rattle.pfs_eval.specs.Entries.{Entry}
 use Rattle.pfs_eval.specs.Holdings.{AreKept, HeldEntries}
 use Rattle.pfs_eval.specs.Lengths.{IsLengthNoted}
@@ -13,12 +14,14 @@ use Rattle.pfs_eval.specs.Tables.{entries_at, entry_count}
 use Rattle.pfs_eval.proofs.Rooms.{entries_at-held, entries_of}
 
 -- fewer entries are prefixes still, and their lengths are noted
-pub kept-filtered : (p : Entry → Bool) (es : List Entry) (lengths : Lengths) → AreKept es lengths → AreKept (filter p es) lengths
-kept-filtered p es lengths k = record {
+pub kept-filtered : (p : Entry → Bool) (es : List Entry) (lengths : Lengths) (words : List ℕ) → AreKept es lengths words
+    → AreKept (filter p es) lengths words
+kept-filtered p es lengths words k = record {
   networks = All-filter p (λ (x : Entry). IsNetwork x.0) es k.networks;
   long = k.long;
   on = k.on;
   noted = All-filter p (λ (x : Entry). IsLengthNoted lengths x.0) es k.noted;
+  known = All-filter p (λ (x : Entry). may_have words x.0.addr x.0.bits ≡ true) es k.known;
 }
 
 -- those that leave and the others are all

@@ -5,6 +5,7 @@ pub mod Cuts
 pub mod Deciding
 pub mod Distinct
 pub mod Leaving
+pub mod Known
 pub mod LinesMade
 pub mod Narrowest
 pub mod Paths

@@ -12,11 +12,13 @@ use Rattle.pfs_addr_values.specs.declared.addresses.Addr.TheVariants.{V4, V6}
 use Rattle.pfs_addr_values.specs.Addresses.{IsAddr, same_family, width_of}
 use Rattle.pfs_addr_values.specs.Prefixes.{Network, IsNetwork, cleared_addr, covers, network_of}
 use Rattle.pfs_addr_values.proofs.PrefixLaws.{cleared_family, cleared_width, covers_true, network_covers, network_of_is_network}
+use Rattle.pfs_eval.specs.Blooms.{may_have}
 use Rattle.pfs_eval.specs.Entries.{Entry, narrower, narrowest, says_yes, answer_of, is_prefix_of, mark_at, holds_prefix}
 use Rattle.pfs_eval.specs.Holdings.{AreKept}
 use Rattle.pfs_eval.specs.Lengths.{AreLong, AreOn, IsLengthNoted, next}
 use Rattle.pfs_eval.specs.declared.lengths.Lengths.{Lengths}
 use Rattle.pfs_eval.specs.declared.entries.Mark.{Mark}
+use Rattle.pfs_eval.proofs.Known.{Knows, known-added}
 
 -- ---- the test of one prefix
 
@@ -296,8 +298,8 @@ none_next (V4 x) n h = get_or-replicate 34 n 33 0 (omega arith)
 none_next (V6 x) n h = get_or-replicate 130 n 129 0 (omega arith)
 
 -- without an entry no length is noted
-pub kept-none : AreKept [] (record { inet = replicate 34 33; inet6 = replicate 130 129 })
-kept-none = record {
+pub kept-none : (words : List ℕ) → AreKept [] (record { inet = replicate 34 33; inet6 = replicate 130 129 }) words
+kept-none words = record {
   networks = All-nil (λ (x : Entry). IsNetwork x.0);
   long = (refl, refl);
   on = record {
@@ -305,6 +307,7 @@ kept-none = record {
     most = (λ a n h. let z = none_next a n h in omega arith);
   };
   noted = All-nil (λ (x : Entry). IsLengthNoted (record { inet = replicate 34 33; inet6 = replicate 130 129 }) x.0);
+  known = All-nil (λ (x : Entry). may_have words x.0.addr x.0.bits ≡ true);
 }
 
 -- that a prefix leaves out so many bits is noted, for the family of an address
@@ -341,10 +344,10 @@ still_noted old new b hidden p notes on h n few =
     omega arith
 
 -- one more entry, with its length noted
-pub kept-added : (es : List Entry) (old new : Lengths) (a : Addr) (n hidden : ℕ) (mark : Mark) → AreKept es old → IsAddr a
-    → n ≤ width_of a → hidden ≡ width_of a - n → AreLong new → Notes old new a hidden
-    → AreKept (es ++ (network_of a n, mark) ∷ []) new
-kept-added es old new a n hidden mark h k short rest long notes =
+pub kept-added : (es : List Entry) (old new : Lengths) (words more : List ℕ) (a : Addr) (n hidden : ℕ) (mark : Mark) → AreKept es old words
+    → IsAddr a → n ≤ width_of a → hidden ≡ width_of a - n → AreLong new → Notes old new a hidden → Knows words more a n
+    → AreKept (es ++ (network_of a n, mark) ∷ []) new more
+kept-added es old new words more a n hidden mark h k short rest long notes knows =
     let P : Entry → Type 0 = λ x. IsLengthNoted new x.0 in
     let wide = cleared_width n a in
     record {
@@ -360,4 +363,5 @@ kept-added es old new a n hidden mark h k short rest long notes =
           (λ i d l m few. still_noted old new a hidden _ notes h.on (h.noted i d l) m few)
           (All-cons P (network_of a n, mark) []
           (λ m few. let fewer = new_noted (next old (cleared_addr n a) m) (next new (cleared_addr n a) m) hidden m (same_family (cleared_addr n a) a) (notes.at (cleared_addr n a) m (omega arith)) (cleared_family n a) (omega arith) in omega arith) (All-nil P));
+      known = known-added es words more a n mark k h.known knows;
     }

@@ -1,6 +1,7 @@
 -- What tables hold: entries, room for more, the limit on them, and which lengths of prefixes are noted.
 use Rattle.std.specs.Prelude.{ℕ, All, List, map}
 use Rattle.pfs_addr_values.specs.Prefixes.{IsNetwork}
+use Rattle.pfs_eval.specs.Blooms.{AreKnown}
 use Rattle.pfs_eval.specs.Entries.{Entry}
 use Rattle.pfs_eval.specs.Lengths.{AreOn, AreLong, IsLengthNoted}
 use Rattle.pfs_eval.specs.declared.lengths.Lengths.{Lengths}
@@ -25,9 +26,10 @@ holdings tables limit = record {
   limit = limit;
 }
 
--- what the entries of a table keep: each is a prefix, and its length is noted
-pub record AreKept (entries : List Entry) (lengths : Lengths) : Type 0 where
+-- what the entries of a table keep: each is a prefix, its length is noted, and so is that it may be there
+pub record AreKept (entries : List Entry) (lengths : Lengths) (words : List ℕ) : Type 0 where
   pub networks : All (λ (x : Entry). IsNetwork x.0) entries
   pub long : AreLong lengths
   pub on : AreOn lengths
   pub noted : All (λ (x : Entry). IsLengthNoted lengths x.0) entries
+  pub known : AreKnown words entries

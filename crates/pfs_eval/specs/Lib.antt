@@ -1,3 +1,4 @@
+pub mod Blooms
 pub mod Entries
 pub mod Holdings
 pub mod Lengths

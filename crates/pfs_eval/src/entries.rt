@@ -3,10 +3,12 @@
 ghost use Rattle.std.specs.Prelude.{◌≡◌, All, ◌<◌, ◌≤◌, ◌++◌, [], ◌∷◌, IfOk, IsOk, OnErr, OnOk, filter, length, map, nat_lt, not, false};
 ghost use Rattle.pfs_addr_values.specs.Addresses.{width_of};
 ghost use Rattle.pfs_addr_values.specs.Prefixes.{IsNetwork, network_of};
+ghost use Rattle.pfs_eval.specs.Blooms.{AreKnown};
 ghost use Rattle.pfs_eval.specs.Holdings.{AreKept};
 ghost use Rattle.pfs_eval.specs.Entries.{AreDistinct, Entry, answer_of, entry_of_text, holds_host, holds_prefix, is_entry, mark_at, mark_of};
 ghost use Rattle.pfs_eval.specs.Tables.{is_old, old_count, young};
 
+use crate::blooms::Bloom;
 use crate::lengths::Lengths;
 use indexmap::IndexMap;
 use pfs_addr_values::{Addr, Prefix};
@@ -38,6 +40,8 @@ pub struct Table {
     map: IndexMap<Prefix, Mark, RulesHasher>,
     /// The lengths that an entry has or had. Others are not looked up.
     lengths: Lengths,
+    /// Which prefixes an entry may have. Others are not looked up.
+    bloom: Bloom,
 }
 
 impl Model for Table {
@@ -48,7 +52,7 @@ impl Model for Table {
 
     ghost view = { λ e. record { entries = e.map.entries; spare = spare e.map } };
 
-    ghost invariant = { λ e. AreKept e.map.entries e.lengths };
+    ghost invariant = { λ e. AreKept e.map.entries e.lengths e.bloom };
 }
 
 impl Table {
@@ -59,6 +63,7 @@ impl Table {
         Table {
             map: IndexMap::with_hasher(alloc, hasher),
             lengths: Lengths::none(),
+            bloom: Bloom::of_all(alloc),
         }
     }
 
@@ -78,12 +83,13 @@ impl Table {
         Ok(table)
     }
 
-    /// Whether the narrowest entry that covers the address is there and not negated. One look-up is made for each length
-    /// that an entry of the address's family has or had, from the longest on, until one is found.
+    /// Whether the narrowest entry that covers the address is there and not negated. It asks for each length that an entry
+    /// of the address's family has or had, from the longest on, until one is found. A look-up is made where the filter has
+    /// that prefix: of those that are not there, it has about one in fifty (measured).
     pub fn matches(&self, addr: Addr) -> bool
         ensures { result ≡ answer_of self.now.entries addr }
     {
-        answer(&self.map, &self.lengths, addr)
+        answer(&self.map, &self.lengths, &self.bloom, addr)
     }
 
     /// Whether there is an entry for exactly this host, negated or not.
@@ -97,7 +103,7 @@ impl Table {
     pub fn mark(&self, prefix: &Prefix) -> Option<Mark>
         ensures { result ≡ mark_of self.now.entries prefix.now }
     {
-        mark_at(&self.map, prefix.addr(), prefix.bits())
+        mark_at(&self.map, &self.bloom, prefix.addr(), prefix.bits())
     }
 
     /// Whether one more entry fits without memory.
@@ -107,13 +113,18 @@ impl Table {
         self.map.capacity() > self.map.len()
     }
 
-    /// Takes memory for one more entry, if it does not fit already.
+    /// Takes memory for one more entry, if it does not fit already. As the table grows, so does its filter.
     pub fn reserve(&mut self) -> Result<(), AllocError>
         ensures entries { self.new.entries ≡ self.old.entries }
         ensures ok { OnOk result (0 < self.new.spare) }
         ensures no_memory { 0 < self.old.spare → IsOk result }
     {
-        self.map.reserve(1)
+        if self.has_room() {
+            return Ok(());
+        }
+        self.map.reserve(1)?;
+        self.bloom = bloom_of(&self.map)?;
+        Ok(())
     }
 
     /// Adds, at the end, the prefix of this address with so many bits. On an error nothing changes.
@@ -125,8 +136,10 @@ impl Table {
         ensures no_memory { 0 < self.old.spare → IsOk result }
         ensures distinct { AreDistinct self.old.entries → AreDistinct self.new.entries }
     {
+        self.reserve()?;
         self.map.insert(addr.prefix(bits), mark)?;
         self.lengths.note(addr, addr.width() - bits);
+        self.bloom.note(addr, bits);
         Ok(())
     }
 
@@ -181,14 +194,19 @@ fn is_old(mark: Mark, first: u64, now: u64, seconds: u64) -> bool
 }
 
 /// The answer for an address: of its prefixes, from the longest on, the first that is an entry decides.
-fn answer(map: &IndexMap<Prefix, Mark, RulesHasher>, lengths: &Lengths, addr: Addr) -> bool
-    requires { AreKept map.now.entries lengths.now }
+fn answer(
+    map: &IndexMap<Prefix, Mark, RulesHasher>,
+    lengths: &Lengths,
+    bloom: &Bloom,
+    addr: Addr,
+) -> bool
+    requires { AreKept map.now.entries lengths.now bloom.now }
     ensures { result ≡ answer_of map.now.entries addr }
 {
     // A loop for each family: no turn asks again which it is.
     match addr {
-        Addr::V4(bytes) => answer_by_lengths(map, lengths, Addr::V4(bytes)),
-        Addr::V6(bytes) => answer_by_lengths(map, lengths, Addr::V6(bytes)),
+        Addr::V4(bytes) => answer_by_lengths(map, lengths, bloom, Addr::V4(bytes)),
+        Addr::V6(bytes) => answer_by_lengths(map, lengths, bloom, Addr::V6(bytes)),
     }
 }
 
@@ -196,15 +214,16 @@ fn answer(map: &IndexMap<Prefix, Mark, RulesHasher>, lengths: &Lengths, addr: Ad
 fn answer_by_lengths(
     map: &IndexMap<Prefix, Mark, RulesHasher>,
     lengths: &Lengths,
+    bloom: &Bloom,
     addr: Addr,
 ) -> bool
-    requires { AreKept map.now.entries lengths.now }
+    requires { AreKept map.now.entries lengths.now bloom.now }
     ensures { result ≡ answer_of map.now.entries addr }
 {
     let width = addr.width();
     let mut hidden = lengths.next(addr, 0);
     while hidden <= width {
-        if let Some(mark) = mark_at(map, addr, width - hidden) {
+        if let Some(mark) = mark_at(map, bloom, addr, width - hidden) {
             return !mark.negated;
         }
         hidden = lengths.next(addr, hidden + 1);
@@ -214,10 +233,31 @@ fn answer_by_lengths(
 
 /// The mark of the entry that is the prefix of this address with so many bits, if there is one.
 #[inline(always)]
-fn mark_at(map: &IndexMap<Prefix, Mark, RulesHasher>, addr: Addr, bits: u8) -> Option<Mark>
+fn mark_at(
+    map: &IndexMap<Prefix, Mark, RulesHasher>,
+    bloom: &Bloom,
+    addr: Addr,
+    bits: u8,
+) -> Option<Mark>
     requires bits { bits ≤ width_of addr }
     requires networks { All (λ (x : Entry). IsNetwork x.0) map.now.entries }
+    requires known { AreKnown bloom.now map.now.entries }
     ensures { result ≡ mark_at map.now.entries addr bits }
 {
+    if !bloom.may_have(addr, bits) {
+        return None;
+    }
     map.get(&addr.prefix(bits)).copied()
+}
+
+/// The filter of the prefixes of these entries, with room for as many as the map has.
+fn bloom_of(map: &IndexMap<Prefix, Mark, RulesHasher>) -> Result<Bloom, AllocError>
+    ensures { IfOk result (λ b. AreKnown b map.now.entries) }
+{
+    let mut bloom = Bloom::with_capacity(*map.allocator(), map.capacity())?;
+    for place in 0..map.len() {
+        let (prefix, _) = map.get_index(place).unwrap();
+        bloom.note(prefix.addr(), prefix.bits());
+    }
+    Ok(bloom)
 }

@@ -1,6 +1,7 @@
 //! The tables of a configuration, and the verdict of its rules on a packet.
 #![tactic(auto)]
 
+mod blooms;
 mod books;
 mod comparing;
 mod entries;

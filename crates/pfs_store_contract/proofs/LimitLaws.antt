@@ -1,5 +1,6 @@
 -- The first limit of the rows is the one that a store finds by asking in turn.
-use Rattle.std.proofs.Common.{◌≡◌, ◌&&◌, not, ℕ, Bool, true, false, if◌then◌else◌, nat_le, Option, Some, None, [], ◌∷◌, ◌++◌, length, refl}
+use Rattle.std.proofs.Common.{◌≡◌, ◌&&◌, not, ℕ, Bool, true, false, if◌then◌else◌, nat_le, Option, Some, None, [], ◌∷◌, ◌++◌, ◌<◌, ◌∙◌, length, refl, sym, ap, arith}
+use Rattle.std.proofs.lemmas.Bool.Decides.{nat_tests}
 use Rattle.pfs_addr_values.specs.declared.addresses.Addr.{Addr}
 use Rattle.pfs_conf_values.specs.Configs.{Conf, limit_of, options_of}
 use Rattle.pfs_conf_values.specs.declared.actions.StateOptions.{StateOptions}
@@ -8,8 +9,9 @@ use Rattle.pfs_conf_values.specs.declared.profiles.Profile.{Profile}
 use Rattle.pfs_conf_values.specs.declared.profiles.Profile.TheVariants as profile
 use Rattle.pfs_store_contract.specs.Admission.{first_met, in_order, limit_met, tracks}
 use Rattle.pfs_store_contract.specs.Counts.{has_node, node_scope_of, node_states, reaches_maximum, rule_states, scope_nodes}
-use Rattle.pfs_store_contract.specs.SourceLimits.{first_of, limit_in_turn, rule_limit, source_limit}
+use Rattle.pfs_store_contract.specs.SourceLimits.{first_of, limit_in_turn, maximum_limit, rule_limit, source_limit}
 use Rattle.pfs_store_contract.specs.Worlds.{World}
+use Rattle.pfs_store_contract.specs.declared.records.Limit.{Limit}
 use Rattle.pfs_store_contract.specs.declared.records.Limit.TheVariants as limit
 use Rattle.pfs_store_contract.specs.declared.records.NodeScope.{NodeScope}
 
@@ -72,3 +74,16 @@ met_in_turn conf w rule source = by (node_scope_of conf rule)
     by (Some s) =
         rows_in_turn conf.profile most (has_node s source w.nodes) (reaches_maximum o.max_src_nodes (scope_nodes s w.nodes)) full
         (reaches_maximum o.max_src_states (node_states conf s source w.states)) all
+
+-- none is met where neither that of the rule nor that of its source is, and there is room for a state
+no_room : (a b : ℕ) → b < a → nat_le a b ≡ false
+no_room a b h = grind (arith, nat_tests)
+
+pub none-met : (conf : Conf) (w : World) (rule : ℕ) (source : Addr)
+    → None ≡ rule_limit conf.profile (maximum_limit w rule (options_of conf rule)) (source_limit conf w (options_of conf rule) source (node_scope_of conf rule))
+    → length w.states < limit_of conf limit_name.States → None ≡ limit_met conf w rule source
+none-met conf w rule source e h =
+    let room = no_room (limit_of conf limit_name.States) (length w.states) h in
+    sym (ap (λ (b : Bool). if b then Some limit.States else None) room)
+    ∙ ap (λ (l : Option Limit). first_of l (if nat_le (limit_of conf limit_name.States) (length w.states) then Some limit.States else None)) e
+    ∙ sym (met_in_turn conf w rule source)

@@ -16,6 +16,7 @@ use Rattle.pfs_conf_values.specs.declared.actions.StateOptions.{StateOptions}
 use Rattle.pfs_conf_values.specs.declared.items.Item.{Item}
 use Rattle.pfs_conf_values.specs.declared.items.ItemKind.TheVariants as what
 use Rattle.pfs_conf_values.specs.declared.profiles.Profile.TheVariants as profile
+use Rattle.pfs_conf_values.specs.declared.syncookies.Syncookies.TheVariants as syncookies
 use Rattle.pfs_store_contract.specs.Calls.{flushed_count, packet_limit, answer_at, world_at, world_killed, node_slice_of, state_slice_of, touch_of, world_touched}
 use Rattle.pfs_store_contract.specs.Purging.{purge, state_share, state_slice}
 use Rattle.pfs_store_contract.specs.Touching.{reopens}
@@ -33,6 +34,7 @@ keeping o = record { depth = 0; what = what.Rule (record { quick = false; filter
 abbrev conf_of : ℕ → ℕ → ℕ → ℕ → ℕ → ℕ → ℕ → List Item → Conf
 conf_of states src_nodes udp_first src_track interval start end items = record {
   profile = profile.Own;
+  syncookies = syncookies.Never;
   limits = record { states = states; src_nodes = src_nodes; tables = 1000; table_entries = 200000 };
   timeouts = 120 ∷ 30 ∷ 86400 ∷ 900 ∷ 45 ∷ 90 ∷ udp_first ∷ 30 ∷ 60 ∷ 60 ∷ 30 ∷ 60 ∷ src_track ∷ interval ∷ start ∷ end ∷ [];
   tables = [];
@@ -100,7 +102,7 @@ syn_ack source port = record {
 
 -- the world after a packet that makes a state, or is refused
 abbrev after_new : Conf → World → PacketView → ℕ → World
-after_new conf w p now = world_at conf w p 0 now (packet_limit conf w p 0)
+after_new conf w p now = world_at conf w p 0 false now (packet_limit conf w p 0)
 
 -- the world after a packet of a state
 abbrev after_more : Conf → World → PacketView → ℕ → World
@@ -166,6 +168,7 @@ tells connections value last = Some (record {
   source = a1;
   dir = In;
   completed = true;
+  taken = false;
   connections = connections;
   score = record { value = value; last = last };
 })

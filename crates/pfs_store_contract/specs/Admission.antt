@@ -1,16 +1,22 @@
 -- The limits that a new state meets, and the world with it, or after a refusal. (pf.conf(5), OPTIONS, "set limit", and STATEFUL
 -- TRACKING OPTIONS; the order of the limits is own, but under the profile of OpenBSD 7.4)
-use Rattle.std.specs.Prelude.{ℕ, ◌+◌, ◌&&◌, not, nat_le, Bool, false, if◌then◌else◌, Option, Some, None, List, [], ◌∷◌, ◌++◌, length}
+use Rattle.std.specs.Prelude.{ℕ, ◌+◌, ◌&&◌, not, nat_le, Bool, true, false, if◌then◌else◌, Option, Some, None, List, [], ◌∷◌, ◌++◌, length}
 use Rattle.pfs_addr_values.specs.Packets.{PacketView}
 use Rattle.pfs_addr_values.specs.Keys.{key_of}
 use Rattle.pfs_addr_values.specs.declared.addresses.Addr.{Addr}
-use Rattle.pfs_conf_values.specs.Configs.{Conf, limit_of, options_of, tracks_fully}
+use Rattle.pfs_addr_values.specs.declared.flag_sets.Flags.{Flags}
+use Rattle.pfs_addr_values.specs.declared.packets.Dir.{Dir}
+use Rattle.pfs_addr_values.specs.declared.packets.Dir.TheVariants.{In}
+use Rattle.pfs_addr_values.specs.declared.protocols.Proto.{Proto}
+use Rattle.pfs_addr_values.specs.declared.protocols.Proto.TheVariants.{Tcp}
+use Rattle.pfs_conf_values.specs.Configs.{Conf, is_synproxy, limit_of, options_of, tracks_fully}
 use Rattle.pfs_conf_values.specs.Profiles.{is_openbsd}
 use Rattle.pfs_conf_values.specs.declared.limits.LimitName.TheVariants as limit_name
 use Rattle.pfs_conf_values.specs.declared.profiles.Profile.{Profile}
 use Rattle.pfs_conf_values.specs.declared.profiles.Profile.TheVariants as profile
 use Rattle.pfs_track.specs.Scores.{zero_score}
-use Rattle.pfs_track.specs.StatePhases.{first_phase}
+use Rattle.pfs_track.specs.StatePhases.{cookie_phase, first_phase, proxied_phase}
+use Rattle.pfs_track.specs.declared.state_phases.StatePhase.{StatePhase}
 use Rattle.pfs_store_contract.specs.Worlds.{World}
 use Rattle.pfs_store_contract.specs.Counts.{node_scope_of, rule_states, node_states, scope_nodes, has_node, reaches_maximum}
 use Rattle.pfs_store_contract.specs.declared.records.Limit.{Limit}
@@ -51,15 +57,31 @@ limit_met conf w rule source =
 
 -- ---- a new state
 
+-- a packet asks for a connection from outside: a SYN without ACK, of TCP, that comes in
+abbrev pub asks_in : Dir → Proto → Flags → Bool
+asks_in In Tcp flags = flags.syn && not flags.ack
+asks_in dir proto flags = false
+
+-- pf answers such a packet itself, in place of the server, where a rule with `synproxy state` lets it in
+-- (pf.conf(5), STATEFUL FILTERING, "synproxy state"; certain)
+abbrev pub is_answered : Conf → ℕ → PacketView → Bool
+is_answered conf rule p = is_synproxy conf rule && asks_in p.dir p.proto p.flags
+
+-- the phase of the state that a packet makes, by whether it brings a SYN cookie
+abbrev pub new_phase : Conf → ℕ → PacketView → Bool → StatePhase
+new_phase conf rule p true = cookie_phase (tracks_fully conf rule)
+new_phase conf rule p false =
+    if is_answered conf rule p then proxied_phase (tracks_fully conf rule) else first_phase (tracks_fully conf rule) p.proto
+
 -- the state that a packet makes
-abbrev pub new_state : Conf → ℕ → PacketView → ℕ → ℕ → State
-new_state conf number p rule now = record {
+abbrev pub new_state : Conf → ℕ → PacketView → ℕ → Bool → ℕ → State
+new_state conf number p rule cookie now = record {
   number = number;
   key = key_of p;
   dir = p.dir;
   source = p.source.addr;
   rule = record { 0 = rule };
-  phase = first_phase (tracks_fully conf rule) p.proto;
+  phase = new_phase conf rule p cookie;
   last = now;
 }
 
@@ -72,9 +94,9 @@ nodes_with nodes number source now None = nodes
 nodes_with nodes number source now (Some scope) = if has_node scope source nodes then nodes else nodes ++ new_node number scope source now ∷ []
 
 -- the world with one state more: numbers count from 1 and are never used again
-abbrev pub world_after_admission : Conf → World → PacketView → ℕ → ℕ → World
-world_after_admission conf w p rule now = record w {
-  states = w.states ++ new_state conf (w.made + 1) p rule now ∷ [];
+abbrev pub world_after_admission : Conf → World → PacketView → ℕ → Bool → ℕ → World
+world_after_admission conf w p rule cookie now = record w {
+  states = w.states ++ new_state conf (w.made + 1) p rule cookie now ∷ [];
   nodes = nodes_with w.nodes (w.made + 1) p.source.addr now (node_scope_of conf rule);
   made = w.made + 1;
 }

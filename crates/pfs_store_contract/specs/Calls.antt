@@ -11,7 +11,7 @@ use Rattle.pfs_store_contract.specs.Admission.{leaves_node, limit_met, world_aft
 use Rattle.pfs_store_contract.specs.Counts.{node_scope_of}
 use Rattle.pfs_store_contract.specs.Leaving.{is_beside, is_flushed, world_without}
 use Rattle.pfs_store_contract.specs.Purging.{node_round, node_share, node_slice, state_round, state_share, state_slice}
-use Rattle.pfs_store_contract.specs.Touching.{completes_at, connections_in, reopens, score_in, world_after_touch}
+use Rattle.pfs_store_contract.specs.Touching.{completes_at, connections_in, is_taken, reopens, score_in, world_after_touch}
 use Rattle.pfs_store_contract.specs.Worlds.{World}
 use Rattle.pfs_store_contract.specs.declared.records.Limit.{Limit}
 use Rattle.pfs_store_contract.specs.declared.records.Slice.{Slice}
@@ -38,9 +38,9 @@ abbrev pub answer_at : World → Option Limit → Result StateNo Limit
 answer_at w None = Ok (record { 0 = w.made + 1 })
 answer_at w (Some l) = Err l
 
-abbrev pub world_at : Conf → World → PacketView → ℕ → ℕ → Option Limit → World
-world_at conf w p rule now None = world_after_admission conf w p rule now
-world_at conf w p rule now (Some l) = world_after_refusal conf w p.source.addr rule now l
+abbrev pub world_at : Conf → World → PacketView → ℕ → Bool → ℕ → Option Limit → World
+world_at conf w p rule cookie now None = world_after_admission conf w p rule cookie now
+world_at conf w p rule cookie now (Some l) = world_after_refusal conf w p.source.addr rule now l
 
 -- a refusal takes no memory, but for a node that it leaves
 abbrev pub IsFreeRefusal : Conf → World → PacketView → ℕ → Option Limit → Type 0
@@ -65,13 +65,15 @@ abbrev pub world_reopened : Conf → World → PacketView → ℕ → Option Sta
 world_reopened conf w p now None = w
 world_reopened conf w p now (Some s) = if reopens conf p s then world_killed conf w s.number now else w
 
--- the rule, the source, the direction in which it was made, whether the handshake completed, and the connections and the score after it
+-- the rule, the source, the direction in which it was made, whether the handshake completed, whether pf takes the packet itself, and the
+-- connections and the score after it
 abbrev pub touch_of : Conf → World → PacketView → ℕ → State → Touched
 touch_of conf w p now s = record {
   rule = s.rule;
   source = s.source;
   dir = s.dir;
   completed = completes_at p s;
+  taken = is_taken p s;
   connections = connections_in conf s.source (world_after_touch conf w s p now).states (node_scope_of conf s.rule.0);
   score = score_in s.source (world_after_touch conf w s p now).nodes (node_scope_of conf s.rule.0);
 }

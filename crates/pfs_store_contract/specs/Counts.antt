@@ -7,7 +7,7 @@ use Rattle.pfs_conf_values.specs.Bounds.{is_global}
 use Rattle.pfs_conf_values.specs.Configs.{Conf, scope_of}
 use Rattle.pfs_conf_values.specs.declared.actions.Scope.{Scope}
 use Rattle.pfs_conf_values.specs.declared.actions.Scope.TheVariants as scope
-use Rattle.pfs_track.specs.StatePhases.{is_done}
+use Rattle.pfs_track.specs.StatePhases.{is_done, is_half_open}
 use Rattle.pfs_store_contract.specs.declared.records.State.{State}
 use Rattle.pfs_store_contract.specs.declared.records.Node.{Node}
 use Rattle.pfs_store_contract.specs.contracts.records.NodeScopePartialEq.TheImpl as scope_eq
@@ -53,6 +53,10 @@ is_connection conf scope source s = is_done s.phase && is_of_node conf scope sou
 -- the states of a rule
 abbrev pub rule_states : ℕ → List State → ℕ
 rule_states rule states = length (filter (is_of_rule rule) states)
+
+-- the half open states (likely; pf.conf(5), OPTIONS, "set syncookies")
+abbrev pub half_open : List State → ℕ
+half_open states = length (filter (λ (s : State). is_half_open s.phase) states)
 
 -- the states and the connections of a node
 abbrev pub node_states : Conf → NodeScope → Addr → List State → ℕ

@@ -9,7 +9,7 @@ use Rattle.pfs_conf_values.specs.Configs.{Conf, options_of}
 use Rattle.pfs_conf_values.specs.Profiles.{is_openbsd}
 use Rattle.pfs_conf_values.specs.declared.actions.Rate.{Rate}
 use Rattle.pfs_track.specs.Scores.{score_after, zero_score}
-use Rattle.pfs_track.specs.StatePhases.{completes, has_closed, phase_after}
+use Rattle.pfs_track.specs.StatePhases.{completes, has_closed, phase_after, takes}
 use Rattle.pfs_track.specs.declared.scores.Score.{Score}
 use Rattle.pfs_store_contract.specs.Worlds.{World}
 use Rattle.pfs_store_contract.specs.Counts.{is_node, node_connections, node_scope_of}
@@ -32,9 +32,14 @@ may_reopen conf p = is_openbsd conf.profile && (p.flags.syn && not p.flags.ack)
 abbrev pub reopens : Conf → PacketView → State → Bool
 reopens conf p s = may_reopen conf p && has_closed s.phase
 
--- the state after its packet
+-- pf takes a packet of a state itself, so that it goes no further
+abbrev pub is_taken : PacketView → State → Bool
+is_taken p s = takes s.phase (goes_forward p s) p.flags
+
+-- the state after its packet: the moment of its last packet stays where pf takes this one
 abbrev pub state_after_packet : PacketView → ℕ → State → State
-state_after_packet p now s = record s { phase = phase_after s.phase (goes_forward p s) p.flags; last = now }
+state_after_packet p now s =
+    record s { phase = phase_after s.phase (goes_forward p s) p.flags; last = if is_taken p s then s.last else now }
 
 -- the state of a number after its packet
 abbrev pub numbered_state_after : ℕ → PacketView → ℕ → State → State
@@ -63,7 +68,7 @@ abbrev pub nodes_touched : Conf → List Node → State → ℕ → Bool → Lis
 nodes_touched conf nodes s now true = nodes_scored nodes s.source now (node_scope_of conf s.rule.0) (options_of conf s.rule.0).max_src_conn_rate
 nodes_touched conf nodes s now false = nodes
 
--- the phase and the last moment of the state are renewed, and its node's score
+-- the state is renewed, and its node's score
 abbrev pub world_after_touch : Conf → World → State → PacketView → ℕ → World
 world_after_touch conf w s p now = record w {
   states = map (numbered_state_after s.number p now) w.states;

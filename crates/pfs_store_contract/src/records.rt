@@ -93,6 +93,8 @@ pub struct Touched {
     pub dir: Dir,
     /// Whether the handshake completed with it.
     pub completed: bool,
+    /// Whether pf takes the packet itself, so that it goes no further.
+    pub taken: bool,
     /// The connections of the source's node after it; 0 for a rule that tracks no sources.
     pub connections: u64,
     /// The score of the source's node after it; 0 at moment 0 for a rule that tracks no sources.

@@ -6,6 +6,7 @@ ghost use Rattle.pfs_addr_values.specs.Packets.{run_limit};
 ghost use Rattle.pfs_conf_values.specs.Configs.{Conf, options_at};
 ghost use Rattle.pfs_track.specs.StatePhases.{has_closed};
 ghost use Rattle.pfs_store_contract.specs.Calls.{IsFreeRefusal, answer_at, flushed_count, node_slice_of, packet_limit, renewal_of, source_states, state_number, state_rule, state_slice_of, touch_of, world_at, world_flushed, world_killed, world_touched};
+ghost use Rattle.pfs_store_contract.specs.Counts.{half_open};
 ghost use Rattle.pfs_store_contract.specs.Purging.{node_slice, state_slice};
 ghost use Rattle.pfs_store_contract.specs.Quiet.{NodesStay, StatesStay, world_after_quiet};
 ghost use Rattle.pfs_store_contract.specs.Worlds.{IsUpToNow, World, holds_number, state_with};
@@ -48,6 +49,11 @@ pub trait Store {
     fn state_count(&self) -> u64
         ensures { result ≡ length (world self.now).states };
 
+    /// How many states are half open: of TCP, the maker above CLOSED and below ESTABLISHED; not those whose handshakes pf leads. It
+    /// looks at no record and takes no memory. (pf.conf(5), OPTIONS, "set syncookies")
+    fn half_open_count(&self) -> u64
+        ensures { result ≡ half_open (world self.now).states };
+
     /// How many source nodes are held, those without states too.
     fn node_count(&self) -> u64
         ensures { result ≡ length (world self.now).nodes };
@@ -56,7 +62,9 @@ pub trait Store {
     fn made(&self) -> u64
         ensures { result ≡ (world self.now).made };
 
-    /// Makes a state for a packet whose key no state has, at a rule that keeps state. It makes a source node with it
+    /// Makes a state for a packet whose key no state has, at a rule that keeps state. Where the rule has `synproxy state`, and the packet
+    /// is a SYN without ACK of TCP that comes in, pf leads the handshakes of the state. Where the packet brings a `cookie` of pf, pf's
+    /// handshake with its maker is complete, and never counts. It makes a source node with it
     /// where the rule tracks sources and the source has none in its scope. It returns the number of the state, or the
     /// first limit that the state would meet: `max`; for a source without a node `max-src-nodes` and the limit of
     /// source nodes; for one with a node `max-src-states`; the limit of states. Under the profile of OpenBSD 7.4 `max` is asked
@@ -72,6 +80,7 @@ pub trait Store {
         &mut self,
         packet: &Packet,
         rule: RuleNo,
+        cookie: bool,
         now: u64,
     ) -> Result<Result<StateNo, Limit>, NoMemory>
         requires fresh { state_with (key_of packet.now) (world self.old) ≡ None }
@@ -80,15 +89,15 @@ pub trait Store {
         ensures answer { IfOk result (λ a.
             a ≡ answer_at (world self.old) (packet_limit (config self.old) (world self.old) packet.now rule.0)) }
         ensures ok { IfOk result (λ a. world self.new
-            ≡ world_at (config self.old) (world self.old) packet.now rule.0 now
+            ≡ world_at (config self.old) (world self.old) packet.now rule.0 cookie now
             (packet_limit (config self.old) (world self.old) packet.now rule.0)) }
         ensures err { OnErr result (world self.new ≡ world self.old) }
         ensures no_memory { IsFreeRefusal (config self.old) (world self.old) packet.now rule.0
             (packet_limit (config self.old) (world self.old) packet.now rule.0) → IsOk result }
         ensures config { config self.new ≡ config self.old };
 
-    /// Takes a packet of the state that was found by its key: the state's phase and the moment of its last packet are renewed,
-    /// and where the handshake completes at a rule that tracks sources and has `max-src-conn-rate`, the score of its source's
+    /// Takes a packet of the state that was found by its key: the state's phase is renewed, and the moment of its last packet unless
+    /// pf takes this one itself; and where the handshake completes at a rule that tracks sources and has `max-src-conn-rate`, the score of its source's
     /// node. No handshake that a score counts came after `now`. It looks at one record, and the state is still reached.
     /// (pf.conf(5), STATEFUL TRACKING OPTIONS; the table of phases and the score are own to this profile)
     fn touch(&mut self, found: Found, packet: &Packet, now: u64, meter: &mut Meter) -> Touched

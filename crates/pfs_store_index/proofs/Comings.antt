@@ -13,11 +13,13 @@ use Rattle.pfs_addr_values.specs.declared.addresses.Addr.{Addr}
 use Rattle.pfs_addr_values.specs.declared.packets.Dir.{Dir}
 use Rattle.pfs_addr_values.specs.declared.packets.Dir.TheVariants.{In, Out}
 use Rattle.pfs_addr_values.specs.declared.packets.FlowKey.{FlowKey}
-use Rattle.pfs_conf_values.specs.Configs.{Conf, scope_of}
+use Rattle.pfs_addr_values.specs.declared.protocols.Proto.{Proto}
+use Rattle.pfs_addr_values.specs.declared.protocols.Proto.TheVariants.{Tcp, Udp, Other}
+use Rattle.pfs_conf_values.specs.Configs.{Conf, scope_of, tracks_fully}
 use Rattle.pfs_conf_values.specs.declared.actions.Scope.{Scope}
 use Rattle.pfs_conf_values.specs.declared.actions.Scope.TheVariants as scope
-use Rattle.pfs_track.specs.StatePhases.{is_done}
-use Rattle.pfs_store_contract.specs.Admission.{new_node, nodes_with}
+use Rattle.pfs_track.specs.StatePhases.{first_phase, is_done, proxied_phase}
+use Rattle.pfs_store_contract.specs.Admission.{is_answered, new_node, new_phase, nodes_with}
 use Rattle.pfs_store_contract.specs.Counts.{has_node, in_scope, is_connection, is_node, is_of_node, is_of_rule, is_of_source, node_connections, node_scope_under, node_scope_of, node_states, rule_states}
 use Rattle.pfs_conf_values.specs.Bounds.{is_global}
 use Rattle.pfs_store_contract.specs.Plain.{AreCounts}
@@ -392,3 +394,15 @@ few-counted conf xs t l h =
 pub key-sourced : (d : Dir) (p : PacketView) → p.source.addr ≡ source_at d (record { proto = p.proto; a = first_end d p; b = second_end d p })
 key-sourced In p = refl
 key-sourced Out p = refl
+
+-- no handshake of a new state has completed, or it does not count
+pub new-undone : (conf : Conf) (rule : ℕ) (p : PacketView) (cookie : Bool) → is_done (new_phase conf rule p cookie) ≡ false
+new-undone conf rule p true = refl
+new-undone conf rule p false = go (is_answered conf rule p) (tracks_fully conf rule) p.proto
+  where
+    go : (answered full : Bool) (o : Proto) → is_done (if answered then proxied_phase full else first_phase full o) ≡ false
+    go true full o = refl
+    go false true Tcp = refl
+    go false false Tcp = refl
+    go false full Udp = refl
+    go false full (Other n) = refl

@@ -8,12 +8,9 @@ use Rattle.pfs_addr_values.specs.declared.addresses.Addr.{Addr}
 use Rattle.pfs_addr_values.specs.declared.packets.FlowKey.{FlowKey}
 use Rattle.pfs_conf_values.specs.Configs.{Conf}
 use Rattle.pfs_track.specs.Scores.{zero_score}
-use Rattle.pfs_track.specs.StatePhases.{completes, is_done, phase_after}
-use Rattle.pfs_track.specs.TcpPhases.{tcp_completes}
-use Rattle.pfs_track.specs.PhaseLaws.{tcp_completes-once}
+use Rattle.pfs_track.proofs.DoneLaws.{done-after, done-once}
+use Rattle.pfs_track.specs.StatePhases.{completes, is_done}
 use Rattle.pfs_track.specs.declared.scores.Score.{Score}
-use Rattle.pfs_track.specs.declared.state_phases.StatePhase.{StatePhase}
-use Rattle.pfs_track.specs.declared.state_phases.StatePhase.TheVariants.{Tcp, FullTcp, Udp, Other}
 use Rattle.pfs_store_contract.specs.Calls.{state_number as number_of}
 use Rattle.pfs_store_contract.specs.Counts.{is_node, node_connections}
 use Rattle.pfs_store_contract.specs.Purging.{state_numbers}
@@ -108,13 +105,10 @@ done_more false true h = refl
 done_more false false h = refl
 
 pub counts-done : (s : State) (p : PacketView) → CountsDone s p
-counts-done s p = go s.phase
-  where
-    go : (ph : StatePhase) → ◌≡◌ {A = ℕ} (cond (is_done (phase_after ph (goes_forward p s) p.flags)) 1 0) (cond (is_done ph) 1 0 + cond (completes ph (goes_forward p s) p.flags) 1 0)
-    go (Tcp t) = done_more t.complete (tcp_completes false t (goes_forward p s) p.flags) (λ h. (tcp_completes-once false t (goes_forward p s) p.flags h).0)
-    go (FullTcp t) = done_more t.complete (tcp_completes true t (goes_forward p s) p.flags) (λ h. (tcp_completes-once true t (goes_forward p s) p.flags h).0)
-    go (Udp t) = refl
-    go (Other t) = refl
+counts-done s p =
+    let forward = goes_forward p s in
+    ap (λ (b : Bool). cond b 1 0) (done-after s.phase forward p.flags)
+    ∙ done_more (is_done s.phase) (completes s.phase forward p.flags) (done-once s.phase forward p.flags)
 
 -- ---- what is reported of the node
 

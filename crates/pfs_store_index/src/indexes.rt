@@ -8,7 +8,7 @@ ghost use Rattle.pfs_addr_values.specs.Packets.{run_limit};
 ghost use Rattle.pfs_addr_values.specs.Sameness.{same_key};
 ghost use Rattle.pfs_conf_values.specs.Configs.{options_at};
 ghost use Rattle.pfs_store_contract.specs.Admission.{new_node, nodes_with};
-ghost use Rattle.pfs_store_contract.specs.Counts.{has_node, node_scope_of, node_states, rule_states, scope_nodes};
+ghost use Rattle.pfs_store_contract.specs.Counts.{half_open, has_node, node_scope_of, node_states, rule_states, scope_nodes};
 ghost use Rattle.pfs_store_contract.specs.Leaving.{is_beside, node_after_leaving};
 ghost use Rattle.pfs_store_contract.specs.Calls.{other_than, told_at, touch_of, state_number, state_rule};
 ghost use Rattle.pfs_store_contract.specs.Plain.{AreCounts};
@@ -123,6 +123,13 @@ impl<S: BuildHasher> Indexes<S> {
         ensures { result ≡ length self.now.states }
     {
         self.records.len()
+    }
+
+    /// How many states are half open.
+    pub(crate) fn half_open_count(&self) -> u64
+        ensures { result ≡ half_open self.now.states }
+    {
+        self.records.half_open_count()
     }
 
     /// The numbers of the states rise: a fact for proofs, which computes nothing.
@@ -382,16 +389,24 @@ impl<S: BuildHasher> Indexes<S> {
     {
         self.records.numbers_rise();
         let state = self.records.read_at(found.place, meter);
-        let (after, completed) = stepped(&state, packet, now);
-        self.records.write_at(found.place, after);
-        let met = meet(&self.config, &mut self.nodes, &state, completed, asked, now);
+        let step = stepped(&state, packet, now);
+        self.records.write_at(found.place, step.after);
+        let met = meet(
+            &self.config,
+            &mut self.nodes,
+            &state,
+            step.completed,
+            asked,
+            now,
+        );
         Renewed {
             before: state,
             touched: Touched {
                 rule: state.rule,
                 source: state.source,
                 dir: state.dir,
-                completed,
+                completed: step.completed,
+                taken: step.taken,
                 connections: met.connections,
                 score: met.score,
             },

@@ -16,11 +16,11 @@ use crate::indexes::Indexes;
 use crate::limits::{limit_met, scope_left};
 use crate::purging::{share_of, walk_nodes, walk_states};
 use crate::rounds::{next_between, turned, under_way};
+use crate::stepping::new_phase;
 use pfs_addr_values::{Addr, Dir, FlowKey, Meter, NoMemory, Packet};
 use pfs_conf_values::{Config, LimitName, RuleNo, RulesHasher};
 use pfs_store_contract::{Found, Limit, Slice, State, StateNo, Staying, Store, Touched, Watched};
 use pfs_store_records::Round;
-use pfs_track::StatePhase;
 use std::alloc::Global;
 use std::hash::BuildHasher;
 use std::marker::Model;
@@ -94,26 +94,31 @@ impl<S: BuildHasher> IndexStore<S> {
 
 impl<S: BuildHasher> IndexStore<S> {
     /// Makes the state of a packet at a rule, and with it the node of its source where it has none, whatever limits they meet.
-    fn make(&mut self, packet: &Packet, rule: RuleNo, now: u64) -> Result<StateNo, NoMemory>
+    fn make(
+        &mut self,
+        packet: &Packet,
+        rule: RuleNo,
+        cookie: bool,
+        now: u64,
+    ) -> Result<StateNo, NoMemory>
         requires fresh { state_with (key_of packet.now) self.old.world ≡ None }
         requires keeps { IsSome (options_at self.old.config rule.0) }
         requires room { self.old.world.made < run_limit }
         ensures number { IfOk result (λ n. n.0 ≡ self.old.world.made + 1) }
-        ensures ok { OnOk result (self.new.world ≡ world_after_admission self.old.config self.old.world packet.now rule.0 now) }
+        ensures ok { OnOk result (self.new.world ≡ world_after_admission self.old.config self.old.world packet.now rule.0 cookie now) }
         ensures err { OnErr result (self.new.world ≡ self.old.world) }
         ensures config { self.new.config ≡ self.old.config }
     {
         let source = packet.src();
         self.indexes.state_numbers_rise();
         let number = self.made + 1;
-        let full = self.indexes.config().tracks_fully(rule);
         let state = State {
             number,
             key: FlowKey::of(packet),
             dir: packet.dir(),
             source,
             rule,
-            phase: StatePhase::first(full, packet.proto()),
+            phase: new_phase(self.indexes.config(), rule, packet, cookie),
             last: now,
         };
         match self.indexes.put(state) {
@@ -202,6 +207,10 @@ impl<S: BuildHasher> Store for IndexStore<S> {
         self.indexes.state_count()
     }
 
+    fn half_open_count(&self) -> u64 {
+        self.indexes.half_open_count()
+    }
+
     fn node_count(&self) -> u64 {
         self.indexes.node_count()
     }
@@ -214,6 +223,7 @@ impl<S: BuildHasher> Store for IndexStore<S> {
         &mut self,
         packet: &Packet,
         rule: RuleNo,
+        cookie: bool,
         now: u64,
     ) -> Result<Result<StateNo, Limit>, NoMemory> {
         match limit_met(&self.indexes, rule, packet.src()) {
@@ -221,7 +231,7 @@ impl<S: BuildHasher> Store for IndexStore<S> {
                 Ok(()) => Ok(Err(limit)),
                 Err(refused) => Err(refused),
             },
-            None => match self.make(packet, rule, now) {
+            None => match self.make(packet, rule, cookie, now) {
                 Ok(number) => Ok(Ok(number)),
                 Err(refused) => Err(refused),
             },

@@ -1,6 +1,7 @@
 //! Counts of states, and the nodes that a scope has.
 
 ghost use Rattle.std.specs.Prelude.{◌≡◌, Bool, filter, length};
+ghost use Rattle.pfs_track.specs.StatePhases.{is_half_open};
 ghost use Rattle.pfs_store_contract.specs.Counts.{has_node, in_scope, is_connection, is_of_node, is_of_rule, scope_nodes};
 ghost use Rattle.pfs_store_contract.specs.declared.records.State.{State};
 
@@ -33,6 +34,18 @@ impl Test for OfRule {
 
     fn passes(&self, state: &State) -> bool {
         state.rule == self.0
+    }
+}
+
+/// The half open states.
+#[derive(Clone, Copy)]
+pub(crate) struct HalfOpen;
+
+impl Test for HalfOpen {
+    ghost passes = { λ t s. is_half_open s.phase };
+
+    fn passes(&self, state: &State) -> bool {
+        state.phase.is_half_open()
     }
 }
 

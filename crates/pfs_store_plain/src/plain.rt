@@ -3,19 +3,21 @@
 ghost use Rattle.std.specs.Prelude.{◌≡◌, ◌+◌, ◌<◌, ◌≤◌, ◌^◌, [], ◌∷◌, ◌++◌, false, true, IfOk, IsOk, IsSome, None, OnErr, OnOk, length, vec_capacity};
 ghost use Rattle.pfs_addr_values.specs.Packets.{run_limit};
 ghost use Rattle.pfs_conf_values.specs.Configs.{options_at};
-ghost use Rattle.pfs_store_contract.specs.Admission.{leaves_node, nodes_with, world_after_admission, world_after_refusal};
+ghost use Rattle.pfs_store_contract.specs.Admission.{leaves_node, new_phase, nodes_with, world_after_admission, world_after_refusal};
 ghost use Rattle.pfs_store_contract.specs.Calls.{packet_limit};
 ghost use Rattle.pfs_store_plain.specs.Rooms.{AreScores};
 ghost use Rattle.pfs_store_contract.specs.Worlds.{empty_world};
 
-use crate::counts::{count, has_node};
+use crate::counts::{HalfOpen, count, has_node};
 use crate::leaving::{Flushed, OtherThan, Unflushed, holds_number, leave};
 use crate::limits::limit_met;
 use crate::purging::{slice_nodes, slice_states};
 use crate::touching::{self, state_with};
 use pfs_addr_values::{Addr, Dir, FlowKey, Meter, NoMemory, Packet};
 use pfs_conf_values::{Config, RuleNo};
-use pfs_store_contract::{Found, Limit, Node, NodeScope, Slice, State, StateNo, Store, Touched};
+use pfs_store_contract::{
+    Found, Limit, Node, NodeScope, Slice, State, StateNo, Store, Touched, is_answered,
+};
 use pfs_store_rules::node_scope;
 use pfs_track::{Score, StatePhase};
 use std::alloc::{AllocError, Global};
@@ -74,13 +76,22 @@ impl PlainStore {
     }
 
     /// The state of a packet that meets no limit, and its source's node.
-    fn place(&mut self, packet: &Packet, rule: RuleNo, now: u64) -> Result<StateNo, AllocError>
+    fn place(
+        &mut self,
+        packet: &Packet,
+        rule: RuleNo,
+        cookie: bool,
+        now: u64,
+    ) -> Result<StateNo, AllocError>
         requires room { self.old.world.made < run_limit }
         ensures answer { IfOk result (λ number. number.0 ≡ self.old.world.made + 1) }
-        ensures ok { OnOk result (self.new.world ≡ world_after_admission self.old.config self.old.world packet.now rule.0 now) }
+        ensures ok { OnOk result (self.new.world ≡ world_after_admission self.old.config self.old.world packet.now rule.0 cookie now) }
         ensures err { OnErr result (self.new.world ≡ self.old.world) }
         ensures config { self.new.config ≡ self.old.config }
     {
+        // The proof needs the type of a packet's protocol named here.
+        let _proto = packet.proto();
+        let phase = new_phase(&self.config, rule, packet, cookie);
         make_room(&mut self.states, &mut self.pending_states)?;
         let scope = node_scope(&self.config, rule);
         make_node_room(&mut self.nodes, &mut self.pending_nodes, scope)?;
@@ -93,7 +104,7 @@ impl PlainStore {
             dir: packet.dir(),
             source,
             rule,
-            phase: StatePhase::first(self.config.tracks_fully(rule), packet.proto()),
+            phase,
             last: now,
         });
         self.made = number;
@@ -166,6 +177,10 @@ impl Store for PlainStore {
         self.states.len() as u64
     }
 
+    fn half_open_count(&self) -> u64 {
+        count(&self.states, &HalfOpen)
+    }
+
     fn node_count(&self) -> u64 {
         self.nodes.len() as u64
     }
@@ -178,6 +193,7 @@ impl Store for PlainStore {
         &mut self,
         packet: &Packet,
         rule: RuleNo,
+        cookie: bool,
         now: u64,
     ) -> Result<Result<StateNo, Limit>, NoMemory> {
         if let Some(limit) = self.limit_for(packet, rule) {
@@ -186,7 +202,7 @@ impl Store for PlainStore {
                 Err(_) => Err(NoMemory),
             };
         }
-        match self.place(packet, rule, now) {
+        match self.place(packet, rule, cookie, now) {
             Ok(number) => Ok(Ok(number)),
             Err(_) => Err(NoMemory),
         }
@@ -262,6 +278,20 @@ impl Store for PlainStore {
             &mut self.pending_nodes,
             now,
         )
+    }
+}
+
+/// The phase of the state that a packet makes at a rule. `cookie`: it brings a SYN cookie.
+fn new_phase(config: &Config, rule: RuleNo, packet: &Packet, cookie: bool) -> StatePhase
+    ensures { result ≡ new_phase config.now rule.0 packet.now cookie }
+{
+    let full = config.tracks_fully(rule);
+    if cookie {
+        StatePhase::of_cookie(full)
+    } else if is_answered(config, rule, packet) {
+        StatePhase::proxied(full)
+    } else {
+        StatePhase::first(full, packet.proto())
     }
 }
 

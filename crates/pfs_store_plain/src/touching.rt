@@ -7,7 +7,7 @@ ghost use Rattle.pfs_conf_values.specs.Bounds.{IsRate};
 ghost use Rattle.pfs_track.specs.StatePhases.{has_closed};
 ghost use Rattle.pfs_store_contract.specs.Counts.{node_scope_of};
 ghost use Rattle.pfs_store_plain.specs.Rooms.{AreScores};
-ghost use Rattle.pfs_store_contract.specs.Touching.{completes_at, connections_in, goes_forward, node_score, nodes_scored, nodes_touched, numbered_state_after, node_after_handshake, score_in};
+ghost use Rattle.pfs_store_contract.specs.Touching.{completes_at, connections_in, goes_forward, is_taken, node_score, nodes_scored, nodes_touched, numbered_state_after, node_after_handshake, score_in, state_after_packet};
 ghost use Rattle.pfs_store_contract.specs.Calls.{touch_of, world_touched};
 ghost use Rattle.pfs_store_contract.specs.Worlds.{IsUpToNow, lists, state_with};
 ghost use Rattle.pfs_store_contract.specs.declared.records.State.{State};
@@ -83,6 +83,7 @@ fn touch_state(
     ensures scores { AreScores nodes.new }
 {
     let completed = completes_at(packet, &state);
+    let taken = is_taken(packet, &state);
     renew(states, state.number, packet, now);
     if completed {
         score_handshake(config, nodes, &state, now);
@@ -93,6 +94,7 @@ fn touch_state(
         source: state.source,
         dir: state.dir,
         completed,
+        taken,
         connections: connections_in(config, states, scope, state.source),
         score: score_in(nodes, scope, state.source),
     }
@@ -106,6 +108,15 @@ fn completes_at(packet: &Packet, state: &State) -> bool
         .phase
         .step(goes_forward(packet, state), packet.flags())
         .1
+}
+
+/// Whether pf takes a packet of a state itself.
+fn is_taken(packet: &Packet, state: &State) -> bool
+    ensures { result ≡ is_taken packet.now state.now }
+{
+    state
+        .phase
+        .takes(goes_forward(packet, state), packet.flags())
 }
 
 fn goes_forward(packet: &Packet, state: &State) -> bool
@@ -127,16 +138,27 @@ fn renewed(state: State, number: u64, packet: &Packet, now: u64) -> State
     ensures { result ≡ numbered_state_after number packet.now now state }
 {
     if state.number == number {
-        let (phase, _) = state
-            .phase
-            .step(goes_forward(packet, &state), packet.flags());
-        State {
-            phase,
-            last: now,
-            ..state
-        }
+        after_packet(&state, packet, now)
     } else {
         state
+    }
+}
+
+/// A state after its packet.
+fn after_packet(state: &State, packet: &Packet, now: u64) -> State
+    ensures { result ≡ state_after_packet packet.now now state.now }
+{
+    let (phase, _) = state
+        .phase
+        .step(goes_forward(packet, state), packet.flags());
+    State {
+        phase,
+        last: if is_taken(packet, state) {
+            state.last
+        } else {
+            now
+        },
+        ..*state
     }
 }
 

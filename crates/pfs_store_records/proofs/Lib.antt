@@ -1,3 +1,4 @@
+mod HalfOpens
 pub mod NodeLaws
 pub mod OneNode
 mod Ordered

@@ -1,5 +1,5 @@
 -- The records of states: what a slab holds, seen as records by number, and as states alone.
-use Rattle.std.proofs.Common.{◌≡◌, ℕ, ◌==◌, Bool, true, false, Option, Some, None, IsSome, List, [], ◌∷◌, ◌++◌, map, option_map, refl, sym, ap, subst, ◌∙◌, arith, filter}
+use Rattle.std.proofs.Common.{◌≡◌, ℕ, ◌==◌, Bool, true, false, Option, Some, None, IsSome, List, [], ◌∷◌, ◌++◌, map, option_map, refl, sym, ap, subst, ◌∙◌, ◌+◌, ◌≤◌, arith, filter}
 use Rattle.std.specs.List.{list_any, find, AllByRecursion}
 use Rattle.std.specs.Map.{lookup}
 use Rattle.std.specs.BTreeMap.{is_at}
@@ -8,11 +8,13 @@ use Rattle.std.proofs.lemmas.Bool.Decides.{nat_tests}
 use Rattle.slab.specs.Slab.{Slab, get, Updates, ContainsKey, with_value}
 use Rattle.slab.proofs.SlabLemmas.{Updates-with_value}
 use Rattle.pfs_store_contract.specs.Calls.{other_than}
+use Rattle.pfs_store_contract.specs.Counts.{half_open}
 use Rattle.pfs_store_contract.specs.Purging.{state_numbers}
 use Rattle.pfs_store_contract.specs.declared.records.State.{State}
-use Rattle.pfs_store_records.specs.Keeping.{values_at, IsPlaced, AreInPlace, number_in, RecordIsAt, record_in}
+use Rattle.pfs_store_records.specs.Keeping.{values_at, IsPlaced, AreCounted, AreInPlace, number_in, RecordIsAt, record_in}
 use Rattle.pfs_store_records.specs.Records.{IsRecordAt, IsRising, Placed, is_placed, leaves_number, placed_at, put, put_state, stands_at, states_of}
-use Rattle.pfs_store_records.proofs.Ordered.{IsUpdated, find_placed, found, kept-written, look-placed, rising-held, view-written}
+use Rattle.pfs_store_records.proofs.HalfOpens.{half-found, half-put, opens}
+use Rattle.pfs_store_records.proofs.Ordered.{IsUpdated, find_placed, found, held-all, kept-all, kept-written, look-placed, rising-held, view-written}
 
 -- ---- records as states
 
@@ -70,6 +72,13 @@ vacant s p h = ap (option_map (placed_at p)) h
 
 pub grown : (s t : Slab State) (c : ℕ) → t ≡ record s { capacity = c } → (q : ℕ) → record_in t q ≡ record_in s q
 grown s t c e q = ap (λ x. record_in x q) e
+
+-- what is kept stays so where room is made
+pub counted-grown : (s t : Slab State) (es : List (ℕ × ℕ)) (count : ℕ) → ((q : ℕ) → record_in t q ≡ record_in s q) → AreCounted s es count → AreCounted t es count
+counted-grown s t es count g k = record {
+  kept = kept-all number_in RecordIsAt (record_in s) (record_in t) es g k.kept;
+  counted = k.counted ∙ sym (ap (λ (ps : List Placed). half_open (states_of ps)) (held-all number_in RecordIsAt (record_in s) (record_in t) es g));
+}
 
 has_state : (o : Option State) (p : ℕ) (v : Placed) → option_map (placed_at p) o ≡ Some v → IsSome o
 has_state None p v h = absurd (cc h)
@@ -157,3 +166,28 @@ view-put s es p st k a =
     let l = at_number s es p st k a in
     let f = found number_in RecordIsAt (record_in s) st.number p es k.placed l in
     view-written number_in RecordIsAt (put st) (record_in s) (record_in (with_value s p st)) p st.number (placed_at p st) es (put-elsewhere st) (put-here s p st f) l (with_record s es p st k a) k
+
+-- ---- how many are half open
+
+abbrev half_of : List Placed → ℕ
+half_of ps = half_open (states_of ps)
+
+-- the state in the record at the place of a number at the place of its number
+was-there : (s : Slab State) (es : List (ℕ × ℕ)) (p : ℕ) (st before : State) → AreInPlace number_in RecordIsAt (record_in s) es → Stands s es p st → get s p ≡ Some before
+    → find (λ (x : State). x.number == st.number) (states_of (values_at (record_in s) es)) ≡ Some before
+was-there s es p st before k a g = sym (read-value st.number s es p before k.placed (at_number s es p st k a) g)
+
+pub counted-there : (s : Slab State) (es : List (ℕ × ℕ)) (p : ℕ) (st before : State) (count : ℕ) → AreCounted s es count → Stands s es p st → get s p ≡ Some before → opens before ≤ count
+counted-there s es p st before count k a g =
+    omega (arith, k.counted, half-found st.number before (states_of (values_at (record_in s) es)) (was-there s es p st before k.kept a g))
+
+pub counted-put : (s : Slab State) (es : List (ℕ × ℕ)) (p : ℕ) (st before : State) (count rest after : ℕ) → AreCounted s es count → Stands s es p st → get s p ≡ Some before
+    → rest + opens before ≡ count → after ≡ rest + opens st → AreCounted (with_value s p st) es after
+counted-put s es p st before count rest after k a g e f =
+    let vs = values_at (record_in s) es in
+    let put-count = half-put st before (states_of vs) (rising-states s es k.kept) (was-there s es p st before k.kept a g) in
+    let now = ap half_of (view-put s es p st k.kept a) ∙ ap half_open (states-put st vs) in
+    record {
+      kept = kept-put s es p st k.kept a;
+      counted = omega (arith, k.counted, e, f, put-count, now);
+    }

@@ -8,11 +8,11 @@ use Rattle.std.specs.Ordering.{nat_cmp}
 use Rattle.slab.specs.Slab.{Slab, get}
 use Rattle.pfs_addr_values.specs.Sameness.{same_addr}
 use Rattle.pfs_addr_values.specs.declared.addresses.Addr.{Addr}
-use Rattle.pfs_store_contract.specs.Counts.{same_scope, scope_nodes}
+use Rattle.pfs_store_contract.specs.Counts.{half_open, same_scope, scope_nodes}
 use Rattle.pfs_store_contract.specs.declared.records.NodeScope.{NodeScope}
 use Rattle.pfs_store_contract.specs.declared.records.NodeScope.TheVariants as node_scope
 use Rattle.pfs_store_contract.specs.declared.records.State.{State}
-use Rattle.pfs_store_records.specs.Records.{Placed, placed_at}
+use Rattle.pfs_store_records.specs.Records.{Placed, placed_at, states_of}
 use Rattle.pfs_store_records.specs.Tallies.{count_of, nodes_of, stateless}
 use Rattle.pfs_store_records.specs.declared.nodes.Tally.{Tally}
 
@@ -41,6 +41,11 @@ RecordIsAt p place = p.place ≡ place
 
 abbrev pub record_in : Slab State → ℕ → Option Placed
 record_in slab place = option_map (placed_at place) (get slab place)
+
+-- the records are kept, and so many of their states are half open
+pub record AreCounted (slab : Slab State) (es : List (ℕ × ℕ)) (count : ℕ) : Type 0 where
+  pub kept : AreInPlace number_in RecordIsAt (record_in slab) es
+  pub counted : count ≡ half_open (states_of (values_at (record_in slab) es))
 
 -- ---- source nodes
 

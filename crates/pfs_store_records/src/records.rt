@@ -4,10 +4,12 @@ ghost use Rattle.std.specs.Prelude.{◌≡◌, ◌+◌, ◌-◌, ◌<◌, ◌≤
 ghost use Rattle.std.specs.List.{find, list_any};
 ghost use Rattle.std.specs.Map.{keys_of};
 ghost use Rattle.slab.specs.Slab.{ContainsKey, get};
+ghost use Rattle.pfs_track.specs.StatePhases.{is_half_open};
 ghost use Rattle.pfs_store_contract.specs.Calls.{other_than};
+ghost use Rattle.pfs_store_contract.specs.Counts.{half_open};
 ghost use Rattle.pfs_store_contract.specs.Purging.{state_numbers};
 ghost use Rattle.pfs_store_contract.specs.Worlds.{holds_number};
-ghost use Rattle.pfs_store_records.specs.Keeping.{AreInPlace, RecordIsAt, number_in, record_in, values_at};
+ghost use Rattle.pfs_store_records.specs.Keeping.{AreInPlace, RecordIsAt, number_in, one_if, record_in, values_at};
 ghost use Rattle.pfs_store_records.specs.Sourced.{IsSourced};
 ghost use Rattle.pfs_store_records.specs.Walks.{IsWalk, StayUntil, end_of, state_has_expired, looks_of};
 ghost use Rattle.pfs_store_records.specs.Records.{IsAbove, IsRecordAt, IsRising, is_placed, leaves_number, placed_at, put, put_state, stands_at, states_of};
@@ -18,28 +20,30 @@ use crate::stays::{Stay, stays_until};
 use crate::walks::{Lifetimes, Round, Walk};
 use pfs_addr_values::{Meter, NoMemory};
 use pfs_store_contract::State;
+use pfs_track::StatePhase;
 use slab::Slab;
 use std::alloc::Global;
 use std::marker::Model;
 
 /// The records of the states that are held, by rising number. Callers see each with its place, which it keeps until it
-/// is removed. To read a record is a look, and ticks the meter.
+/// is removed. To read a record is a look, and ticks the meter. How many states are half open is counted beside them.
 #[derive(Drop)]
 pub struct Records {
     slab: Slab<Kept>,
     places: Places,
+    half_open: u64,
 }
 
 impl Model for Records {
     ghost use Rattle.std.specs.Prelude.{List};
     ghost use Rattle.pfs_store_records.specs.Records.{Placed};
-    ghost use Rattle.pfs_store_records.specs.Keeping.{AreInPlace, RecordIsAt, number_in, record_in, values_at};
+    ghost use Rattle.pfs_store_records.specs.Keeping.{AreCounted, record_in, values_at};
 
     ghost Value = { List Placed };
 
     ghost view = { λ r. values_at (record_in r.slab) r.places.entries };
 
-    ghost invariant = { λ r. AreInPlace number_in RecordIsAt (record_in r.slab) r.places.entries };
+    ghost invariant = { λ r. AreCounted r.slab r.places.entries r.half_open };
 }
 
 impl Records {
@@ -50,6 +54,7 @@ impl Records {
         Records {
             slab: Slab::new(alloc),
             places: Places::new(alloc),
+            half_open: 0,
         }
     }
 
@@ -58,6 +63,13 @@ impl Records {
         ensures { result ≡ length self.now }
     {
         self.places.len() as u64
+    }
+
+    /// How many of the states are half open. It is no look, and takes no memory.
+    pub fn half_open_count(&self) -> u64
+        ensures { result ≡ half_open (states_of self.now) }
+    {
+        self.half_open
     }
 
     /// The numbers of the states rise: a fact for proofs, which computes nothing.
@@ -131,7 +143,8 @@ impl Records {
         )
     }
 
-    /// Writes a state into the record of its number, which is at this place. It is no look, and takes no memory.
+    /// Writes a state into the record of its number, which is at this place. It is no look, since who writes a record has looked at it,
+    /// and takes no memory.
     pub fn write_at(&mut self, place: u32, state: State)
         requires placed { list_any (is_placed state.number place) self.old ≡ true }
         requires sourced { IsSourced state }
@@ -140,7 +153,11 @@ impl Records {
         ensures states { states_of self.new ≡ map (put_state state) (states_of self.old) }
         ensures rising { IsRising (state_numbers (states_of self.new)) }
     {
+        // As in `push`: the count is not near the greatest number.
+        let _count = self.places.len();
+        let before = self.slab[place as usize];
         self.slab[place as usize] = Kept::of(&state);
+        self.half_open = with(without(self.half_open, before.phase()), state.phase);
     }
 
     /// Adds the record of a state whose number is above all others, and returns its place. It returns `NoMemory` where
@@ -154,6 +171,8 @@ impl Records {
         ensures err { OnErr result (self.new ≡ self.old) }
         ensures rising { IsRising (state_numbers (states_of self.new)) }
     {
+        // This call states to the proof that the count is not near the greatest number, which follows from the order.
+        let _count = self.places.len();
         self.slab.reserve(1)?;
         let place = short(self.slab.vacant_key())?;
         self.places.push(state.number, place)?;
@@ -161,10 +180,12 @@ impl Records {
         let key = &state.key;
         let _proto = &key.proto;
         self.slab.insert_reserved(Kept::of(state));
+        self.half_open = with(self.half_open, state.phase);
         Ok(place)
     }
 
-    /// Removes the record of this number, of which there is one. It is no look, and takes no memory.
+    /// Removes the record of this number, of which there is one. It is no look, since who removes a record has looked at it, and takes
+    /// no memory.
     pub fn remove(&mut self, number: u64)
         requires { holds_number (states_of self.old) number ≡ true }
         ensures records { self.new ≡ filter (leaves_number number) self.old }
@@ -173,10 +194,35 @@ impl Records {
     {
         match self.places.remove(number) {
             Some(place) => {
-                self.slab.remove(place as usize);
+                let kept = self.slab.remove(place as usize);
+                self.half_open = without(self.half_open, kept.phase());
             }
             None => unreachable!(),
         }
+    }
+}
+
+/// How many states are half open, with one of this phase more.
+fn with(half_open: u64, phase: StatePhase) -> u64
+    requires { half_open < 2 ^ 64 - 1 }
+    ensures { result ≡ half_open + one_if (is_half_open phase) }
+{
+    if phase.is_half_open() {
+        half_open + 1
+    } else {
+        half_open
+    }
+}
+
+/// How many states are half open, with one of this phase less.
+fn without(half_open: u64, phase: StatePhase) -> u64
+    requires { one_if (is_half_open phase) ≤ half_open }
+    ensures { result + one_if (is_half_open phase) ≡ half_open }
+{
+    if phase.is_half_open() {
+        half_open - 1
+    } else {
+        half_open
     }
 }
 

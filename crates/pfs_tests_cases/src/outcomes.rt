@@ -4,7 +4,8 @@ use crate::errors::CaseError;
 use pfs_conf_values::RuleNo;
 use pfs_engine_machine::{Added, Amounts, Entered, Exceeded, Limit, Outcome};
 
-/// The outcome that a line of a report tells, of its words behind the number of the line; an error where there is no such line.
+/// The outcome that a line of a report tells, of its words behind the number of the line; an error where there is no such line. What a
+/// report calls `proxy` is `proxy:new` here where it made a state.
 pub fn outcome_of(words: &str) -> Result<Outcome, CaseError> {
     read(words).ok_or(CaseError::Unreadable)
 }
@@ -17,10 +18,13 @@ fn read(words: &str) -> Option<Outcome> {
         "delete" => Some(Outcome::Delete(removed(rest)?)),
         "add" => Some(Outcome::Add(entered(rest)?)),
         "held" => Some(Outcome::Held(amounts(rest)?)),
-        "pass" if rest == "-" => Some(Outcome::Pass(None)),
-        "pass" => Some(Outcome::Pass(Some(rule(rest)?))),
+        "pass" => Some(Outcome::Pass(rule_or_none(rest)?)),
+        "cookie" if rest == "-" => Some(Outcome::Cookie),
+        "drop:cookie" => Some(Outcome::Stateless(rule_or_none(rest)?)),
         "state" => Some(Outcome::State(rule(rest)?)),
         "new" => Some(Outcome::New(rule(rest)?)),
+        "proxy" => Some(Outcome::Taken(rule(rest)?)),
+        "proxy:new" => Some(Outcome::Answered(rule(rest)?)),
         "block" => Some(Outcome::Block(rule(rest)?)),
         _ => match word.strip_prefix("drop:") {
             Some(word) => Some(Outcome::Drop(rule(rest)?, limit(word)?)),
@@ -92,6 +96,14 @@ fn limit(word: &str) -> Option<Limit> {
         "states" => Some(Limit::States),
         _ => None,
     }
+}
+
+/// The rule of `@` and its number, or none, of `-`.
+fn rule_or_none(text: &str) -> Option<Option<RuleNo>> {
+    if text == "-" {
+        return Some(None);
+    }
+    Some(Some(rule(text)?))
 }
 
 /// The rule of `@` and its number.

@@ -55,6 +55,23 @@ const CASES: &[Case] = &[
         end: (4, 1, 0),
     },
     Case {
+        shows: "SYN cookies are given, brought back and forgotten",
+        rules: "set profile openbsd-7.4\n\
+            set syncookies always\n\
+            pass in proto tcp to any port 80 keep state (max 1)",
+        rows: &[
+            (0, Came::Syn, A1, 1000, "cookie -"),
+            (0, Came::Syn, A1, 1000, "cookie -"),
+            (0, Came::Syn, A2, 1000, "cookie -"),
+            (0, Came::Ack, A1, 1000, "proxy:new @0"),
+            (0, Came::Ack, A1, 1000, "proxy @0"),
+            (15, Came::Syn, A1, 1001, "cookie -"),
+            (16, Came::Ack, A2, 1000, "drop:max @0"),
+            (45, Came::Ack, A1, 1001, "pass -"),
+        ],
+        end: (1, 0, 0),
+    },
+    Case {
         shows: "an administrator adds entries, takes one out and asks",
         rules: "set limit table-entries 3\nblock in quick from <bad>\npass in proto udp all",
         rows: &[
@@ -291,12 +308,13 @@ fn take<S: Store>(
     }
 }
 
-/// A call begins. Memory is taken where a state is made, and for a TCP packet of a rule with overload.
+/// A call begins. Memory is taken where a state is made, for a SYN cookie, and for a TCP packet of a rule with overload.
 fn begin_for(rt: &HostRuntime, case: &Case, wanted: Outcome, call: &str) -> Result<(), Stop> {
     match wanted {
-        Outcome::New(_) => println!(rt; "call {call} that makes a state")?,
+        Outcome::New(_) | Outcome::Answered(_) => println!(rt; "call {call} that makes a state")?,
+        Outcome::Cookie => println!(rt; "call {call} that gives a cookie")?,
         Outcome::Add(Entered::New) => println!(rt; "call {call} of an entry that is new")?,
-        Outcome::State(_) | Outcome::Kill { .. } if has_overload(case) => {
+        Outcome::State(_) | Outcome::Taken(_) | Outcome::Kill { .. } if has_overload(case) => {
             println!(rt; "call {call} of a rule with overload")?;
         }
         _ => begin_free(rt, call)?,

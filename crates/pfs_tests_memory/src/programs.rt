@@ -7,7 +7,7 @@ use crate::rules_texts::{FULL, NODES, OVERLOAD};
 use crate::telling::{Stop, begin, begin_free, end, plain, refused, wrong};
 use clap::error::ErrorKind;
 use pfs_cli::{
-    Feed, Job, ReplayFault, Sink, check, job, perform, print, replay, replay_joined, status,
+    Feed, Job, ReplayFault, Sink, Tally, check, job, perform, print, replay, replay_joined, status,
 };
 use pfs_tests_cases::{EVERYTHING, SHOWN};
 
@@ -108,7 +108,13 @@ fn replay_one(rt: &HostRuntime, row: &Row) -> Result<bool, Stop> {
     let mut rules = Feed::new(row.0, 99);
     let mut trace = Feed::new(row.1, 99);
     begin(rt, "replay")?;
-    let answer = replay(rt.alloc(), &mut rules, &mut trace, &mut out);
+    let answer = replay(
+        rt.alloc(),
+        &mut rules,
+        &mut trace,
+        &mut Tally::none(),
+        &mut out,
+    );
     end(rt)?;
     tell_report(rt, answer, &out.into_inner(), row.2)
 }
@@ -130,7 +136,14 @@ fn performed(
     let mut rules = Feed::new(rules, 99);
     let mut trace = Feed::new(trace, 99);
     begin(rt, name)?;
-    let answer = perform(rt.alloc(), task, &mut rules, &mut trace, &mut out);
+    let answer = perform(
+        rt.alloc(),
+        task,
+        &mut rules,
+        &mut trace,
+        &mut Tally::none(),
+        &mut out,
+    );
     end(rt)?;
     Ok((answer, out.into_inner()))
 }
@@ -139,7 +152,7 @@ fn joined_one(rt: &HostRuntime, text: &[u8], report: &[u8]) -> Result<bool, Stop
     let mut out = sink(rt)?;
     let mut input = Feed::new(text, 99);
     begin(rt, "replay_joined")?;
-    let answer = replay_joined(rt.alloc(), &mut input, &mut out);
+    let answer = replay_joined(rt.alloc(), &mut input, &mut Tally::none(), &mut out);
     end(rt)?;
     tell_report(rt, answer, &out.into_inner(), report)
 }

@@ -2,6 +2,7 @@ pub mod Datagrams
 pub mod Lifetimes
 pub mod PhaseLaws
 pub mod Phases
+pub mod Proxies
 pub mod Scores
 pub mod StatePhases
 pub mod TcpEstablished

@@ -4,6 +4,7 @@
 mod datagrams;
 mod lifetimes;
 mod protocols;
+mod proxies;
 mod scores;
 mod state_phases;
 mod tcp_phases;
@@ -12,6 +13,7 @@ mod tcp_ranks;
 pub use datagrams::DatagramPhase;
 pub use lifetimes::{is_expired, lifetime};
 pub use protocols::{FullTcp, Other, Phases, Tcp, Udp};
+pub use proxies::ProxyPhase;
 pub use scores::Score;
 pub use state_phases::StatePhase;
 pub use tcp_phases::TcpPhase;

@@ -8,7 +8,8 @@ use pfs_addr_values::Flags;
 use pfs_conf_values::TimeoutName;
 
 /// How far a TCP connection has come: the ranks of its two peers, its current timeout, and whether its handshake has
-/// completed. Where it has, both ranks are at least `ESTABLISHED`.
+/// completed; never where a SYN cookie completed it, since that one does not count. Where it has, both ranks are at least
+/// `ESTABLISHED`.
 #[derive(Debug, Clone, Copy, PartialEq, Eq)]
 pub struct TcpPhase {
     maker: TcpRank,
@@ -19,7 +20,7 @@ pub struct TcpPhase {
 }
 
 impl TcpPhase {
-    ghost use Rattle.pfs_track.specs.TcpPhases.{first_tcp, tcp_completes, tcp_has_closed, tcp_step};
+    ghost use Rattle.pfs_track.specs.TcpPhases.{first_tcp, joined_tcp, tcp_completes, tcp_has_closed, tcp_is_half_open, tcp_step};
 
     /// The phase of a new connection, whatever the flags of its packet.
     pub(crate) fn new() -> TcpPhase
@@ -30,6 +31,18 @@ impl TcpPhase {
             other: TcpRank::Closed,
             timeout: TimeoutName::TcpFirst,
             complete: false,
+        }
+    }
+
+    /// The phase of a connection both of whose handshakes pf has led. `counts`: the maker's counts for limits on connections.
+    pub(crate) fn joined(counts: bool) -> TcpPhase
+        ensures { result ≡ joined_tcp counts }
+    {
+        TcpPhase {
+            maker: TcpRank::Established,
+            other: TcpRank::Established,
+            timeout: TimeoutName::TcpFirst,
+            complete: counts,
         }
     }
 
@@ -54,6 +67,13 @@ impl TcpPhase {
         ensures { result ≡ self.timeout }
     {
         self.timeout
+    }
+
+    /// Whether the maker is above `CLOSED` and below `ESTABLISHED`.
+    pub(crate) fn is_half_open(self) -> bool
+        ensures { result ≡ tcp_is_half_open self }
+    {
+        TcpRank::Closed.is_below(self.maker) && self.maker.is_below(TcpRank::Established)
     }
 
     /// Whether both peers have closed the connection, or it was reset.

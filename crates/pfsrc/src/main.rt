@@ -4,7 +4,7 @@
 
 use clap::Error;
 use clap::error::ErrorKind;
-use pfs_cli::{Feed, ReplayFault, Request, perform, request, sink_of, status};
+use pfs_cli::{Feed, ReplayFault, Request, Tally, perform, request, sink_of, status};
 use std::alloc::AllocError;
 use std::env;
 use std::fs::File;
@@ -57,6 +57,7 @@ fn perform_request(rt: &HostRuntime, request: &Request) -> Result<(), ReplayFaul
         &request.job,
         &mut Feed::of_input(rules),
         &mut Feed::of_input(trace),
+        &mut Tally::none(),
         &mut out,
     );
     // At a fault nothing was flushed, and the lines before it are to be seen all the same.

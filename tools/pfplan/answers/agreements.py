@@ -2,6 +2,7 @@
 
 import itertools
 import json
+import re
 import tempfile
 from collections import Counter
 from collections.abc import Iterator, Mapping, Sequence
@@ -13,6 +14,7 @@ from pfplan.answers.explaining import Circumstances, line_for
 from pfplan.answers.hiding import Hider
 from pfplan.answers.judging import Judge, Judged, Verdict
 from pfplan.common.inputs import HEADER
+from pfplan.common.limits import LIMITING
 from pfplan.common.progress import Progress
 from pfplan.pf.conversion import Ruleset
 from pfplan.pf.numbers_of_pf import PfRule
@@ -23,6 +25,7 @@ from pfplan.traces.entries import records_at
 from pfplan.traces.pf_answers import Merged, PfAnswer, read_pf_answer
 from pfplan.traces.records import Answer, End, Record, Traces, line_blocks, read_answer, read_record
 
+_KEEPS = re.compile(r"\b(keep|synproxy) state\b")
 # What the packets of a connection have in common: the protocol, and both ends.
 Ends = tuple[str, frozenset[tuple[str, str]]]
 
@@ -86,7 +89,7 @@ class Agreement:
         """How many packets one of the two refused by a limit, by the words of both."""
         pairs: Counter[tuple[str, str]] = Counter()
         for it, count in self.judged.items():
-            if it.pf in ("state-limit", "src-limit", "memory") or it.pfsrc.startswith(("drop:", "kill:")):
+            if it.pf in ("state-limit", "src-limit", "memory") or it.pfsrc in LIMITING:
                 pairs[it.pf, it.pfsrc] += count
         return dict(pairs.most_common())
 
@@ -251,7 +254,7 @@ def agreement_of(folder: Path, ruleset: Ruleset, merged: Merged) -> Agreement:
     shown = show_rules(folder / "rules")
     telling = _Telling(judge, shown, comparing.kills, ruleset.records)
     differences = telling.all(folder, comparing.found)
-    keeps = [it for it in ruleset.pf_rules if any("keep state" in telling.items[item] for item in it.items)]
+    keeps = [it for it in ruleset.pf_rules if any(_KEEPS.search(telling.items[item]) for item in it.items)]
     without_log = sorted({item for it in keeps if not it.logs for item in it.items})
     without_all = sorted({item for it in keeps if it.logs and not it.logs_all for item in it.items})
     guessed = f"{ruleset.guessed.file}:{ruleset.guessed.line}" if ruleset.guessed else ""

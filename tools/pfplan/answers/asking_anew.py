@@ -70,7 +70,7 @@ def ask(rules: Path, trace: Path, event: Event) -> Asked:
 
 def _is_let_in(firewall: Pfsrc, second: int, packet: str) -> bool:
     (line,) = firewall.decide([f"{second},{packet}"])
-    return line.split(" ")[1] in PASSING
+    return line.split(" ")[1] in (*PASSING, "cookie")
 
 
 def _seconds(trace: Path) -> Iterator[tuple[int, list[str]]]:

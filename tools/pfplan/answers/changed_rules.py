@@ -1,9 +1,9 @@
 """A rules text with some of its numbers changed: its limits, its timeouts, and the maxima and timeouts of its rules.
 
-A limit or a timeout for all rules is changed by a `set` at the end of the text, which replaces an earlier one
-(pf.conf(5), OPTIONS); so what pf derives from it, as the adaptive values from the `states` limit, follows. A number of
-a rule is changed in the canonical text, which reads as the same configuration. There, under the profile of OpenBSD, a
-`max` has the adaptive values that pfctl derives from it: they follow it, too.
+A limit, a timeout or a share of `set syncookies adaptive` for all rules is changed by a `set` at the end of the text,
+which replaces an earlier one (pf.conf(5), OPTIONS); so what pf derives from it, as the adaptive values from the
+`states` limit, follows. A number of a rule is changed in the canonical text, which reads as the same configuration.
+There, under the profile of OpenBSD, a `max` has the adaptive values that pfctl derives from it: they follow it, too.
 """
 
 import difflib
@@ -20,7 +20,10 @@ from pfplan.pf.reading_canonical_text import items_of
 from pfplan.replays.runs import show_rules
 
 ADAPTIVE = ("adaptive.start", "adaptive.end")
-_OPTIONS = re.compile(r"^(.* keep state \()(.*)\)$")
+# the shares of `set syncookies adaptive`, in percent of `states`
+SYNCOOKIES = ("syncookies.start", "syncookies.end")
+_SHARES = re.compile(r"set syncookies adaptive \(start (\d+)%, end (\d+)%\)")
+_OPTIONS = re.compile(r"^(.* (?:keep|synproxy) state \()(.*)\)$")
 _COUNT = 4294967295
 _RATE = 4294967
 _SECONDS = 2147483647
@@ -49,14 +52,17 @@ class Number:
 
     @property
     def kind(self) -> Kind:
-        """Whether it is a limit, a maximum or a timeout; adaptive values are numbers of states, so limits."""
-        if self.name in OF_ALL or self.name in ADAPTIVE:
+        """Whether it is a limit, a maximum or a timeout; adaptive values are numbers of states, so limits, and those of
+        syncookies shares of one."""
+        if self.name in OF_ALL or self.name in ADAPTIVE or self.name in SYNCOOKIES:
             return Kind.LIMIT
         return Kind.MAXIMUM if self.name in OF_RULES else Kind.TIMEOUT
 
     @property
     def title(self) -> str:
         """How it is told: `set limit states`, `max-src-conn-rate N/60 of @5`."""
+        if self.name in SYNCOOKIES:
+            return f"set {self.name.replace('.', ' ')}"
         if not self.rules:
             return f"set {'limit' if self.name in OF_ALL else 'timeout'} {self.name}"
         name = f"{self.name} N{self.period}" if self.period else self.name
@@ -65,6 +71,8 @@ class Number:
     @property
     def unit(self) -> str:
         """What it counts."""
+        if self.name in SYNCOOKIES:
+            return "% of states"
         return "seconds" if self.kind is Kind.TIMEOUT else ""
 
     @property
@@ -74,6 +82,8 @@ class Number:
             return 1, _RATE
         if self.name in ADAPTIVE:
             return 0, _COUNT
+        if self.name in SYNCOOKIES:
+            return 0, 100
         if self.kind is Kind.TIMEOUT:
             return (1 if self.name == "interval" else 0), _SECONDS
         return 1, _COUNT
@@ -97,13 +107,14 @@ class RulesText:
         return items_of(self._shown)
 
     def settings(self) -> list[Number]:
-        """The limits and timeouts for all rules, as resolved."""
+        """The limits, timeouts and shares for all rules, as resolved."""
         found = []
         for line in self._shown[:2]:
             for part in line[line.index("{") + 1 : line.rindex("}")].split(","):
                 name, value = part.split()
                 found.append(Number(name, int(value)))
-        return found
+        shares = next(filter(None, map(_SHARES.match, self._shown)), None)
+        return found + [Number(name, int(it)) for name, it in zip(SYNCOOKIES, shares.groups() if shares else ())]
 
     def options(self) -> list[Number]:
         """The maxima and timeouts of rules, one for each rule and option."""
@@ -209,7 +220,10 @@ def _settings_text(values: Mapping[str, int], settings: Sequence[Number]) -> str
     given = dict(values)
     if any(name in given for name in ADAPTIVE):
         given = {**{name: known[name] for name in ADAPTIVE}, **given}
+    start, end = (given.pop(name, known.get(name)) for name in SYNCOOKIES)
     limits = [f"{name} {value}" for name, value in given.items() if name in OF_ALL]
     times = [f"{name} {value}" for name, value in given.items() if name not in OF_ALL]
     text = f"set limit {{ {', '.join(limits)} }}\n" if limits else ""
-    return text + (f"set timeout {{ {', '.join(times)} }}\n" if times else "")
+    text += f"set timeout {{ {', '.join(times)} }}\n" if times else ""
+    has_shares = any(name in values for name in SYNCOOKIES)
+    return text + (f"set syncookies adaptive (start {start}%, end {end}%)\n" if has_shares else "")

@@ -147,6 +147,12 @@ def count_steps(steps: Steps, side: Side, lines: Sequence[str]) -> None:
         for text, times in Counter(side.texts[at : at + count]).items():
             step.words[side.answers.word_of(text)] += times
             step.killed += side.answers.killed_of(text) * times
+        taken = {it for it in set(side.texts[at : at + count]) if side.answers.word_of(it) in ("proxy", "cookie")}
+        for text, line in zip(side.texts[at : at + count], lines[at : at + count], strict=True) if taken else ():
+            if text in taken:
+                column = line.split(",")
+                word, ends = side.answers.word_of(text), tuple(column[3:8])
+                step.proxied += side.cookies.makes(word, step.moment, column[1], ends, column[8])
         at += count
 
 

@@ -13,7 +13,7 @@ from dataclasses import dataclass, field
 from sys import intern
 from typing import Protocol
 
-from pfplan.common.limits import DROPS
+from pfplan.common.limits import DROPPED_COOKIE, DROPS
 from pfplan.common.networks import Network
 from pfplan.pf.reading_canonical_text import Flushes
 
@@ -23,7 +23,7 @@ RULES = {
     "unanswered": "it was let in, and the trace shows no handshake, of UDP no answer: the server refused it or did not "
     "answer",
     "refused": "its first packet was blocked or dropped, on one interface or the next, and so was each repetition "
-    "of it",
+    "of it; or the packet by which it was to get a state, where pf had answered its SYN with a cookie",
     "killed": "its state was killed by a limit on its source, or by the flush that followed, and no repeated SYN was "
     "let in",
     "cut": "it was let in, and a later packet was not: its state had run out, which adaptive timeouts hasten; and no "
@@ -102,7 +102,7 @@ class Members:
 Key = tuple[str, ...]
 
 # the words of packets that did not go through
-BAD = frozenset(("block", *DROPS))
+BAD = frozenset(("block", DROPPED_COOKIE, *DROPS))
 
 
 @dataclass(frozen=True, slots=True)
@@ -152,6 +152,11 @@ class Refusal:
         self.last = entering.moment if self.last is None else max(self.last, entering.moment)
 
 
+def may_be_made(direction: str, flags: str) -> bool:
+    """Whether a packet that pf answers itself may be one that makes a state: a SYN that comes in."""
+    return direction == "in" and "S" in flags and "A" not in flags
+
+
 # the protocols with names of their own, by number
 _NAMES = {"6": "tcp", "17": "udp"}
 
@@ -164,7 +169,7 @@ class Holding(Protocol):
         not known."""
 
 
-@dataclass(slots=True)
+@dataclass(slots=True, eq=False)
 class _Pair:
     """Two ends of a protocol: the connection between them that began last, and the states that may be held, by whether
     their first packet went in from the lower end."""
@@ -176,8 +181,9 @@ class _Pair:
     states: dict[bool, tuple[str, str]] = field(default_factory=dict)  # the rule, and the source it counts for
     texts: list[Key] = field(default_factory=list)  # how records write it, in either direction
 
-    def __hash__(self) -> int:
-        return id(self)
+
+# a pair, and whether the source is its lower end
+Way = tuple[_Pair, bool]
 
 
 @dataclass(frozen=True, slots=True)
@@ -205,6 +211,9 @@ class _Connection:
     is_counted: bool  # whether a user began it
     is_greeted: bool = False
     is_answered: bool = False
+    proxied: bool | None = None  # the side of the state at which pf answers itself, until the server has
+    has_cookie: bool = False  # pf has answered its SYN with a cookie, and it has no state
+    is_lost: bool = False  # it is not open, and holds no state: a later packet that is blocked changes nothing
     refusal: tuple[str, str] = ("", "")  # the word and the rule that refused it
     entering: Entering | None = None
     places: tuple[tuple[str, str], ...] = ()  # directions and interfaces on which a packet of who began it came through
@@ -227,7 +236,43 @@ class _Connection:
         """A repeated SYN of it was let in: what comes of it now counts."""
         if self.state != "refused":
             self.is_greeted, self.places = False, ()
-        self.state, self.let_in = "open", moment
+        self.state, self.let_in, self.is_lost, self.proxied = "open", moment, False, None
+        self.has_cookie = False
+
+    def waits_for_server(self, side: bool, word: str) -> bool:
+        """Whether pf has answered its SYN itself, and its server has not answered since, as a packet of it is let in.
+        One that is of no state says that the state is gone."""
+        if side is self.proxied and word not in ("state", "proxy", "cookie"):
+            self.proxied, self.has_cookie = None, False
+        return self.proxied is not None
+
+    def answer_itself(self, side: bool, word: str) -> None:
+        """pf has answered its SYN."""
+        self.proxied, self.is_greeted, self.has_cookie = side, False, word == "cookie"
+
+    def is_made_by(self, side: bool, word: str, is_low: bool) -> bool:
+        """Whether its state is made by a packet, which brought a cookie."""
+        return word == "proxy" and self.has_cookie and side is self.proxied and is_low == self.is_low
+
+    def is_beside(self, side: bool, word: str, from_beginner: bool) -> bool:
+        """Whether a packet of it changes nothing: a SYN that got a cookie though its connection has a state, or what
+        the server of a capture says before pf has asked it, since a cookie is out."""
+        if word == "cookie":
+            return not (from_beginner and self.has_cookie)
+        is_told = word in ("state", "proxy") or word.startswith("kill:")
+        return self.has_cookie and side is self.proxied and not from_beginner and not is_told
+
+    def take_proxied(self, side: bool, word: str, flags: str, from_beginner: bool) -> None:
+        """A packet of it while it waits for its server. What a server says before pf has asked it changes nothing."""
+        if side is not self.proxied:
+            return
+        if self.has_cookie and word == "proxy" and from_beginner:
+            self.is_greeted, self.has_cookie = True, False
+        elif word == "state" or self.is_greeted and not from_beginner and "S" in flags and "A" in flags:
+            self.is_greeted = self.is_answered = True
+            self.proxied, self.has_cookie = None, False
+        elif from_beginner and "A" in flags and not set("SFR").intersection(flags):
+            self.is_greeted = True
 
 
 class Connections:
@@ -266,7 +311,7 @@ class Connections:
         self._flushes = flushes
         self._holding = holding
         self._pairs: dict[Key, _Pair] = {}
-        self._by_text: dict[Key, tuple[_Pair, bool]] = {}  # and whether the source is the lower end
+        self._by_text: dict[Key, Way] = {}  # and whether the source is the lower end
         self._of_address: dict[str, dict[_Pair, None]] = {}  # those with states that its kills may flush
         self._blurred: set[str] = set()  # sources of which states were forgotten that may be held
         self._entered: dict[str, Entering] = {}
@@ -277,7 +322,7 @@ class Connections:
         self.last = 0  # the moment of the last record so far, of users or not
 
     @property
-    def known(self) -> Callable[[Key], "tuple[_Pair, bool] | None"]:
+    def known(self) -> Callable[[Key], Way | None]:
         """What is known of two ends as a record writes them: the pair, and whether the source is the lower end."""
         return self._by_text.get
 
@@ -288,15 +333,17 @@ class Connections:
         self.follow_pair(found, row, int(column[0]), (column[1], column[2]), column[8], reply)
 
     def follow_pair(
-        self, found: tuple[_Pair, bool], row: int, moment: int, place: tuple[str, str], flags: str, reply: Reply
+        self, found: Way, row: int, moment: int, place: tuple[str, str], flags: str, reply: Reply
     ) -> None:
         """As `follow`, where it is known between which ends it goes, and whether the source is the lower one; `place`
         is its direction and its interface."""
         pair, is_low = found
         flow, word = pair.flow, reply.word
-        if word != "state":
-            self._note_state(pair, (place[0] == "in") is is_low, reply, is_low)
-        elif flow is not None and flow.is_answered and "S" not in flags:
+        side = (place[0] == "in") is is_low
+        is_proxied = word == "proxy" and may_be_made(place[0], flags)
+        if word not in ("state", "proxy", "cookie") or is_proxied or flow and flow.is_made_by(side, word, is_low):
+            self._note_state(pair, side, reply, is_low)
+        elif word == "state" and flow is not None and flow.is_answered and "S" not in flags:
             # most records: a later packet of a connection that is served
             flow.seen = moment
             if flow.state == "open" and pair.is_tcp and ("F" in flags or "R" in flags):
@@ -312,13 +359,19 @@ class Connections:
                 self._count_begun(place[0], pair.key[4] if is_low else pair.key[2])
         else:
             flow.seen = moment
+            if flow.state == "open" and flow.is_beside(side, word, is_low == flow.is_low):
+                return
             if flow.state == "open":
-                self._go_on(pair, flow, reply, place, flags, is_first, is_low == flow.is_low)
+                self._go_on(pair, flow, reply, place, flags, is_first, is_low)
             elif is_low == flow.is_low and word not in BAD and self._is_tried_again(pair, flow, is_first):
                 flow.open_again(moment)
-        if flow.state == "open" and not flow.is_greeted and is_low == flow.is_low:
-            if place not in flow.places:
+        if flow.state == "open":
+            if is_proxied or word == "cookie" and is_low == flow.is_low:
+                flow.answer_itself(side, word)
+            if not flow.is_greeted and is_low == flow.is_low and place not in flow.places:
                 flow.places += (place,)
+        else:
+            flow.is_lost = word in BAD and pair.is_tcp and not pair.states
 
     def kill(self, row: int, moment: int, source: str, reply: Reply, *, is_in: bool) -> None:
         """A record of a source, in or out, was answered by a kill: other states of it may be gone, and it may be in a
@@ -366,7 +419,7 @@ class Connections:
         self._by_text.clear()
         self._of_address.clear()
 
-    def _pair_of(self, text: Key) -> tuple[_Pair, bool]:
+    def _pair_of(self, text: Key) -> Way:
         """The ends of a record, and whether its source is the lower one. Ports and addresses may be written in several
         ways."""
         protocol, source, port, target, target_port = text
@@ -439,12 +492,15 @@ class Connections:
         place: tuple[str, str],
         flags: str,
         is_first: bool,
-        from_beginner: bool,
+        is_low: bool,
     ) -> None:
-        """A packet of a connection that is open. `is_first` is that of a SYN that may begin one."""
+        """A packet of a connection that is open; `is_low` is one from the lower end, `is_first` a SYN that may begin
+        one."""
+        from_beginner, side = is_low == flow.is_low, (place[0] == "in") is is_low
         if reply.word in BAD:
             is_at_begin = from_beginner and not flow.is_greeted and (is_first or not pair.is_tcp)
-            if is_at_begin and place not in flow.places:
+            is_without_state = flow.has_cookie and from_beginner and side is flow.proxied
+            if is_without_state or is_at_begin and place not in flow.places:
                 self._refuse(pair, flow, reply)
             else:
                 flow.state = "cut"
@@ -452,6 +508,8 @@ class Connections:
             # its handshake was done by this packet, or before
             flow.is_answered = flow.is_answered or from_beginner and flow.is_greeted and not is_first
             flow.state = "killed"
+        elif flow.waits_for_server(side, reply.word):
+            flow.take_proxied(side, reply.word, flags, from_beginner)
         elif not from_beginner:
             if not pair.is_tcp or "S" in flags and "A" in flags:
                 flow.is_greeted = True
@@ -463,7 +521,7 @@ class Connections:
     def _note_state(self, pair: _Pair, side: bool, reply: Reply, is_low: bool) -> None:
         """What a packet says of its state that is of none yet, or was killed: by which rule it is made, and for which
         source it counts; else it is not held."""
-        if reply.word == "new":
+        if reply.word in ("new", "proxy"):
             source = pair.key[1] if is_low else pair.key[3]
             if side in pair.states:
                 self._drop(pair, side)

@@ -9,10 +9,12 @@ from pathlib import Path
 from typing import NoReturn
 
 from pfplan.answers.connections import Connections, Holding, Reply
+from pfplan.answers.cookies import Cookies
 from pfplan.answers.following import columns_of, follow_block
 from pfplan.answers.sources import Sources
 from pfplan.answers.stepping import Steps
 from pfplan.common.errors import Status, Trouble
+from pfplan.common.limits import DROPS, LIMITING
 from pfplan.common.networks import Network
 from pfplan.pf.reading_canonical_text import Flushes
 from pfplan.traces.records import ORDERS, End, Traces, read_answer
@@ -164,7 +166,7 @@ class Answers:
 
     def _count(self, reply: Reply, count: int) -> None:
         self.by_rule.setdefault(reply.word, Counter())[reply.rule] += count
-        if not reply.word.startswith(("drop:", "kill:")):
+        if reply.word not in LIMITING:
             return
         limit = self.limits.setdefault(reply.word, Limit(reply.word))
         limit.records += count
@@ -230,6 +232,7 @@ class Moments:
         self._has_users = bool(users)
         self._row = 0
         self._seconds: dict[str, int] = {}
+        self._cookies = Cookies()
 
     def take(self, texts: Sequence[str]) -> None:
         """Counts as many records as there are answers. Trouble where the trace has fewer, or is none."""
@@ -266,6 +269,7 @@ class Moments:
         self._count_moments(columns[0], texts)
         replies = {it: self._answers.reply_of(it) for it in set(texts)}
         self._count_sources(columns[4], texts, replies)
+        self._count_proxied(columns, texts, replies)
         self._see(columns[2])
         self.connections.last = self.last
         if self._has_users:
@@ -319,7 +323,7 @@ class Moments:
 
     def _count_sources(self, sources: Sequence[str], texts: Sequence[str], replies: Mapping[str, Reply]) -> None:
         self.seen.add(sources)
-        drops = {text for text, it in replies.items() if it.word.startswith("drop:")}
+        drops = {text for text, it in replies.items() if it.word in DROPS}
         if drops:
             self.refused.add(compress(sources, map(drops.__contains__, texts)))
         made = {text for text, it in replies.items() if it.word == "new"}
@@ -328,6 +332,18 @@ class Moments:
         kills = {text for text, it in replies.items() if it.word.startswith("kill:")}
         for source, text in compress(zip(sources, texts, strict=True), map(kills.__contains__, texts)) if kills else ():
             self.killed.add_one(source, replies[text].killed)
+
+    def _count_proxied(
+        self, columns: Sequence[Sequence[str]], texts: Sequence[str], replies: Mapping[str, Reply]
+    ) -> None:
+        """Counts the states that were made where pf answered a SYN itself, or a packet brought its SYN cookie."""
+        taken = {text for text, it in replies.items() if it.word in ("proxy", "cookie")}
+        for at in compress(range(len(texts)), map(taken.__contains__, texts)) if taken else ():
+            moment = int(columns[0][at])
+            ends = tuple([columns[it][at] for it in range(3, 8)])
+            if self._cookies.makes(replies[texts[at]].word, moment, columns[1][at], ends, columns[8][at]):
+                self.made.add_one(columns[4][at], 1)
+                self.steps.at(moment).proxied += 1
 
     def _refuse(self, why: str) -> NoReturn:
         raise Trouble(f"{self._trace.name}: row {self._row}: {why}", Status.REFUSED)

@@ -7,10 +7,11 @@ from dataclasses import dataclass
 from itertools import islice
 from pathlib import Path
 
+from pfplan.answers.cookies import Cookies
 from pfplan.common.errors import Status, Trouble
 from pfplan.traces.records import Answer, End, Record, Traces, line_blocks, read_answer, read_record
 
-PASSING = ("new", "state", "pass")
+PASSING = ("new", "state", "proxy", "pass")
 
 
 @dataclass(frozen=True, slots=True)
@@ -76,8 +77,11 @@ def _kind(event: Event) -> tuple[str, str]:
 def episodes(found: Iterator[Event]) -> list[Episode]:
     """The runs of some records. Two kinds of answers that take turns are one run each time."""
     runs: list[Episode] = []
+    cookies = Cookies()
     for it in found:
-        is_new = it.answer.word == "new"
+        one = it.record
+        ends = (one.protocol, one.source, one.source_port, one.target, one.target_port)
+        is_new = cookies.makes(it.answer.word, one.time, one.direction, ends, one.flags) or it.answer.word == "new"
         if runs and _kind(runs[-1].first) == _kind(it):
             run = runs[-1]
             run.records += 1

@@ -21,7 +21,7 @@ NUMBERS = "rules are numbered in the order of the text"
 REUSE = "a SYN for a state that both sides have closed"
 SCRUB = "ICMP types, `tos`, `allow-opts`, `scrub`"
 SLICES = "each second a slice examines"
-SYNPROXY = "`synproxy`, `modulate`, syncookies"
+SYNPROXY = "`synproxy` and `set syncookies` without the profile, `modulate`"
 TRANSLATION = "`nat-to`, `rdr-to`, `binat-to`"
 WINDOWS = "no sequence numbers or windows"
 ALL = (
@@ -32,7 +32,7 @@ ALL = (
 _DROPS = {
     "state-mismatch": WINDOWS, "state-insert": TRANSLATION, "fragment": FRAGMENT, "normalize": SCRUB,
     "bad-timestamp": SCRUB, "ip-option": SCRUB,
-    "synproxy": SYNPROXY, "translate": TRANSLATION, "no-route": TRANSLATION,
+    "translate": TRANSLATION, "no-route": TRANSLATION,
 }  # fmt: skip
 # The share of `set limit states` from which a table is taken as nearly full: pf's may be full then.
 NEARLY = 3 / 4
@@ -55,6 +55,8 @@ def line_for(judged: Judged, pf: PfAnswer, record: Record, pfsrc: Answer, known:
     theirs, ours = fate_of_pf(pf), fate_of_pfsrc(pfsrc.word)
     if theirs is Fate.DROPS:
         return HEADERS if pf.reason == "ip-option" and ":" in record.source else _DROPS.get(pf.reason, "")
+    if Fate.PROXIES in (theirs, ours) and Fate.PASSES in (theirs, ours):
+        return SYNPROXY
     if pf.rewritten == "yes":
         return TRANSLATION
     if theirs is Fate.LIMITS:

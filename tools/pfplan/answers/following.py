@@ -5,7 +5,7 @@ from collections.abc import Mapping, Sequence
 from itertools import compress
 from operator import or_
 
-from pfplan.answers.connections import Connections, Reply
+from pfplan.answers.connections import BAD, Connections, Reply
 from pfplan.traces.records import ORDERS
 
 # The words of records that are no packets with ports: those that are skipped, and those of an administrator.
@@ -29,39 +29,42 @@ def follow_block(
     replies: Mapping[str, Reply],
 ) -> None:
     """Follows the records behind a row: by their columns, what the report says of each, and what that text means."""
-    sources, targets = columns[4], columns[6]
-    is_user = connections.members.of({*sources, *targets}).__contains__
-    are_users = list(map(or_, map(is_user, sources), map(is_user, targets)))
+    addresses = {*columns[4], *columns[6]}
+    users = connections.members.of(addresses)
     kills = {text for text, it in replies.items() if it.word.startswith("kill:")}
-    wanted = list(map(or_, are_users, map(kills.__contains__, texts))) if kills else are_users
     rows: Sequence[int] = range(behind + 1, behind + 1 + len(texts))
-    if not all(wanted):
-        rows, texts, are_users = (list(compress(it, wanted)) for it in (rows, texts, are_users))
+    if 2 * len(users) < len(addresses):
+        are_users = map(or_, map(users.__contains__, columns[4]), map(users.__contains__, columns[6]))
+        wanted = list(map(or_, are_users, map(kills.__contains__, texts)) if kills else are_users)
+        rows, texts = list(compress(rows, wanted)), list(compress(texts, wanted))
         columns = [list(compress(it, wanted)) for it in columns]
     passed_over = {text for text, it in replies.items() if it.word in NO_PACKETS}
     states = {text for text, it in replies.items() if it.word == "state"}
+    bad = {text for text, it in replies.items() if it.word in BAD}
     flags_of = set(columns[8])
     closing = {it for it in flags_of if "F" in it or "R" in it}
     plain = {it for it in flags_of if "S" not in it}
     known = map(connections.known, zip(columns[3], columns[4], columns[5], columns[6], columns[7]))
     moment, time = 0, ""
-    for at, (found, text, flags) in enumerate(zip(known, texts, columns[8])):
-        if columns[0][at] != time:
-            time = columns[0][at]
-            moment = int(time)
-        if found is not None and text in states and flags in plain:
+    for at, (found, text, flags, then) in enumerate(zip(known, texts, columns[8], columns[0])):
+        if then != time:
+            time, moment = then, int(then)
+        if found is not None:
             flow = found[0].flow
-            if flow is not None and flow.is_answered:
+            if text in states:
+                if flow is not None and flow.is_answered and flags in plain:
+                    flow.seen = moment
+                    if flags in closing and flow.state == "open":
+                        flow.state = "closed"
+                    continue
+            elif text in bad and flow is not None and flow.is_lost and flags in plain:
                 flow.seen = moment
-                if flags in closing and flow.state == "open":
-                    flow.state = "closed"
                 continue
-        if are_users[at] and text not in passed_over:
-            if found is None:
-                connections.follow(rows[at], replies[text], [it[at] for it in columns])
-            else:
+            if text not in passed_over:
                 connections.follow_pair(
                     found, rows[at], moment, (columns[1][at], columns[2][at]), flags, replies[text]
                 )
+        elif text not in passed_over and (columns[4][at] in users or columns[6][at] in users):
+            connections.follow(rows[at], replies[text], [it[at] for it in columns])
         if text in kills:
             connections.kill(rows[at], moment, columns[4][at], replies[text], is_in=columns[1][at] == "in")

@@ -2,8 +2,8 @@
 
 A report tells how many states a kill took. Where more of the source were made, the program is asked: in a replay of its
 own a packet of each of them stands before the record that kills. It is of an interface that nothing else has, and a
-rule before all others blocks what comes there: so it is answered by `state` where its state is held, and makes none.
-What it renews is killed by the next record.
+rule before all others blocks what comes there: so it is answered by `state` or `proxy` where its state is held, and
+makes none. What it renews is killed by the next record.
 """
 
 import tempfile
@@ -88,7 +88,7 @@ class _Answers(Heard):
     def take(self, lines: Sequence[str]) -> None:
         """Reads lines of the report, those of records that were put in."""
         super().take([it for it in lines if " add - " in it])
-        self.are_held += [it.split(" ")[1] == "state" for it in lines if " add - " not in it]
+        self.are_held += [it.split(" ")[1] in ("state", "proxy") for it in lines if " add - " not in it]
 
 
 def _free_name(rules: Path, trace: Path) -> str:

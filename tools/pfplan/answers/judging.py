@@ -4,6 +4,7 @@ import enum
 from collections.abc import Sequence
 from dataclasses import dataclass, field
 
+from pfplan.common.limits import DROPPED_COOKIE, LIMITING
 from pfplan.pf.numbers_of_pf import PfRule
 from pfplan.traces.pf_answers import LIMITS, PfAnswer
 from pfplan.traces.records import Answer
@@ -13,6 +14,7 @@ class Fate(enum.Enum):
     """What became of a packet, as either says it. The values stand in what is told."""
 
     PASSES = "passes"
+    PROXIES = "answers itself"
     BLOCKS = "blocks"
     LIMITS = "refuses by a limit"
     DROPS = "drops for another reason"
@@ -54,15 +56,21 @@ def fate_of_pf(answer: PfAnswer) -> Fate:
     """What pf did."""
     if answer.is_refusal:
         return Fate.LIMITS if answer.reason in LIMITS else Fate.DROPS
+    if answer.is_proxied:
+        return Fate.PROXIES
     return {"pass": Fate.PASSES, "block": Fate.BLOCKS}.get(answer.action, Fate.OPEN)
 
 
 def fate_of_pfsrc(word: str) -> Fate:
     """What a word of a report means."""
-    if word.startswith(("drop:", "kill:")):
+    if word in LIMITING:
         return Fate.LIMITS
+    if word == DROPPED_COOKIE:
+        return Fate.DROPS
     if word == "block":
         return Fate.BLOCKS
+    if word in ("proxy", "cookie"):
+        return Fate.PROXIES
     return Fate.PASSES if word in ("new", "state", "pass") else Fate.OPEN
 
 
@@ -134,7 +142,7 @@ class Judge:
         else:
             kind = f"pf {theirs.value}, pfsrc {ours.value}"
         mine = self.rule_of(pfsrc)
-        keeps_state = pfsrc.word in ("new", "state") or ours is Fate.LIMITS
+        keeps_state = pfsrc.word in ("new", "state", "proxy") or ours is Fate.LIMITS
         if keeps_state and mine and not mine.logs and not is_same_rule:
             return Judged(Verdict.APART, WITHOUT_LOG, *words)
         return Judged(Verdict.DIFFERS, kind, *words)

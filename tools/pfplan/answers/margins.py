@@ -1,5 +1,6 @@
 """How sure an answer is. Each number of the rules is moved by a tenth, and each timeout made longer."""
 
+import re
 from collections.abc import Iterator, Mapping, Sequence
 from dataclasses import dataclass
 from fractions import Fraction
@@ -12,12 +13,16 @@ from pfplan.answers.measures import Measure, from_json
 from pfplan.answers.plays_measured import Subject, users_text
 from pfplan.answers.sizes import serves
 from pfplan.common.errors import Status, Trouble
+from pfplan.common.limits import LIMITING
 from pfplan.common.networks import Network
 from pfplan.common.progress import Progress
 from pfplan.replays.machines import Machines, Runs
 from pfplan.traces.records import WORDS, Traces
 from pfplan.traces.scenarios.reading import is_scenario
 
+# limits that have no other effect than to be met, and what rules have that count sources
+_PLAIN = ("max-src-nodes", "max-src-states", "max-src-conn", "max-src-conn-rate")
+_SOURCES = re.compile(r"\b(max-src-|source-track)")
 LONGER = "each timeout longer by interval"
 # timeouts that say nothing of states of a protocol
 _ANY = ("src.track", "interval")
@@ -131,6 +136,26 @@ def tenths(number: Number) -> Iterator[Move]:
             yield Move(number.title, name, {number: value})
 
 
+def is_alike(move: Move, base: Measure, items: Sequence[str]) -> bool:
+    """Whether a change leaves each answer as it is, by what the replay under the rules as they are came to.
+
+    A higher limit that was never met is met no sooner. Where entries only come, as many as there are at the end were
+    the most; and where no rule asks for sources, there are no source nodes. Other limits do more than that: `max` and
+    `states` bring adaptive timeouts, and `states` and `src-nodes` say how many a purge looks at.
+    """
+    if len(move.values) != 1 or base.refused:
+        return False
+    number, value = next(iter(move.values.items()))
+    if number.name == "table-entries":
+        has_left = any(base.words.get(it) for it in ("expire", "delete"))
+        is_met = base.overloads.get("full") or base.words.get("add")
+        return not (has_left or is_met) and base.end.entries <= value
+    if number.name in ("src-nodes", "src.track") and not any(_SOURCES.search(it) for it in items):
+        return True
+    is_met = any(number.name in word.partition(":")[2].split("+") for word in base.words)
+    return value > number.value and number.name in _PLAIN and not is_met
+
+
 def turns_of(base: Measure, moved: Measure, want: Fraction, has_users: bool) -> tuple[str, ...]:
     """The answers that turn over from the one measure to the other."""
     if moved.refused:
@@ -139,7 +164,7 @@ def turns_of(base: Measure, moved: Measure, want: Fraction, has_users: bool) -> 
     if has_users and serves(base, want) != serves(moved, want):
         found.append(f"the wanted share is {'no longer' if serves(base, want) else 'now'} served")
     for word in WORDS:
-        if word.startswith(("drop:", "kill:")) and bool(base.words.get(word)) != bool(moved.words.get(word)):
+        if word in LIMITING and bool(base.words.get(word)) != bool(moved.words.get(word)):
             found.append(f"{word} is {'no longer' if base.words.get(word) else 'now'} met")
     return tuple(found)
 
@@ -175,14 +200,16 @@ def measure_margins(
     progress = Progress("margins", len(moves) + 1, "runs")
     with Runs(where, trace, words, entries) as runs:
         try:
-            lines = runs.measure(
-                [subject.text_of({}), *(subject.text_of(dict(it.values.items())) for it in moves)], progress
-            )
+            base = from_json(runs.measure([subject.text_of({})], progress)[0])
+            if base.refused:
+                raise Trouble(f"{names[1]}: {base.refused}", Status.RULES)
+            alike = [not subject.scenario and is_alike(it, base, text.items()) for it in moves]
+            progress.advance(sum(alike))
+            tried = [subject.text_of(dict(it.values.items())) for it, is_known in zip(moves, alike) if not is_known]
+            found = map(from_json, runs.measure(tried, progress))
+            moved = [base if is_known else next(found) for is_known in alike]
         finally:
             progress.finish()
-    base, *moved = [from_json(it) for it in lines]
-    if base.refused:
-        raise Trouble(f"{names[1]}: {base.refused}", Status.RULES)
     who = users_text(subject.scenario) if subject.scenario else ",".join(map(str, users))
     margins = tuple(
         Margin(it.title, it.step, values_text(it), measure, turns_of(base, measure, want, bool(who)))

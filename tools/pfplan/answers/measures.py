@@ -6,18 +6,24 @@ import tempfile
 from collections.abc import Generator, Sequence
 from dataclasses import asdict, dataclass, field, replace
 from pathlib import Path
-from typing import Any
+from typing import Any, BinaryIO, cast
 
 from pfplan.answers.connections import KINDS, LATE
 from pfplan.answers.held_states import HeldStates, followed_again
 from pfplan.answers.sides import Side, word_counts
 from pfplan.answers.tallies import tally, trace_texts
 from pfplan.common.errors import Status, Trouble
+from pfplan.common.limits import DROPS
 from pfplan.common.networks import Network
+from pfplan.common.outputs import part_file
 from pfplan.pf.reading_canonical_text import flushes_of
 from pfplan.replays.runs import show_rules, stream_texts
 from pfplan.traces.insertions import Asking, Held, asking
 from pfplan.traces.records import BLOCK, WORDS, End, read_answer
+
+
+# The first report of several, and its measure.
+_REPORT, _MEASURE = "report", "measure"
 
 
 @dataclass(frozen=True, slots=True)
@@ -67,7 +73,7 @@ class Measure:
     @property
     def dropped(self) -> int:
         """How many records a limit refused."""
-        return sum(count for word, count in self.words.items() if word.startswith("drop:"))
+        return sum(count for word, count in self.words.items() if word in DROPS)
 
     def to_json(self) -> dict[str, Any]:
         """The numbers for machines."""
@@ -126,14 +132,30 @@ class Measurer:
     """Measures rules texts one after another over one trace. What answers each record as the first did is replayed, and
     not counted again."""
 
-    def __init__(self, trace: Path, users: Sequence[Network], asked: Asking, entries: Sequence[str] = ()) -> None:
-        """`asked` is what is put into the trace, and `entries` those that come by records."""
+    def __init__(
+        self,
+        trace: Path,
+        users: Sequence[Network],
+        asked: Asking,
+        entries: Sequence[str] = (),
+        kept: Path | None = None,
+    ) -> None:
+        """`asked` is what is put into the trace, and `entries` those that come by records. `kept` is a folder for the
+        first report and its measure: of several that measure over one trace the first counts for all."""
         self._trace = trace
         self._users = users
         self._asked = asked
         self._entries = entries
-        self._report = tempfile.TemporaryFile("w+", prefix="pfplan-", encoding="latin-1", newline="\n")
+        self._kept_in = kept
         self._first: Measure | None = None  # of what the report is kept
+        if kept and (kept / _MEASURE).exists():
+            self._first = from_json((kept / _MEASURE).read_text("utf-8"))
+            self._report: BinaryIO = open(kept / _REPORT, "rb")
+        elif kept and not (kept / _REPORT).exists():
+            self._report = open(kept / _REPORT, "x+b")
+        else:
+            self._kept_in = None
+            self._report = cast(BinaryIO, tempfile.TemporaryFile("w+b", prefix="pfplan-"))
 
     def __enter__(self) -> "Measurer":
         return self
@@ -171,6 +193,10 @@ class Measurer:
         found = measure_of(side)
         if self._first is None and not holding.is_asked:
             self._first = found
+            if self._kept_in:
+                self._report.flush()
+                with part_file(self._kept_in / _MEASURE) as file:
+                    file.write(json.dumps(found.to_json()))
         return found
 
     def _kept(self, report: Generator[str, None, None]) -> Generator[str, None, None]:
@@ -179,7 +205,7 @@ class Measurer:
         self._report.truncate()
         with contextlib.closing(report):
             for text in report:
-                self._report.write(text)
+                self._report.write(text.encode("latin-1"))
                 yield text
 
     def _compare(self, report: Generator[str, None, None]) -> tuple[Measure | None, Generator[str, None, None]]:
@@ -188,7 +214,7 @@ class Measurer:
         self._report.seek(0)
         size = 0
         for text in report:
-            own = self._report.read(len(text))
+            own = self._report.read(len(text)).decode("latin-1")
             if own != text:
                 end = text.rfind("\n", 0, -1) + 1
                 if text[:end] == own[:end] and text.startswith("end ", end) and own.startswith("end ", end):
@@ -210,8 +236,8 @@ class Measurer:
         with contextlib.closing(report):
             self._report.seek(0)
             while size and (same := self._report.read(min(BLOCK, size))):
-                same += "" if same.endswith("\n") else self._report.readline()
+                same += b"" if same.endswith(b"\n") else self._report.readline()
                 size -= len(same)
-                yield same
+                yield same.decode("latin-1")
             yield text
             yield from report

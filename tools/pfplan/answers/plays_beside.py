@@ -89,7 +89,12 @@ def json_of(scenario: Scenario, play: Played) -> dict[str, Any]:
         }
         for it in play.tally.counts
     ]
-    return {
+    backlog = {
+        "bound": scenario.backlog,
+        "most_half_open": play.tally.most_half_open,
+        "unanswered": play.tally.unanswered,
+    }
+    found = {
         "scenario": scenario.name,
         "seed": scenario.seed,
         "seconds": scenario.seconds,
@@ -103,6 +108,7 @@ def json_of(scenario: Scenario, play: Played) -> dict[str, Any]:
         "overloads": dict(play.tally.overloads),
         "end": asdict(play.end),
     }
+    return found | ({"backlog": backlog} if scenario.backlog else {})
 
 
 def play_into(

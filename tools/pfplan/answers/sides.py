@@ -13,6 +13,7 @@ from itertools import islice
 from pathlib import Path
 
 from pfplan.answers.connections import Connections, Holding, Key
+from pfplan.answers.cookies import Cookies
 from pfplan.answers.counting import Answers
 from pfplan.common.errors import Status, Trouble
 from pfplan.common.networks import Network
@@ -32,7 +33,7 @@ class Met:
 @dataclass(slots=True)
 class Side:
     """One ruleset: the lines of its report as they come, and what is counted of them. `texts` are those of the block
-    that was just read."""
+    that was just read, and `cookies` those that pf gave."""
 
     name: str
     report: Iterator[str]
@@ -40,6 +41,7 @@ class Side:
     connections: Connections
     texts: list[str] = field(default_factory=list)
     met: dict[str, Met] = field(default_factory=dict)
+    cookies: Cookies = field(default_factory=Cookies)
 
 
 def side_of(

@@ -16,6 +16,7 @@ class Step:
     killed: int = 0
     tried: int = 0
     outcomes: Counter[str] = field(default_factory=Counter)
+    proxied: int = 0  # states made by a SYN that pf answered itself, or by a packet that brought its SYN cookie
 
 
 class Steps:
@@ -73,6 +74,7 @@ class Steps:
             step.words.update(it.words)
             step.outcomes.update(it.outcomes)
             step.killed += it.killed
+            step.proxied += it.proxied
             step.tried += it.tried
 
 

@@ -4,6 +4,7 @@ from collections.abc import Sequence
 from dataclasses import dataclass
 
 from pfplan.answers.stepping import Step
+from pfplan.common.limits import DROPS
 
 
 @dataclass(frozen=True)
@@ -42,11 +43,12 @@ def timeline_of(
 
 def moment_of(step: Step, first: int, seconds: int) -> Moment:
     """A step as numbers a second."""
-    dropped = sum(count for word, count in step.words.items() if word.startswith("drop:"))
+    dropped = sum(count for word, count in step.words.items() if word in DROPS)
     outcomes = step.outcomes
     lost = outcomes["killed"] + outcomes["cut"]
+    made = step.words["new"] + step.proxied
     return Moment(
-        float(step.moment - first), step.words["new"] / seconds, dropped / seconds, step.killed / seconds,
+        float(step.moment - first), made / seconds, dropped / seconds, step.killed / seconds,
         (outcomes["served"] + outcomes["unanswered"] + outcomes["late"]) / seconds, outcomes["refused"] / seconds,
         lost / seconds,
     )  # fmt: skip

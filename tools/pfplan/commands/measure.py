@@ -9,7 +9,7 @@ from collections.abc import Callable
 from pathlib import Path
 
 from pfplan.answers.measures import Measure, Measurer, measure
-from pfplan.commands.words import add_asked, file
+from pfplan.commands.words import add_asked, file, folder
 from pfplan.common.errors import Status
 from pfplan.common.inputs import Kind, kind_of, regular
 from pfplan.traces.entries import entries_of_rules, read_entries
@@ -36,6 +36,12 @@ def add_words(parser: argparse.ArgumentParser) -> None:
         type=file,
         metavar="FILE",
         help="entries of tables that come by records (the file that the rules name)",
+    )
+    parser.add_argument(
+        "--kept",
+        type=folder,
+        metavar="FOLDER",
+        help="keeps there the first of several, beside which others then count no more than what differs",
     )
     parser.add_argument("--named", action="store_true", help="the name of the rules before the line")
 
@@ -84,4 +90,4 @@ def _measurer(arguments: argparse.Namespace, stack: contextlib.ExitStack) -> Cal
         return lambda rules: measure_play(rules, arguments.trace, entries)
     trace = stack.enter_context(regular(arguments.trace))
     asked = stack.enter_context(asking(trace, arguments.held, entries))
-    return stack.enter_context(Measurer(trace, arguments.users, asked, entries)).measure
+    return stack.enter_context(Measurer(trace, arguments.users, asked, entries, arguments.kept)).measure

@@ -12,7 +12,7 @@ from pfplan.traces import scenarios
 SKETCH = resources.files(scenarios) / "sketch.toml"
 DESCRIPTION = """Prints an example of a scenario: a group of each kind, and a comment on each word. Take out what is
 not wanted, and change the rest.
-examples/scenarios/ has ten that are shorter."""
+examples/scenarios/ has twelve that are shorter."""
 
 
 def add_words(parser: Parser) -> None:

@@ -7,6 +7,7 @@ from collections.abc import Iterator, Sequence
 from pfplan.answers.margins import Margin, Margins
 from pfplan.answers.measures import Measure
 from pfplan.common.figures import counted, share_text
+from pfplan.common.limits import LIMITING
 from pfplan.common.visible import visible
 from pfplan.pages.doubt_texts import doubt_parts
 from pfplan.pages.frames import answer, bullets, document, section, soft, table
@@ -32,7 +33,7 @@ def verdict(found: Margins) -> str:
 
 def as_is(found: Margins) -> str:
     """The answer of the rules as they are."""
-    met = [f"{word} {count:,} times" for word, count in found.base.words.items() if word.startswith(("drop:", "kill:"))]
+    met = [f"{word} {count:,} times" for word, count in found.base.words.items() if word in LIMITING]
     limits = f"limits met: {', '.join(met)}" if met else "no limit met"
     if not found.users:
         return f"as it is: {limits}"

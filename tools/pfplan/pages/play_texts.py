@@ -38,6 +38,11 @@ def rows_of(found: PlaysBeside) -> Iterator[Row]:
         for side in sides
     ]
     yield "states held at the end", [_numbers(side, lambda it: it.end.states) for side in sides]
+    if found.scenario.backlog:
+        yield "most half open at a server", [_numbers(side, lambda it: it.tally.most_half_open) for side in sides]
+        yield "SYN packets that a server left unanswered", [
+            _numbers(side, lambda it: it.tally.unanswered) for side in sides
+        ]
     if any(it.tally.states_killed for side in sides for it in side):
         yield "states killed", [_numbers(side, lambda it: it.tally.states_killed) for side in sides]
     if any(it.tally.overloads["added"] for side in sides for it in side):

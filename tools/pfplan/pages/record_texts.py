@@ -8,6 +8,8 @@ from pfplan.traces.records import ORDERS, Record
 WHY = {
     "state": "it belongs to a state that is held",
     "new": "the rule lets it through, and a state is made",
+    "proxy": "pf answers it itself, or took it itself, until the server has answered (synproxy)",
+    "cookie": "pf answers it with a SYN cookie, and keeps nothing else of it",
     "pass": "it passes, and no state is made",
     "block": "the rule blocks it",
     "skip": "ICMP is not answered",
@@ -16,6 +18,7 @@ WHY = {
     "drop:src-nodes": "there are as many sources as set limit src-nodes allows, and this one is not among them",
     "drop:max-src-states": "the source has as many states as max-src-states allows",
     "drop:states": "as many states are held as set limit states allows",
+    "drop:cookie": "it brought a SYN cookie, and no rule makes a state of it",
     "kill:max-src-conn": "the handshake took the source past max-src-conn",
     "kill:max-src-conn-rate": "the handshake took the source past max-src-conn-rate",
     "kill:max-src-conn+max-src-conn-rate": "the handshake took the source past max-src-conn and max-src-conn-rate",

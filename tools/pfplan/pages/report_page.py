@@ -2,6 +2,7 @@
 answer stands first."""
 
 import json
+import re
 from collections.abc import Iterator, Mapping, Sequence
 from dataclasses import dataclass
 from fractions import Fraction
@@ -37,6 +38,20 @@ LIMITS_OF_A_REPLAY = (
     "refuses more than is told here.",
     "What the trace lacks is not counted: ICMP, other interfaces, sequence numbers, and states from before its first "
     "packet.",
+)
+# What is said too where a rule has `synproxy state`.
+OF_SYNPROXY = (
+    "A rule has synproxy state: pf answers a SYN itself, and asks the server once the client has answered. A capture "
+    "has the server's SYN and ACK before that, as it answered what pf would have answered itself. Here they come too "
+    "early and change nothing; a connection is served once the server's next packet has come through. When the server "
+    "would have answered pf, and whether, a capture can't tell."
+)
+# What is said too where SYN packets got a cookie.
+OF_SYNCOOKIES = (
+    "pf answered SYN packets with a cookie, and makes a state once the client has brought it back; then it asks the "
+    "server. A capture has the server's SYN and ACK before that. Here they come too early: the rules are asked, as no "
+    "state is held, and what they say changes nothing of the connection. It is served once the server's next packet "
+    "has come through. When the server would have answered pf, and whether, a capture can't tell."
 )
 FOOTER = (
     "Made by pfplan, which is tested and not proved. The replay is that of the proved program pfsrc; how far its "
@@ -145,7 +160,10 @@ def page_of(summary: Summary, subject: Subject, figures: Sequence[Markup], diffe
     parts.extend(rules_parts(summary))
     parts.extend(sources_parts(summary))
     parts.extend(interfaces_parts(summary))
-    parts.append(section("What a replay can't know", bullets(LIMITS_OF_A_REPLAY), more_of(differences)))
+    has_proxy = any(re.search(r"\bsynproxy state\b", it) for it in summary.rules)
+    unknown = [*LIMITS_OF_A_REPLAY, *([OF_SYNPROXY] if has_proxy else [])]
+    unknown += [OF_SYNCOOKIES] if summary.words()["cookie"] else []
+    parts.append(section("What a replay can't know", bullets(unknown), more_of(differences)))
     parts.append(tag("footer", FOOTER))
     return document(title, parts)
 

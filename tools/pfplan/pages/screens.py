@@ -52,7 +52,7 @@ def held_text(view: View) -> str:
 
 
 def refused_text(view: View) -> str:
-    """What a limit refused, in all and since the last screen, by the limit's word."""
+    """What limits refused, and packets whose cookie made no state, in all and since the last screen, by the word."""
     counts = [
         f"{word} {view.words[word]:,}{new_text(view.new_words.get(word, 0))}"
         for word in WORDS
@@ -75,6 +75,8 @@ def screen_lines(shown: Shown) -> Iterator[str]:
         yield f"  held      {held_text(view)}"
         yield f"  refused   {refused_text(view)}"
         yield f"  blocked   {view.words.get('block', 0):,}{new_text(view.new_words.get('block', 0))}"
+        if view.words.get("cookie"):
+            yield f"  cookies   {view.words['cookie']:,}{new_text(view.new_words.get('cookie', 0))}"
         yield f"  killed    {counted(view.killed, 'state')} by {kills_text(view)}"
         yield f"  overload  {counted(view.added, 'source')} put into tables{named(view.last_added)}"
         if view.outcomes is not None:

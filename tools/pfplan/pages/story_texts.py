@@ -13,6 +13,7 @@ from pfplan.answers.connections import Members
 from pfplan.answers.episodes import Episode, Event, episodes, events, is_opening
 from pfplan.common.errors import Status, Trouble
 from pfplan.common.figures import SINCE_1970, counted, moment_text
+from pfplan.common.limits import LIMITING
 from pfplan.common.visible import visible
 from pfplan.pages.record_texts import WHY, record_text
 from pfplan.pf.origins import Origins
@@ -129,7 +130,7 @@ class Story:
         if answer.word.startswith("kill:"):
             told.facts |= {"states_killed": answer.killed, "overload": answer.overload}
             lines.append(f"  {counted(answer.killed, 'state')} killed with it; {ENTERED.get(answer.overload, '')}")
-        if answer.word.startswith(("drop:", "kill:")):
+        if answer.word in LIMITING:
             self._limits(answer.rule, answer.word, told)
 
     def _limits(self, rule: str, word: str, told: Told) -> None:

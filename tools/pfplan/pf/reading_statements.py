@@ -44,6 +44,8 @@ LONGEST_MACRO = 1 << 17  # characters
 LIMITS = (*OF_ALL, "frags")
 LIMITS_FOR_NOTHING = ("anchors", "pktdelay-pkts", "eth-anchors", "ktable-entries")
 OPTIMIZATIONS = ("default", "normal", "high-latency", "satellite", "aggressive", "conservative")
+# of `set syncookies adaptive`, where they are not given
+SYNCOOKIE_SHARES = {"start": 25, "end": 12}
 SETTINGS = (
     "limit", "timeout", "optimization", "skip", "block-policy", "state-policy", "state-defaults", "syncookies",
     "reassemble", "debug", "loginterface", "fingerprints", "hostid", "ruleset-optimization", "require-order",
@@ -311,6 +313,8 @@ class Parser:
             self.at.want_word("drop", "return")
         elif name == "state-policy":
             value = self.at.want_word("if-bound", "floating")
+        elif name == "syncookies":
+            value = self._syncookies()
         elif name == "state-defaults":
             while not self.at.is_end():
                 options.append(self.filters.state_option())
@@ -323,6 +327,29 @@ class Parser:
             raise self.at.wanted("the end of the line")
         self.at.take()
         return Setting(place, text, name, pairs, tuple(options), value, interfaces)
+
+    def _syncookies(self) -> str:
+        """When cookies are given, as a canonical text writes it. Shares are whole percentages of `states`."""
+        word = self.at.want_word("never", "always", "adaptive")
+        opened = self.at.token
+        if word != "adaptive":
+            return word
+        shares = dict(SYNCOOKIE_SHARES)
+        if self.at.take_mark("("):
+            while not self.at.take_mark(")"):
+                name = self.at.want_word(*shares)
+                shares[name] = self._share(name)
+                self.at.take_mark(",")
+        if shares["end"] >= shares["start"]:
+            said = f"the end, {shares['end']}%, is not below the start, {shares['start']}%"
+            raise trouble(opened, f"{opened.shown()}: {said}")
+        return f"adaptive (start {shares['start']}%, end {shares['end']}%)"
+
+    def _share(self, name: str) -> int:
+        text = self.at.token.text
+        if self.at.token.kind is not Kind.WORD or not re.fullmatch(r"[0-9]{1,3}%", text) or int(text[:-1]) > 100:
+            raise self.at.wanted(f"the {name}, a whole number from 0% to 100%")
+        return int(self.at.take().text[:-1])
 
     def _pairs(self, read: Callable[[], tuple[str, int]]) -> tuple[tuple[str, int], ...]:
         if not self.at.take_mark("{"):

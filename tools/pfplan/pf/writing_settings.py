@@ -77,6 +77,8 @@ class Settings:
             return self._timeouts(setting)
         if setting.name == "optimization":
             return [f"set timeout {{ {_OPTIMIZATIONS[_SAME.get(setting.value, setting.value)]} }}"]
+        if setting.name == "syncookies" and self.profile is Profile.OPENBSD:
+            return [f"set syncookies {setting.value}"]
         if setting.name not in ("profile", "state-defaults", "skip"):
             self.teller.tell_whole(setting, self._reason(setting))
         return []
@@ -85,6 +87,8 @@ class Settings:
         if setting.name == "state-policy":
             is_bound = setting.value == "if-bound"
             return BOUND if is_bound else harmless("states are not bound to interfaces")
+        if setting.name == "syncookies" and setting.value == "never":
+            return harmless("pfsrc gives no cookies without it")
         return _REASONS.get(setting.name, _NO_PACKET)
 
     def _limits(self, setting: Setting) -> list[str]:

@@ -23,7 +23,7 @@ _BY_ALL = telling(
 )
 _KIND_OF_STATE = {
     "modulate": harmless("only sequence numbers change, which a trace does not have"),
-    "synproxy": telling("pf answers SYN packets itself, and makes no state for those that are forged", OTHER_STATES),
+    "synproxy": telling("pf answers SYN packets itself, and asks the server once a client has answered", OTHER_STATES),
 }
 
 
@@ -65,9 +65,10 @@ def carried_state(state: State | None, place: Place, settings: Settings, overloa
         return ""
     if state.word == "no":
         return "no state"
-    if state.word in _KIND_OF_STATE:
-        teller.tell(place, f"{state.word} state", _KIND_OF_STATE[state.word])
     is_own = settings.profile is Profile.OWN
+    word = "synproxy" if state.word == "synproxy" and not is_own else "keep"
+    if state.word not in ("keep", word):
+        teller.tell(place, f"{state.word} state", _KIND_OF_STATE[state.word])
     options = _turned_off(state.options) if is_own else _scaled(state.options, place, settings)
     names = {it.name: it.value for it in options}
     kept: list[str] = []
@@ -77,7 +78,7 @@ def carried_state(state: State | None, place: Place, settings: Settings, overloa
             teller.tell(place, option.shown(), reason)
         else:
             kept.append(StateOption(option.name, option.value, overload.get(option.table, option.table)).shown())
-    return f"keep state ({', '.join(kept)})" if kept else "keep state"
+    return f"{word} state ({', '.join(kept)})" if kept else f"{word} state"
 
 
 def _reason_of_option(option: StateOption, names: dict[str, str]) -> Reason | None:

@@ -85,12 +85,13 @@ class Runs:
         self._lock = threading.Lock()
         self._processes: set[subprocess.Popen[str]] = set()
         self._idle: queue.SimpleQueue[subprocess.Popen[str]] = queue.SimpleQueue()
-        self._is_stopped = False
+        self._is_stopped = self._is_begun = False
         self._count = 0
 
     def __enter__(self) -> "Runs":
         self._place = tempfile.TemporaryDirectory(prefix="pfplan-")
         self._folder = Path(self._place.name)
+        (self._folder / "kept").mkdir()
         if self._entries:
             with part_file(beside(self._folder / "all")) as out:
                 write_entries(out, self._entries)
@@ -136,6 +137,10 @@ class Runs:
 
     def _here(self, names: Sequence[str], progress: Progress | None) -> list[str]:
         jobs = self._machines.jobs or os.cpu_count() or 1
+        if jobs > 1 and len(names) > 1 and not self._is_begun:
+            # what the first run counts serves all others
+            return self._here(names[:1], progress) + self._here(names[1:], progress)
+        self._is_begun = True
         pool = concurrent.futures.ThreadPoolExecutor(max_workers=min(jobs, max(1, len(names))))
         futures = [pool.submit(self._one, it) for it in names]
         try:
@@ -181,6 +186,7 @@ class Runs:
             str(self._trace.resolve()),
             *self._words,
             *entries,
+            f"--kept={self._folder / 'kept'}",
         ]
         return self._start(command, self._folder)
 

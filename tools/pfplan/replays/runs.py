@@ -21,6 +21,8 @@ from pfplan.traces.insertions import NOTHING, Asking, Heard, Held, Insertions, a
 from pfplan.traces.records import BLOCK, blocks_of
 from pfplan.traces.rows import Rows
 
+# Bytes that a pipe to or from the program holds, where the system lets them.
+_PIPE = 1 << 18
 _ENDED = {1: Status.REFUSED, 3: Status.RULES, 70: Status.NOT_BUILT}
 
 
@@ -104,9 +106,11 @@ def stream_texts(
     """A report as `stream_blocks`, in texts of whole lines with their line feeds."""
     with _report(rules, trace, asked, heard) as lines:
         row = 1
-        while text := lines.read(BLOCK):
-            text += "" if text.endswith("\n") else lines.readline()
-            count = text.count("\n")
+        # (a report has line feeds alone, so that bytes are read faster)
+        report: IO[bytes] = lines.buffer  # type: ignore[attr-defined]
+        while read := report.read(BLOCK):
+            text = (read if read.endswith(b"\n") else read + report.readline()).decode("latin-1")
+            count = text.count("\n") if asked.numbers else 0
             if asked.numbers and (
                 asked.numbers.is_parted(row, count) or text.startswith("end ", text.rfind("\n", 0, -1) + 1)
             ):
@@ -217,7 +221,9 @@ def _started(
     before it has."""
     source = subprocess.PIPE if insertions else subprocess.DEVNULL
     try:
-        process = subprocess.Popen(words, stdin=source, stdout=output, stderr=errors, text=True, encoding="latin-1")
+        process = subprocess.Popen(
+            words, stdin=source, stdout=output, stderr=errors, text=True, encoding="latin-1", pipesize=_PIPE
+        )
     except OSError as error:
         raise Trouble(
             f"{words[0]}: can't be run: {reason_of(error)} (PFSRC names the program)", Status.NOT_BUILT

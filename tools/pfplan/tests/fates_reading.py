@@ -8,9 +8,13 @@ each state that was ever made.
 
 import ipaddress
 from collections.abc import Callable
-from dataclasses import dataclass, field
+from dataclasses import dataclass, field, replace
 
-BLOCKED = ("block", "drop:max", "drop:max-src-nodes", "drop:src-nodes", "drop:max-src-states", "drop:states")
+BLOCKED = (
+    "block", "drop:cookie", "drop:max", "drop:max-src-nodes", "drop:src-nodes", "drop:max-src-states", "drop:states"
+)  # fmt: skip
+# what is put in place of the words of packets that brought a cookie: a state was made by it, or none was
+REDEEMED, LOST = "redeemed", "lost"
 End = tuple[str, str]
 
 
@@ -28,6 +32,14 @@ class Packet:
     word: str
     rule: str
     killed: int
+
+    def way(self) -> tuple[End, End]:
+        """Its ends by its direction: where packets come from that come in, and the other."""
+        return (self.source, self.target) if self.place[0] == "in" else (self.target, self.source)
+
+    def is_answered_by_pf(self) -> bool:
+        """Whether it is a SYN that pf answers itself: a state is made, or is held; or a cookie is out."""
+        return self.word in ("proxy", "cookie") and self.opens() and self.place[0] == "in"
 
     def opens(self) -> bool:
         """Whether it may begin a connection: a SYN without ACK, and of another protocol any packet."""
@@ -60,6 +72,28 @@ class Connection:
     seen: int
     first: list[Packet]
     fate: str = ""
+    cookie: tuple[End, End] | None = None
+
+    def plainly(self, packet: Packet) -> Packet | None:
+        """A packet, with the word that says what it is where a cookie is out, that is where its connection has no state
+        yet; None for one that changes nothing. The cookie is of packets from its first end to the second."""
+        is_mine = packet.source == self.packets[0].source
+        if packet.word == "cookie":
+            is_new = self.cookie is not None or is_refused(self.packets) or packet is self.packets[0]
+            if not (is_new and is_mine):
+                return None
+            self.cookie = packet.way()
+        elif self.cookie == packet.way() and not is_refused(self.packets):
+            if packet.word in BLOCKED:
+                return replace(packet, word=LOST) if is_mine else None
+            if packet.word == "proxy" and not is_mine:
+                return packet
+            if not is_mine and packet.word != "state" and not packet.word.startswith("kill:"):
+                return None
+            self.cookie = None
+            if packet.word == "proxy" and not packet.is_answered_by_pf():
+                return replace(packet, word=REDEEMED)
+        return packet
 
     def ends(self) -> set[End]:
         """Its two ends."""
@@ -125,15 +159,19 @@ class Reading:
             counted = is_begun and self.is_user(packet.source)
             packets = [packet]
             self.connections.append(Connection(packets, counted, packet.moment, packets, "" if is_begun else "stray"))
+            self.connections[-1].plainly(packet)
             return
         connection.seen = packet.moment
         is_again = packet.protocol == "tcp" and packet.opens() and packet.source == connection.packets[0].source
         if connection.fate in ("killed", "cut") and is_again and packet.word not in BLOCKED:
             # it is tried again: what counts begins anew
-            connection.fate, connection.packets = "", [packet]
+            connection.fate, connection.packets, connection.cookie = "", [packet], None
+            connection.plainly(packet)
         elif not connection.fate:
-            connection.packets.append(packet)
-            connection.fate = fate_after(connection.packets)
+            told = connection.plainly(packet)
+            if told is not None:
+                connection.packets.append(told)
+                connection.fate = fate_after(connection.packets)
 
     def fate_at_end(self, connection: Connection) -> str:
         """What became of a connection that goes on at the end of the trace."""
@@ -152,13 +190,13 @@ class Reading:
         made."""
         packets = [it.packet(moment) for it in self.states]
         said = self.replay(before + packets)[len(before) :]
-        return [it for it, text in zip(self.states, said, strict=True) if text.split(" ")[0] == "state"]
+        return [it for it, text in zip(self.states, said, strict=True) if text.split(" ")[0] in ("state", "proxy")]
 
     def change_states(self, packet: Packet, before: list[str]) -> None:
         """What a packet does to the states that are held; connections whose states are flushed are killed."""
-        inner, outer = (packet.source, packet.target) if packet.place[0] == "in" else (packet.target, packet.source)
+        inner, outer = packet.way()
         mine = [it for it in self.states if (it.protocol, it.inner, it.outer) == (packet.protocol, inner, outer)]
-        if packet.word == "new":
+        if packet.word == "new" or packet.is_answered_by_pf():
             self.states = [it for it in self.states if it not in mine] + [
                 State(packet.protocol, inner, outer, packet.rule, packet.source[0])
             ]
@@ -231,6 +269,9 @@ def is_refused(packets: list[Packet]) -> bool:
     is_greeted = False
     for packet in packets[1:]:
         is_mine = packet.source == packets[0].source
+        if packet.word == LOST:
+            refused, is_greeted = True, False
+            continue
         if is_mine and packet.opens() and not is_greeted:
             if packet.word in BLOCKED:
                 refused = refused or packet.place not in through
@@ -252,6 +293,11 @@ def is_answered(packets: list[Packet]) -> bool:
     while it is refused is none of it."""
     first = packets[0]
     packets = [it for at, it in enumerate(packets) if not is_refused(packets[: at + 1])]
+    begun = [at for at, it in enumerate(packets) if it.is_answered_by_pf()]
+    if begun:
+        return begun[0] > 0 and is_answered(packets[: begun[0]]) or any(
+            is_joined(packets[at:end]) for at, end in zip(begun, [*begun[1:], len(packets)])
+        )
     after = [
         it
         for at, it in enumerate(packets)
@@ -261,6 +307,45 @@ def is_answered(packets: list[Packet]) -> bool:
         it.source == first.source and it.word not in BLOCKED and not (it.protocol == "tcp" and it.opens())
         for it in after
     )
+
+
+def is_joined(packets: list[Packet]) -> bool:
+    """Whether the server has answered behind a SYN that pf answered itself: its own SYN and ACK behind an ACK of the
+    client, or a packet that goes through pf. The first packet is that SYN, and no other is."""
+    syn = packets[0]
+    mine = [it for it in packets if it.way() == syn.way()]
+    known = ("state", "proxy", "cookie", REDEEMED, LOST, *BLOCKED)
+    others = [at for at, it in enumerate(mine) if it.word not in known]
+    if others and not mine[others[0]].word.startswith("kill:"):
+        # its state is gone: what comes then is as of a connection without pf
+        return is_joined(mine[: others[0]]) or is_plainly_answered(packets, packets.index(mine[others[0]]))
+    acks = [at for at, it in enumerate(mine) if it.source == syn.source and is_plain_ack(it)]
+    return any(
+        it.word == "state" or it.word == "proxy" and greets(it, syn) and any(ack < at for ack in acks)
+        for at, it in enumerate(mine)
+    )
+
+
+def is_plainly_answered(packets: list[Packet], begin: int) -> bool:
+    """Whether from a place on an answer comes, or came before by an ACK to pf, and then a packet of who began."""
+    syn = packets[0]
+    is_greeted = any(
+        is_plain_ack(it) and it.source == syn.source and it.way() == syn.way()
+        for it in packets[:begin]
+    )
+    for packet in packets[begin:]:
+        if packet.word in BLOCKED:
+            continue
+        if packet.source == syn.source and is_greeted and not packet.opens():
+            return True
+        is_greeted = is_greeted or greets(packet, syn)
+    return False
+
+
+def is_plain_ack(packet: Packet) -> bool:
+    """Whether a packet that pf took has ACK, and neither SYN, FIN nor RST; or brought a cookie."""
+    is_plain = "A" in packet.flags and not set("SFR") & set(packet.flags)
+    return packet.word == REDEEMED or packet.word == "proxy" and is_plain
 
 
 def fate_after(packets: list[Packet]) -> str:

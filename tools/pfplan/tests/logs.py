@@ -20,6 +20,7 @@ REASONS = (
 )  # fmt: skip
 PASS, BLOCK, MATCH = 0, 1, 12
 _REASON_OF = {word: REASONS.index(reason) for reason, words in LIMITS.items() for word in words}
+_REASON_OF["proxy"] = REASONS.index("synproxy")
 
 Packets = list[tuple[Record, Logged]]
 

@@ -11,7 +11,9 @@ from pfplan.answers.hiding import Hider
 from pfplan.common.errors import Status
 from pfplan.common.repository import DIFFERENCES, TOP
 from pfplan.pages.differences import explanation
+from pfplan.pf.numbers_of_pf import PfRule, RuleNumber
 from pfplan.pf.profiles import Profile
+from pfplan.pf.statements import Place
 from pfplan.tests.logs import BLOCK, MATCH, PASS, REASONS, Packets, log_of, repeated, reported, with_log
 from pfplan.tests.packets import NONE, Logged, ethernet_capture, log_capture
 from pfplan.tests.support import Done, FolderCase, pfplan
@@ -213,7 +215,7 @@ class Differences(Agreeing):
                 self.assertEqual((found["row"], found["kind"], found["explained_by"]), (at, kind, plain(line)))
 
     def test_each_reason_of_a_drop(self) -> None:
-        for name in set(REASONS) - {"match", "state-limit", "src-limit", "memory"}:
+        for name in set(REASONS) - {"match", "state-limit", "src-limit", "memory", "synproxy"}:
             with self.subTest(name):
                 found, done = self.differing(3, Logged(PASS, 3, "web", 0, REASONS.index(name)))
                 self.assertEqual(
@@ -222,6 +224,22 @@ class Differences(Agreeing):
                 self.assertIn(f"pf {name}, pfsrc state", done.out)
         found, _ = self.differing(3, Logged(PASS, 3, "web", 0, REASONS.index("state-mismatch")))
         self.assertEqual(found["explained_by"], plain(explaining.WINDOWS))
+
+    def test_reason_synproxy(self) -> None:
+        """pf says by it that it took a packet itself, which is what `proxy` says."""
+        found, done = self.differing(3, Logged(PASS, 3, "web", 0, REASONS.index("synproxy")))
+        self.assertEqual((found["kind"], found["pf"]["reason"]), ("pf answers itself, pfsrc passes", "synproxy"))
+        self.assertEqual(found["explained_by"], plain(explaining.SYNPROXY))
+        self.assertIn("pf proxy, pfsrc state", done.out)
+        rule = PfRule(RuleNumber("", 0), Place("pf.conf", 1), "pass", "log (all)", (0,))
+        for said, word, verdict in (
+            ("synproxy", "proxy", judging.Verdict.AGREES),
+            ("match", "proxy", judging.Verdict.DIFFERS),
+            ("synproxy", "new", judging.Verdict.DIFFERS),
+            ("synproxy", "block", judging.Verdict.DIFFERS),
+        ):
+            judged = judging.Judge([rule]).judge(PfAnswer("pass", 0, reason=said), Answer(1, word, "@0"))
+            self.assertIs(judged.verdict, verdict, (said, word))
 
     def test_what_is_told_of_a_difference(self) -> None:
         found, done = self.differing(13, Logged(PASS, 3, "web", 0, rewritten=True))

@@ -6,6 +6,7 @@ which is the first.
 
 import os
 import random
+import re
 import unittest
 from collections import Counter
 from collections.abc import Iterator
@@ -180,6 +181,10 @@ class Fates(FolderCase):
         text, flushes = drawer.ruleset()
         profile = Profile.OPENBSD if seed % 2 else Profile.OWN
         text = "".join(f"{it}\n" for it in profile.lines()) + text
+        if seed % 4 == 1:
+            text = re.sub("keep state", lambda _: drawer.random.choice(("keep state", "synproxy state")), text)
+        if seed % 8 in (3, 5):
+            text += drawer.random.choice(("set syncookies always\n", "set syncookies adaptive (start 1%, end 0%)\n"))
         records = drawer.trace()
         users = drawer.random.choice(USERS)
         rules, trace, report = self.write("rules", text), self.trace(records), self.folder / "report"

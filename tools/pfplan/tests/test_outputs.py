@@ -148,6 +148,12 @@ class Folders(Calling):
         before["pfsrc"] = content(failing)
         self.assertNotEqual(pfplan(*words, env={"PFSRC": str(failing)}).status, 0)
         self.assertEqual(self.whole(), before)
+        killing = self.write("kills", f"#!/bin/sh\ntest \"$1\" = replay || exec '{program()}' \"$@\"\nkill -9 $PPID\n")
+        killing.chmod(0o755)
+        before["kills"] = content(killing)
+        ended = pfplan(*words, env={"PFSRC": str(killing)})
+        self.assertIn("a play ended with status -9 and said nothing", ended.err)
+        self.assertEqual(self.whole(), before)
         (self.folder / "played/other/trace.csv").write_text("mine", "utf-8")
         self.refuse("played/other/trace.csv: is in the way: it was changed", *words)
 

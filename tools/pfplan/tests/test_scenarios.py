@@ -427,9 +427,9 @@ class Command(FolderCase):
         rows = [
             it.split(" | ") for it in (folder / "README.md").read_text("utf-8").splitlines() if it.startswith("| `")
         ]
-        documented = {row[0].split("`")[1].removesuffix(".toml"): row[1:3] for row in rows}
+        documented = {row[0].split("`")[1].removesuffix(".toml"): row[1:3] for row in rows if row[1].endswith("%")}
         self.assertEqual(sorted(documented), sorted(it.stem for it in folder.glob("*.toml")))
-        for name in ("crawler", "dns", "office"):
+        for name in ("backlog", "crawler", "dns", "office"):
             rules = [folder / f"{name}-{it}.conf" for it in ("first", "better")]
             done = pfplan("play", folder / f"{name}.toml", *rules, "--into", self.folder / "out")
             shares = [re.findall(r"(\S+ %) of the users", it)[0] for it in done.out.splitlines()[:2]]

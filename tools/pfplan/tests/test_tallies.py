@@ -8,6 +8,8 @@ from typing import Any
 from unittest import mock
 
 from pfplan.answers import measures, tallies
+from pfplan.answers.changed_rules import RulesText
+from pfplan.answers.margins import is_alike, moves_of
 from pfplan.answers.sides import Side, follow, side_of
 from pfplan.answers.tallies import tally, trace_texts
 from pfplan.commands.words import networks
@@ -99,6 +101,45 @@ class Counts(FolderCase):
                         with mock.patch.object(measures, "tally", wraps=tally) as counted:
                             self.assertEqual([measurer.measure(it) for it in paths], alone)
                     self.assertEqual(counted.call_count, 3)
+
+    def test_the_first_counts_for_all(self) -> None:
+        """Of several that measure over one trace with a folder the first keeps its report there; the answers are those
+        of each alone."""
+        trace = self.trace(drawn_records(7, 400))
+        more = ("", "set timeout tcp.established 86399\n", "set limit states 2\n", "set limit states\n")
+        paths = [self.write(f"rules-{at}", RULES + it) for at, it in enumerate(more)]
+        users = networks(USERS[0])
+        alone = [measures.measure(it, trace, users, 0) for it in paths]
+        for at, order in enumerate((paths, paths[::-1])):
+            kept = self.folder / f"kept-{at}"
+            kept.mkdir()
+            found: list[measures.Measure] = []
+            with asking(trace, 0, ()) as asked, mock.patch.object(measures, "tally", wraps=tally) as counted:
+                for it in order:
+                    with measures.Measurer(trace, users, asked, (), kept) as measurer:
+                        found.append(measurer.measure(it))
+            self.assertEqual(found, alone if at == 0 else alone[::-1])
+            # the one that leaves all answers is not counted; after a first that is refused each counts itself
+            self.assertEqual(counted.call_count, 2 if at == 0 else 3)
+
+    def test_what_is_known_to_be_alike(self) -> None:
+        """A change that `margins` does not replay has the measure of the rules as they are."""
+        known = set[str]()
+        for seed in range(12):
+            records = [it for it in drawn_records(seed, 300) if seed % 3 or it.split(",")[1] in ("in", "out")]
+            trace = self.trace(records)
+            limits = f"set limit {{ states {(4, 1000)[seed % 2]}, src-nodes {(3, 40)[seed % 3 > 0]} }}\n"
+            profile = "set profile openbsd-7.4\n" if seed % 2 else ""
+            text = RULES if seed % 4 else "table <bad> { 203.0.113.0/24 }\nblock in quick from <bad>\npass keep state\n"
+            rules = RulesText(self.write("rules", text + limits + profile))
+            users = networks(USERS[0])
+            base = measures.measure(rules.path, trace, users, 3)
+            for move in moves_of(rules, {"tcp", "udp"}):
+                if is_alike(move, base, rules.items()):
+                    changed = self.write("changed", rules.changed(move.values).decode("latin-1"))
+                    self.assertEqual(measures.measure(changed, trace, users, 3), base, (seed, move))
+                    known.update(it.name for it in move.values)
+        self.assertLessEqual({"table-entries", "src-nodes", "max-src-conn"}, known)
 
     def test_odd_traces(self) -> None:
         """Other line ends, blank lines and no last line end are read alike; a quote, a fault and no records are told

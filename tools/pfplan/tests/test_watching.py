@@ -395,6 +395,15 @@ class Counts(unittest.TestCase):
         for lines in (plain_lines(shown), screen_lines(shown)):
             self.assertIn("1,234 open connections forgotten, the quietest past 100,000", "\n".join(lines))
 
+    def test_cookies_are_told(self) -> None:
+        """How many SYN packets got one, where some did; and what was dropped behind one."""
+        words = {"cookie": 1200, "drop:cookie": 2}
+        for given in (words, dict[str, int]()):
+            view = View("x.conf", End(0, 1, 1, 0), {"states": 5}, given, {"cookie": 40} if given else {}, 0, 0)
+            text = "\n".join(screen_lines(Shown(1, 5, 10, 2.0, [view])))
+            self.assertEqual("  cookies   1,200 (+40)" in text, bool(given), text)
+            self.assertEqual("drop:cookie 2" in text, bool(given), text)
+
     def test_names_are_text(self) -> None:
         view = View(
             "\x1b[2Jx.conf",

@@ -42,16 +42,21 @@ class PfAnswer:
     @property
     def is_decision(self) -> bool:
         """Whether it says what became of the packet: a `match` rule passes and blocks nothing."""
-        return self.action != "match" or self.is_refusal
+        return self.action != "match" or self.is_refusal or self.is_proxied
 
     @property
     def is_refusal(self) -> bool:
-        """Whether pf dropped the packet for another reason than a rule's word."""
-        return self.reason not in ("", "match")
+        """Whether pf dropped the packet for another reason than a rule's word, and did not take it itself."""
+        return self.reason not in ("", "match", "synproxy")
+
+    @property
+    def is_proxied(self) -> bool:
+        """Whether pf took the packet itself, by a rule with `synproxy state`."""
+        return self.reason == "synproxy"
 
     def word(self) -> str:
         """In a word: the reason of a drop, else the action."""
-        return self.reason if self.is_refusal else self.action
+        return self.reason if self.is_refusal else "proxy" if self.is_proxied else self.action
 
     def number(self) -> tuple[int | None, str, int | None]:
         """The numbers of its rule."""

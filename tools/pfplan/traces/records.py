@@ -12,11 +12,14 @@ from typing import IO
 
 from pfplan.common.errors import Status, Trouble, reason_of
 from pfplan.common.inputs import HEADER, check_trace
-from pfplan.common.limits import DROPS, KILLS
+from pfplan.common.limits import DROPPED_COOKIE, DROPS, KILLS
 
 BLOCK = 1 << 19
 LONGEST = 1 << 16
-WORDS = ("state", "new", "pass", "block", "skip", *DROPS, *KILLS, "expire", "held", "add", "delete")
+WORDS = (
+    "state", "new", "proxy", "cookie", "pass", "block", "skip", *DROPS, DROPPED_COOKIE, *KILLS, "expire", "held", "add",
+    "delete",
+)  # fmt: skip
 OVERLOADS = ("added", "held", "full", "none")
 ADDED = ("added", "held", "conflict", "full")
 # the second columns of an administrator's records: these are no packets, and have no interface, source and target
@@ -64,9 +67,14 @@ class End:
 
 def line_blocks(path: Path) -> Iterator[list[str]]:
     """The lines of a file in blocks. Trouble: status 1 for a line past 65,536 bytes, 4 where reading fails."""
+    yield from map(_lines_of, _file_texts(path))
+
+
+def _file_texts(path: Path) -> Iterator[str]:
+    """The text of a file, by whole lines. Trouble as `line_blocks`."""
     try:
         with open(path, encoding="latin-1") as file:
-            yield from blocks_of(file, path)
+            yield from _texts_of(file, path)
     except FileNotFoundError:
         raise Trouble(f"{path}: no such file", Status.FAILED) from None
     except OSError as error:
@@ -75,16 +83,26 @@ def line_blocks(path: Path) -> Iterator[list[str]]:
 
 def blocks_of(file: IO[str], name: Path | str) -> Iterator[list[str]]:
     """The lines of a file that is open, as `line_blocks`."""
+    yield from map(_lines_of, _texts_of(file, name))
+
+
+def _lines_of(text: str) -> list[str]:
+    """The lines of a text, without their line feeds."""
+    lines = text.split("\n")
+    if not lines[-1]:
+        lines.pop()
+    return lines
+
+
+def _texts_of(file: IO[str], name: Path | str) -> Iterator[str]:
+    """The text of a file that is open, by whole lines. Trouble as `line_blocks`."""
     while text := file.read(BLOCK):
         if not text.endswith("\n"):
             more = file.readline(LONGEST)
             if len(more) == LONGEST:
                 raise Trouble(f"{name}: a line of more than {LONGEST} bytes", Status.REFUSED)
             text += more
-        lines = text.split("\n")
-        if not lines[-1]:
-            lines.pop()
-        yield lines
+        yield text
 
 
 def blocks_of_lines(lines: Iterable[str]) -> Iterator[list[str]]:
@@ -108,8 +126,9 @@ class Traces:
         read."""
         check_trace(self.path)
         is_begun = False
-        for lines in line_blocks(self.path):
-            if '"' in "".join(lines):
+        for text in _file_texts(self.path):
+            lines = _lines_of(text)
+            if '"' in text:
                 at = next(i for i, it in enumerate(lines, self._line + 1) if '"' in it)
                 raise Trouble(f"{self.name}: line {at}: a quote, which pfplan does not read", Status.REFUSED)
             before = self._line

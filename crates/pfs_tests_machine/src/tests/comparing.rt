@@ -23,11 +23,12 @@ enum Answer {
     Purged(Slice, Slice),
 }
 
-/// What a call answered, how many states and source nodes are held after it, and how many numbers were used.
+/// What a call answered, how many states, half open states and source nodes are held after it, and how many numbers were used.
 #[derive(Debug, Clone, Copy, PartialEq, Eq)]
 struct Told {
     answer: Answer,
     states: u64,
+    half_open: u64,
     nodes: u64,
     made: u64,
 }
@@ -66,7 +67,7 @@ fn source(draw: u64) -> Addr {
     Addr::V4([198, 51, 100, (draw / 8 % 6) as u8])
 }
 
-/// A packet comes: of the state that has its key, or for a new one
+/// A packet comes: of the state that has its key, or for a new one; a sixteenth of these bring a SYN cookie
 fn come<S: Store>(rt: &impl Abort, tried: &mut Tried<S>, draw: u64) -> Result<Answer, Fail> {
     let packet = drawn(draw)?;
     if tried.store().find(&FlowKey::of(&packet)).is_some() {
@@ -74,7 +75,8 @@ fn come<S: Store>(rt: &impl Abort, tried: &mut Tried<S>, draw: u64) -> Result<An
         return Ok(Answer::Touched(closed, tried.touch(&packet)?));
     }
     let rule = RuleNo((draw / 131_072 % 5) as u32);
-    Ok(Answer::Admitted(tried.admit(rt, &packet, rule)?))
+    let cookie = draw / 1_048_576 % 16 == 0;
+    Ok(Answer::Admitted(tried.admit(rt, &packet, rule, cookie)?))
 }
 
 /// A source is flushed, of one rule or of all; of an eighth of these it is the server
@@ -133,6 +135,7 @@ fn answers<S: Store>(
         told.push(Told {
             answer,
             states: store.state_count(),
+            half_open: store.half_open_count(),
             nodes: store.node_count(),
             made: store.made(),
         })?;
@@ -164,6 +167,7 @@ fn compare(rt: &(impl Abort + AllocGlobal), config: &Config) -> Result<(), Fail>
     }
     assert_eq!(rt; indexed.len(), listed.len());
     assert!(rt; listed.last().is_some_and(|told| told.made > 100));
+    assert!(rt; listed.iter().any(|told| told.half_open > 2));
     Ok(())
 }
 

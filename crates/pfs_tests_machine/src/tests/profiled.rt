@@ -1,5 +1,5 @@
 //! Stores by themselves under the profile of OpenBSD 7.4, beside what they do without it: the order of the limits, the node that a
-//! refusal leaves, how long nodes stay, what a flush takes, and phases.
+//! refusal leaves, how long nodes stay, what a flush takes, phases, the handshakes that pf leads, and SYN cookies.
 
 use super::stores::{Row, Step, tell_under};
 use pfs_addr_values::{Addr, Dir};
@@ -257,4 +257,68 @@ const CLOSED: &[Row] = &[
 #[test]
 fn a_connection_has_closed_when_both_peers_have(rt: HostRuntime) -> Result<(), Fail> {
     tell_both(&rt, &[("pass", CLOSED, CLOSED)])
+}
+
+/// Connections at a rule with `synproxy state`. What pf takes itself leaves the last moment of the first one alone, which leaves 30
+/// seconds after its SYN; the second one goes on as any other. The third is made by a SYN that goes out, the fourth by an ACK: pf
+/// leads neither
+const PROXIED: &[Row] = &[
+    (5, Step::Send(Sent::Tcp(80, SYN), A1, 1, 0, Ok(1))),
+    (10, Step::Takes(Sent::Tcp(80, SYN), 1, false)),
+    (15, Step::Takes(Sent::Tcp(80, ACK), 1, true)),
+    (15, Step::Closed(Sent::Tcp(80, SYN), 1, false)),
+    (20, Step::Takes(Sent::Answer(SYN_ACK), 1, false)),
+    (34, Step::States(1, 0)),
+    (35, Step::States(1, 1)),
+    (40, Step::Send(Sent::Tcp(80, SYN), A1, 2, 0, Ok(2))),
+    (41, Step::Takes(Sent::Tcp(80, ACK), 2, true)),
+    (42, Step::Takes(Sent::Answer(SYN_ACK), 2, false)),
+    (43, Step::Comes(Sent::Tcp(80, ACK), 2, Dir::In, false)),
+    (44, Step::Send(Sent::Answer(SYN), A1, 3, 0, Ok(3))),
+    (45, Step::Comes(Sent::Tcp(80, SYN_ACK), 3, Dir::Out, false)),
+    (46, Step::Comes(Sent::Answer(ACK), 3, Dir::Out, true)),
+    (47, Step::Send(Sent::Tcp(80, ACK), A1, 4, 0, Ok(4))),
+    (48, Step::Comes(Sent::Answer(ACK), 4, Dir::In, false)),
+    (49, Step::Comes(Sent::Tcp(80, ACK), 4, Dir::In, true)),
+];
+
+#[test]
+fn pf_leads_the_handshakes_of_a_syn_that_comes_in(rt: HostRuntime) -> Result<(), Fail> {
+    tell_under(
+        &rt,
+        PROFILED,
+        "set timeout { tcp.first 30, interval 1 }\npass proto tcp all flags any synproxy state",
+        PROXIED,
+    )
+}
+
+/// An ACK that brings a SYN cookie makes a state at a rule without `synproxy state`, too. pf takes what comes until the server has
+/// answered, no handshake completes, and the connection counts at no time; that of an ordinary SYN does. Of these states only an
+/// ordinary one is half open, until the server has answered
+const COOKIES: &[Row] = &[
+    (5, Step::Cookie(1, 0, Ok(1))),
+    (5, Step::HalfOpen(0)),
+    (6, Step::Takes(Sent::Tcp(80, ACK), 1, false)),
+    (7, Step::Takes(Sent::Answer(SYN_ACK), 1, false)),
+    (8, Step::Comes(Sent::Tcp(80, ACK), 1, Dir::In, false)),
+    (9, Step::Comes(Sent::Answer(ACK), 1, Dir::In, false)),
+    (9, Step::HalfOpen(0)),
+    (9, Step::Shake(2, 1, 1000)),
+    (10, Step::Send(Sent::Tcp(80, SYN), A1, 3, 0, Ok(3))),
+    (10, Step::Send(Sent::Tcp(80, SYN), A1, 4, 0, Ok(4))),
+    (10, Step::HalfOpen(2)),
+    (11, Step::Comes(Sent::Answer(SYN_ACK), 3, Dir::In, false)),
+    (11, Step::HalfOpen(1)),
+    (12, Step::Flush(Dir::In, None, 4)),
+    (12, Step::HalfOpen(0)),
+];
+
+#[test]
+fn a_syn_cookie_makes_a_state_that_never_counts(rt: HostRuntime) -> Result<(), Fail> {
+    tell_under(
+        &rt,
+        PROFILED,
+        "pass proto tcp all flags any keep state (max-src-conn 5, max-src-conn-rate 3/10)",
+        COOKIES,
+    )
 }

@@ -27,6 +27,8 @@ pub enum Step {
     /// This packet of the first source and port comes: the direction in which its state was made, and whether the handshake
     /// completes.
     Comes(Sent, u16, Dir, bool),
+    /// pf takes such a packet itself: whether the handshake completes.
+    Takes(Sent, u16, bool),
     /// Whether the connection of such a packet has closed.
     Closed(Sent, u16, bool),
     /// The state of this number, source and port is killed.
@@ -48,6 +50,10 @@ pub enum Step {
     PassOver(u64),
     /// So many states and source nodes are held, and so many numbers were ever used.
     Held(u64, u64, u64),
+    /// So many states are half open.
+    HalfOpen(u64),
+    /// The first source's ACK from this port brings a SYN cookie, and is admitted at a rule.
+    Cookie(u16, u32, Result<u64, Limit>),
 }
 
 /// Those above a number and up to another stay up to a moment.
@@ -58,7 +64,12 @@ pub type Row = (u64, Step);
 
 /// A handshake of the first source from this port: what its third packet did
 fn shake<S: Store>(rt: &impl Abort, tried: &mut Tried<S>, port: u16) -> Result<Touched, Fail> {
-    let answer = tried.admit(rt, &packet(&Sent::Tcp(80, SYN), A1, port)?, RuleNo(0))?;
+    let answer = tried.admit(
+        rt,
+        &packet(&Sent::Tcp(80, SYN), A1, port)?,
+        RuleNo(0),
+        false,
+    )?;
     assert!(rt; answer.is_ok());
     let second = tried.renew(&packet(&Sent::Answer(SYN_ACK), A1, port)?)?;
     same!(rt; (second.completed, second.connections, second.score), (false, 0, Score::default()));
@@ -88,7 +99,7 @@ fn admit<S: Store>(
     rule: u32,
     want: Result<u64, Limit>,
 ) -> Result<(), Fail> {
-    let answer = tried.admit(rt, packet, RuleNo(rule))?;
+    let answer = tried.admit(rt, packet, RuleNo(rule), false)?;
     same!(rt; numbered(answer), want);
     let found = tried.store().find(&FlowKey::of(packet));
     same!(rt; found.map(|it| (it.number, it.rule)), admitted(answer, rule));
@@ -109,9 +120,18 @@ fn come<S: Store>(rt: &impl Abort, tried: &mut Tried<S>, row: &Row) -> Result<()
         Step::Send(sent, source, port, rule, want) => {
             admit(rt, tried, &packet(&sent, source, port)?, rule, want)?;
         }
+        Step::Cookie(port, rule, want) => {
+            let ack = packet(&Sent::Tcp(80, ACK), A1, port)?;
+            let answer = tried.admit(rt, &ack, RuleNo(rule), true)?;
+            same!(rt; numbered(answer), want);
+        }
         Step::Comes(sent, port, dir, completed) => {
             let told = tried.touch(&packet(&sent, A1, port)?)?;
-            same!(rt; (told.dir, told.completed), (dir, completed));
+            same!(rt; (told.dir, told.completed, told.taken), (dir, completed, false));
+        }
+        Step::Takes(sent, port, completed) => {
+            let told = tried.touch(&packet(&sent, A1, port)?)?;
+            same!(rt; (told.completed, told.taken), (completed, true));
         }
         Step::Again(source, port, rule) => {
             let told = tried.touch(&packet(&Sent::Udp(53), source, port)?)?;
@@ -125,6 +145,7 @@ fn come<S: Store>(rt: &impl Abort, tried: &mut Tried<S>, row: &Row) -> Result<()
                 source: A1,
                 dir: Dir::In,
                 completed: true,
+                taken: false,
                 connections,
                 score: Score { value, last: row.0 },
             };
@@ -181,6 +202,7 @@ fn look<S: Store>(rt: &impl Abort, tried: &Tried<S>, step: &Step) -> Result<(), 
         Step::Held(states, nodes, made) => {
             same!(rt; (store.state_count(), store.node_count(), store.made()), (states, nodes, made));
         }
+        Step::HalfOpen(wanted) => same!(rt; store.half_open_count(), wanted),
         Step::Closed(sent, port, wanted) => {
             same!(rt; tried.has_closed(&packet(&sent, A1, port)?)?, wanted);
         }
@@ -205,7 +227,7 @@ fn follow<S: Store>(rt: &impl Abort, tried: &mut Tried<S>, rows: &[Row]) -> Resu
 fn changes(step: &Step) -> u64 {
     match step {
         Step::Shake(..) => 3,
-        Step::Holds(..) | Step::Held(..) | Step::Closed(..) => 0,
+        Step::Holds(..) | Step::Held(..) | Step::HalfOpen(..) | Step::Closed(..) => 0,
         _ => 1,
     }
 }

@@ -50,6 +50,10 @@ impl<S: Store> Store for Tallied<S> {
         self.inner.state_count()
     }
 
+    fn half_open_count(&self) -> u64 {
+        self.inner.half_open_count()
+    }
+
     fn node_count(&self) -> u64 {
         self.inner.node_count()
     }
@@ -62,10 +66,11 @@ impl<S: Store> Store for Tallied<S> {
         &mut self,
         packet: &Packet,
         rule: RuleNo,
+        cookie: bool,
         now: u64,
     ) -> Result<Result<StateNo, Limit>, NoMemory> {
         self.tick();
-        self.inner.admit(packet, rule, now)
+        self.inner.admit(packet, rule, cookie, now)
     }
 
     fn touch(&mut self, found: Found, packet: &Packet, now: u64, meter: &mut Meter) -> Touched {

@@ -53,19 +53,20 @@ impl<'a, S: Store> Tried<'a, S> {
         self.now = now;
     }
 
-    /// A packet of no held state makes one at a rule, or is refused.
+    /// A packet of no held state makes one at a rule, or is refused. `cookie`: it brings a SYN cookie.
     pub fn admit(
         &mut self,
         rt: &impl Abort,
         packet: &Packet,
         rule: RuleNo,
+        cookie: bool,
     ) -> Result<Result<StateNo, Limit>, Fail> {
         if self.store.find(&FlowKey::of(packet)).is_some() {
             return Err("its key is held".into());
         }
         assert!(rt; self.config.options(rule).is_some());
         assert!(rt; self.store.made() < RUN_LIMIT);
-        Ok(self.store.admit(packet, rule, self.now)?)
+        Ok(self.store.admit(packet, rule, cookie, self.now)?)
     }
 
     /// A packet of a held state comes.

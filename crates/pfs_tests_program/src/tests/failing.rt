@@ -3,7 +3,7 @@
 use super::fakes::{Endless, Halting, narrow_writer};
 use super::reports::trace_of;
 use super::runs::{replayed, replayed_joined};
-use pfs_cli::{Job, Kind, LoadFault, ReplayFault, perform, replay};
+use pfs_cli::{Job, Kind, LoadFault, ReplayFault, Tally, perform, replay};
 use pfs_streams::{Feed, Sink};
 use pfs_tests_cases::{HEADER, same};
 use std::alloc::AllocGlobal;
@@ -117,7 +117,14 @@ fn told_of(
     let mut rules = Feed::new(Halting { text: RULES, good }, 999);
     let mut trace = Feed::new(HEADER.as_bytes(), 99);
     let mut out = Sink::new(narrow_writer(rt.alloc(), 1, room));
-    let told = perform(rt.alloc(), job, &mut rules, &mut trace, &mut out);
+    let told = perform(
+        rt.alloc(),
+        job,
+        &mut rules,
+        &mut trace,
+        &mut Tally::none(),
+        &mut out,
+    );
     (told, out.into_inner().taken.len())
 }
 
@@ -156,7 +163,13 @@ fn rules_are_told_before_the_trace(rt: HostRuntime) -> Result<(), Fail> {
             let mut rules = Feed::new(b"pass foo\n".as_slice(), 9);
             let mut trace = Feed::new(Halting { text: *text, good }, 1);
             let mut out = Sink::new(Vec::new(rt.alloc()));
-            let told = replay(rt.alloc(), &mut rules, &mut trace, &mut out);
+            let told = replay(
+                rt.alloc(),
+                &mut rules,
+                &mut trace,
+                &mut Tally::none(),
+                &mut out,
+            );
             same!(rt; told, Err(fault));
             same!(rt; trace.failures(), 0);
             let mut one = [0];
@@ -184,6 +197,7 @@ fn traces_without_an_end(rt: HostRuntime) {
         &Job::Replay("r", "t"),
         &mut Feed::new(RULES, 100),
         &mut Feed::new(Endless(b'\n'), 100),
+        &mut Tally::none(),
         &mut out,
     );
     same!(rt; told, Err(ReplayFault::Endless));

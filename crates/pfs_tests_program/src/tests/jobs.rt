@@ -1,6 +1,6 @@
 //! Checks, canonical texts and jobs over readers and writers in memory.
 
-use pfs_cli::{Job, Kind, LoadFault, ReplayFault, check, perform, print};
+use pfs_cli::{Job, Kind, LoadFault, ReplayFault, Tally, check, perform, print};
 use pfs_streams::{Feed, Sink};
 use pfs_tests_cases::{EVERYTHING, SHOWN, same};
 use std::process::Abort;
@@ -21,7 +21,14 @@ fn done(
     let mut rules = Feed::new(rules, 9);
     let mut trace = Feed::new(TRACE, 9);
     let mut out = Sink::new(Vec::new(rt.alloc()));
-    let outcome = perform(rt.alloc(), job, &mut rules, &mut trace, &mut out);
+    let outcome = perform(
+        rt.alloc(),
+        job,
+        &mut rules,
+        &mut trace,
+        &mut Tally::none(),
+        &mut out,
+    );
     let written = out.into_inner();
     same!(rt; written.as_slice(), wanted);
     Ok(outcome)

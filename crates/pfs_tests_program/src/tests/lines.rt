@@ -3,7 +3,7 @@
 use super::failing::{RECORDS, REPORT, RULES, lines_len};
 use super::fakes::{Pieces, Shown, shown_writer};
 use super::reports::trace_of;
-use pfs_cli::{ReplayFault, replay, replay_joined};
+use pfs_cli::{ReplayFault, Tally, replay, replay_joined};
 use pfs_streams::{Feed, Sink};
 use pfs_tests_cases::same;
 use std::alloc::{AllocGlobal, Global};
@@ -21,7 +21,7 @@ fn by_lines(alloc: Global, trace: Pieces) -> Ran {
     let mut rules = Feed::new(RULES, 999);
     let mut trace = Feed::new(trace, 999);
     let mut out = Sink::line_buffered(shown_writer(alloc));
-    let told = replay(alloc, &mut rules, &mut trace, &mut out);
+    let told = replay(alloc, &mut rules, &mut trace, &mut Tally::none(), &mut out);
     (told, out.into_inner())
 }
 
@@ -29,7 +29,7 @@ fn by_lines(alloc: Global, trace: Pieces) -> Ran {
 fn joined_by_lines(alloc: Global, input: Pieces) -> Ran {
     let mut input = Feed::new(input, 999);
     let mut out = Sink::line_buffered(shown_writer(alloc));
-    let told = replay_joined(alloc, &mut input, &mut out);
+    let told = replay_joined(alloc, &mut input, &mut Tally::none(), &mut out);
     (told, out.into_inner())
 }
 
@@ -115,7 +115,13 @@ fn a_report_is_flushed_once(rt: HostRuntime) -> Result<(), Fail> {
         };
         let mut trace = Feed::new(trace, 999);
         let mut out = Sink::new(shown_writer(rt.alloc()));
-        let _ = replay(rt.alloc(), &mut Feed::new(RULES, 999), &mut trace, &mut out);
+        let _ = replay(
+            rt.alloc(),
+            &mut Feed::new(RULES, 999),
+            &mut trace,
+            &mut Tally::none(),
+            &mut out,
+        );
         same!(rt; out.into_inner().flushes, *flushes);
     }
     let trace = Pieces {

@@ -6,13 +6,13 @@ use std::process::Abort;
 use std::test::Fail;
 
 /// Rules, records after the header, and the report.
-struct Row {
-    rules: &'static [u8],
-    records: &'static [u8],
-    report: &'static [u8],
+pub(crate) struct Row {
+    pub(crate) rules: &'static [u8],
+    pub(crate) records: &'static [u8],
+    pub(crate) report: &'static [u8],
 }
 
-fn tell_each(rt: &(impl Abort + AllocGlobal), rows: &[Row]) -> Result<(), Fail> {
+pub(crate) fn tell_each(rt: &(impl Abort + AllocGlobal), rows: &[Row]) -> Result<(), Fail> {
     for row in rows {
         let trace = trace_of(rt.alloc(), row.records)?;
         tell_over_stores(rt, row.rules, &trace, Ok(()), row.report)?;

@@ -1,6 +1,6 @@
 //! Replays over any readers and writer, and over texts in memory.
 
-use pfs_cli::{ReplayFault, Stop, replay, replay_joined, write_report_over};
+use pfs_cli::{ReplayFault, Stop, Tally, replay, replay_joined, write_report_over};
 use pfs_conf::load;
 use pfs_store::{IndexStore, PlainStore};
 use pfs_streams::{Feed, Sink};
@@ -25,7 +25,7 @@ pub fn replayed<R: Read + Drop, T: Read + Drop, W: Write>(
     let mut rules = Feed::new(rules, reads);
     let mut trace = Feed::new(trace, reads);
     let mut out = Sink::new(writer);
-    let told = replay(alloc, &mut rules, &mut trace, &mut out);
+    let told = replay(alloc, &mut rules, &mut trace, &mut Tally::none(), &mut out);
     (told, trace.failures(), out.failures(), out.into_inner())
 }
 
@@ -38,7 +38,7 @@ pub fn replayed_joined<R: Read + Drop, W: Write>(
 ) -> Ran<W> {
     let mut input = Feed::new(input, reads);
     let mut out = Sink::new(writer);
-    let told = replay_joined(alloc, &mut input, &mut out);
+    let told = replay_joined(alloc, &mut input, &mut Tally::none(), &mut out);
     (told, input.failures(), out.failures(), out.into_inner())
 }
 
@@ -95,13 +95,13 @@ pub fn tell_over_stores(
     let config = load(alloc, rules)?;
     let store = PlainStore::new(alloc, &config)?;
     let mut out = Sink::new(Vec::new(alloc));
-    let told = write_report_over(alloc, config, store, trace, &mut out);
+    let told = write_report_over(alloc, config, store, trace, &mut Tally::none(), &mut out);
     same!(rt; ended(told), outcome);
     same!(rt; out.into_inner().as_slice(), report);
     let config = load(alloc, rules)?;
     let store = IndexStore::new(alloc, &config)?;
     let mut out = Sink::new(Vec::new(alloc));
-    let told = write_report_over(alloc, config, store, trace, &mut out);
+    let told = write_report_over(alloc, config, store, trace, &mut Tally::none(), &mut out);
     same!(rt; ended(told), outcome);
     same!(rt; out.into_inner().as_slice(), report);
     Ok(())

@@ -45,6 +45,13 @@ fn clauses_without_options(rt: HostRuntime) {
     let mut cursor = Cursor::new(b"keep\tstate\nmax");
     same!(rt; state_clause(&mut cursor), Ok(StateClause::Keep(Options::new())));
     same!(rt; cursor.key(), Key::LineEnd);
+    let mut cursor = Cursor::new(b"synproxy state keep");
+    let proxied = Options {
+        synproxy: true,
+        ..Options::new()
+    };
+    same!(rt; state_clause(&mut cursor), Ok(StateClause::Keep(proxied)));
+    same!(rt; cursor.key(), Key::Keep);
 }
 
 const EVERY: &[u8] = b"keep state (max 007, source-track global max-src-nodes 4294967295 , \
@@ -120,6 +127,8 @@ const REFUSED: &[(&[u8], Why, Key)] = &[
     (b"all", Why::Plain, Key::All),
     (b"no keep", Why::Plain, Key::Keep),
     (b"keep", Why::Plain, Key::LineEnd),
+    (b"synproxy keep state", Why::Plain, Key::Keep),
+    (b"synproxy state (synproxy)", Why::Plain, Key::Synproxy),
     (b"keep state ()", Why::Plain, Key::CloseParen),
     (b"keep state (,max 1)", Why::Plain, Key::Comma),
     (b"keep state (max 1,)", Why::Plain, Key::CloseParen),
@@ -287,5 +296,15 @@ fn options_of_a_configuration(rt: HostRuntime) -> Result<(), Fail> {
     };
     same!(rt; options.overload, Some(overload));
     same!(rt; read.resolved(None).overload, None);
+    holds!(rt; !options.synproxy);
+    Ok(())
+}
+
+#[test]
+fn options_of_synproxy_state(rt: HostRuntime) -> Result<(), Fail> {
+    let options = read(b"synproxy state (max-src-conn 9, sloppy)").ok_or("options")?;
+    let resolved = options.resolved(None);
+    holds!(rt; options.synproxy && resolved.synproxy && resolved.sloppy);
+    same!(rt; resolved.max_src_conn, Some(9));
     Ok(())
 }

@@ -1,12 +1,12 @@
-//! Texts with the line `set profile`, and the same without it.
+//! Texts with the line `set profile`, and the same without it; and `set syncookies`.
 
-use pfs_conf::{Config, Profile, RuleNo, TimeoutName, load};
+use pfs_conf::{Config, Profile, RuleNo, Syncookies, TimeoutName, load};
 use pfs_conf_show::show;
 use pfs_tests_cases::{holds, same};
 use std::test::Fail;
 
 /// Texts, and what their canonical text ends with
-const SHOWN: [(&[u8], &[u8]); 5] = [
+const SHOWN: [(&[u8], &[u8]); 12] = [
     (
         b"set limit states 1009\nset profile openbsd-7.4\n\
         pass in proto tcp to any port 80 keep state (max 25, sloppy)\n\
@@ -39,6 +39,39 @@ const SHOWN: [(&[u8], &[u8]); 5] = [
         b"set profile openbsd-7.4\npass keep state (max-src-conn 3, overload <t>, sloppy, udp.first 0, max 10)\n",
         b"set profile openbsd-7.4\ntable <t>\npass all flags S/SA keep state (max 10, source-track rule, \
         max-src-conn 3, overload <t>, sloppy, udp.first 0, adaptive.start 6, adaptive.end 12)\n",
+    ),
+    (
+        b"set profile openbsd-7.4\npass in proto tcp to any port 80 synproxy state (max-src-conn 9)\n",
+        b"set profile openbsd-7.4\npass in proto tcp from any to any port 80 flags S/SA synproxy state \
+        (source-track rule, max-src-conn 9)\n",
+    ),
+    (
+        b"pass synproxy state\npass out flags any synproxy state (max 20)\nset profile openbsd-7.4\n",
+        b"set profile openbsd-7.4\npass all flags S/SA synproxy state\npass out all flags any synproxy state \
+        (max 20, adaptive.start 12, adaptive.end 24)\n",
+    ),
+    (
+        b"set profile openbsd-7.4\nset syncookies adaptive\n\
+        pass in proto tcp to any port 80 synproxy state (max-src-conn 9)\n",
+        b"set profile openbsd-7.4\nset syncookies adaptive (start 25%, end 12%)\n\
+        pass in proto tcp from any to any port 80 flags S/SA synproxy state \
+        (source-track rule, max-src-conn 9)\n",
+    ),
+    (
+        b"table <t>\nset syncookies always\nset profile openbsd-7.4\n",
+        b"adaptive.end 120000 }\nset profile openbsd-7.4\nset syncookies always\ntable <t>\n",
+    ),
+    (
+        b"set syncookies always\nset syncookies adaptive(start 0100% end 000%)\nset profile openbsd-7.4",
+        b"set profile openbsd-7.4\nset syncookies adaptive (start 100%, end 0%)\n",
+    ),
+    (
+        b"set profile openbsd-7.4\nset syncookies adaptive (start 9% end 8%)\nset syncookies never\nblock\n",
+        b"adaptive.end 120000 }\nset profile openbsd-7.4\nblock all flags any\n",
+    ),
+    (
+        b"set syncookies never\nblock\n",
+        b"adaptive.end 120000 }\nblock all flags any\n",
     ),
 ];
 
@@ -88,6 +121,57 @@ fn the_profile_takes_effect_at_the_end(rt: HostRuntime) -> Result<(), Fail> {
         same!(rt; pair(&config, 0), pair_told, text);
         same!(rt; config.options(RuleNo(0)).map(|options| options.sloppy), sloppy, text);
         same!(rt; (config.item_count(), config.table_count(), config.entry_count()), (1, 0, 0));
+    }
+    Ok(())
+}
+
+/// A rule says whether its SYN packets are answered in place of the server
+#[test]
+fn rules_with_synproxy_state(rt: HostRuntime) -> Result<(), Fail> {
+    let text =
+        b"pass synproxy state\nset profile openbsd-7.4\npass\nanchor {\npass in synproxy state (max 5)\n}\nblock\n";
+    let config = load(rt.alloc(), text)?;
+    for (number, wanted) in [
+        (0, true),
+        (1, false),
+        (2, false),
+        (3, true),
+        (4, false),
+        (5, false),
+    ] {
+        same!(rt; config.is_synproxy(RuleNo(number)), wanted, number);
+    }
+    Ok(())
+}
+
+/// Whether SYNs are answered by cookies; the last such statement counts
+#[test]
+fn syncookies_are_set(rt: HostRuntime) -> Result<(), Fail> {
+    for (statements, wanted) in [
+        ("", Syncookies::Never),
+        ("set syncookies never\n", Syncookies::Never),
+        ("set syncookies always\n", Syncookies::Always),
+        (
+            "set syncookies adaptive\n",
+            Syncookies::Adaptive { start: 25, end: 12 },
+        ),
+        (
+            "set syncookies adaptive (start 5%, end 3%)\n",
+            Syncookies::Adaptive { start: 5, end: 3 },
+        ),
+        (
+            "set syncookies always\nset syncookies adaptive ( start 001% end 0% )\n",
+            Syncookies::Adaptive { start: 1, end: 0 },
+        ),
+        (
+            "set syncookies adaptive\nset syncookies always\n",
+            Syncookies::Always,
+        ),
+    ] {
+        let text = format!(in rt.alloc(); "{statements}set profile openbsd-7.4\n")?;
+        let config = load(rt.alloc(), text.as_bytes())?;
+        same!(rt; config.syncookies(), wanted, statements);
+        same!(rt; config.syncookies().are_sent(), wanted != Syncookies::Never);
     }
     Ok(())
 }

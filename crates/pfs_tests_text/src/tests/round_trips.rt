@@ -14,7 +14,7 @@ const LIMITS: [LimitName; 4] = [
 ];
 
 /// Each part of a rules text, in usual and in unusual spellings.
-const TEXTS: [&[u8]; 42] = [
+const TEXTS: [&[u8]; 48] = [
     b"",
     b"# a comment alone \\\n",
     b"set limit states 1\nset limit src-nodes 4294967295\nset limit tables 2\nset limit table-entries 3",
@@ -57,11 +57,18 @@ const TEXTS: [&[u8]; 42] = [
     b"set profile openbsd-7.4\nset limit states 8\npass keep state (max 4294967295, tcp.first 0)\npass keep state (max 30, adaptive.start 5, adaptive.end 6)\nblock",
     b"set profile openbsd-7.4\nset timeout { adaptive.start 3, adaptive.end 4 }\ntable <profile> { 10.0.0.1 }\npass on openbsd-7.4 from <profile>",
     b"set profile openbsd-7.4 # as pf does\nanchor profile {\npass keep state (max 10, max-src-conn 3, overload <t> flush, sloppy, udp.first 7)\nblock in\n}",
+    b"pass synproxy state\nset profile openbsd-7.4\npass in proto tcp to port 80 flags any synproxy state (max-src-conn 9, sloppy max 20)\npass",
+    b"set syncookies always\nset profile openbsd-7.4\npass",
+    b"set profile openbsd-7.4\nset syncookies adaptive\nset syncookies always\nset syncookies adaptive (start 100%, end 0%)\ntable <start> { 10.0.0.1 }\nblock from <end>",
+    b"set syncookies adaptive(start 07% end 006%)\nset profile openbsd-7.4\nset syncookies adaptive\nanchor adaptive {\npass on end synproxy state\n}",
+    b"set syncookies adaptive (start 2%,end 1%)\nset syncookies never\npass from <never> to <always>",
+    b"set profile openbsd-7.4\nanchor synproxy {\npass out on synproxy synproxy state (no-sync)\n}\nblock from <synproxy>",
 ];
 
 /// The profile, limits and timeouts of two configurations are the same.
 fn same_settings(rt: &impl Abort, one: &Config, other: &Config) {
     same!(*rt; one.profile(), other.profile());
+    same!(*rt; one.syncookies(), other.syncookies());
     for name in LIMITS {
         same!(*rt; one.limit(name), other.limit(name));
     }

@@ -105,6 +105,15 @@ const WORDS: &[(&[u8], Key)] = &[
     (b"profile", Key::Profile),
     (b"openbsd-7.4", Key::OpenBsd74),
     (b"openbsd-7.5", Key::Name),
+    (b"synproxy", Key::Synproxy),
+    (b"syncookies", Key::Syncookies),
+    (b"never", Key::Never),
+    (b"always", Key::Always),
+    (b"adaptive", Key::Adaptive),
+    (b"start", Key::Start),
+    (b"end", Key::EndWord),
+    (b"25%", Key::Number),
+    (b"modulate", Key::Foreign),
     (b"", Key::Name),
 ];
 

@@ -13,7 +13,7 @@ from enum import Enum
 from random import Random
 
 from pfplan.traces.scenarios.counts import Count
-from pfplan.traces.scenarios.flows import Flow, Packet
+from pfplan.traces.scenarios.flows import SHUT, WINDOW, Flow, Packet
 from pfplan.traces.scenarios.hosts import Host, Way
 from pfplan.traces.scenarios.worlds import SLOTS, World
 
@@ -150,6 +150,13 @@ class Client:
                 self._step = AFTER_SYN if self._sent > 1 else SLOTS
                 self._crew.count.opened += 1
                 self.opened()
+        elif flags == SHUT:
+            self._hear_pf()
+        elif flags == WINDOW:
+            if self._waiting == ("A", 0):
+                self._turn += 1
+                self._waiting = ("", 0)
+                self.opened()
         elif flags == "FA":
             flow.send("A", 0)
             if self._phase is Phase.CLOSING:
@@ -163,6 +170,14 @@ class Client:
                 self._step = SLOTS
                 self._waiting = ("", 0)
                 self.answered(number)
+
+    def _hear_pf(self) -> None:
+        """pf has answered the SYN, with a window of 0: asks again and again for room (RFC 9293, 3.8.6.1)."""
+        if self._phase is Phase.OPENING:
+            self._phase = Phase.OPEN
+            self._step = AFTER_SYN if self._sent > 1 else SLOTS
+            self._crew.count.opened += 1
+            self.want("A", 0)
 
     def close(self) -> None:
         """Sends a FIN."""

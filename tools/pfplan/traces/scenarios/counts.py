@@ -6,6 +6,7 @@ from collections.abc import Sequence
 from dataclasses import dataclass, field
 
 from pfplan.traces.records import read_held
+from pfplan.traces.scenarios.listeners import Listener
 from pfplan.traces.scenarios.model import Group
 from pfplan.traces.scenarios.worlds import SLOTS, Fate
 
@@ -109,10 +110,11 @@ class Fill:
 @dataclass
 class Tally:
     """What a play comes to: the groups in the scenario's order, and what was held: of each `step` seconds the moment at
-    which the most states were."""
+    which the most states were. `listeners` are those of the servers, where these have a backlog."""
 
     counts: list[Count]
     step: int = 1
+    listeners: list[Listener] = field(default_factory=list)
     fills: list[Fill] = field(default_factory=list)
 
     def hear_held(self, moment: int, line: str) -> None:
@@ -123,6 +125,16 @@ class Tally:
             self.fills.append(fill)
         elif self.fills[-1].states < fill.states:
             self.fills[-1] = fill
+
+    @property
+    def most_half_open(self) -> int:
+        """The most connections that were half open at a server at a time."""
+        return max((it.most for it in self.listeners), default=0)
+
+    @property
+    def unanswered(self) -> int:
+        """SYN packets that servers left unanswered, since their backlog was full."""
+        return sum(it.unanswered for it in self.listeners)
 
     def is_met(self, word: str) -> bool:
         """Whether a limit refused a packet, or an answer to one."""

@@ -99,17 +99,13 @@ class Pfsrc:
 
     def decide(self, texts: Sequence[str], second: str = "") -> list[str]:
         """As `Firewall.decide`. Trouble as the program's own where it ends."""
-        if len(texts) <= self._most:
-            return self._ask(texts, second)
-        parts = (texts[at : at + self._most] for at in range(0, len(texts), self._most))
-        return [line for part in parts for line in self._ask(part, second)]
-
-    def _ask(self, texts: Sequence[str], second: str) -> list[str]:
-        """The lines for records that fit into the pipe."""
         if not texts:
             return []
-        self._write((second + second.join(texts)).encode("latin-1"))
-        return self._read(len(texts))
+        if len(texts) <= self._most:
+            self._write((second + second.join(texts)).encode("latin-1"))
+            return self._read(len(texts))
+        parts = (texts[at : at + self._most] for at in range(0, len(texts), self._most))
+        return [line for part in parts for line in self.decide(part, second)]
 
     def end(self) -> End:
         """As `Firewall.end`. Trouble as the program's own where it does not end well."""
@@ -136,24 +132,29 @@ class Pfsrc:
         """So many lines.
 
         The program writes line by line. To wait a little until it has written several costs less than to wake up for
-        each.
+        each. (To give the processor away by sched_yield costs less still, but on a busy machine it comes back late:
+        Linux takes from who yields the rest of its turn.)
         """
-        parts = [self._rest] if self._rest else []
-        found = self._rest.count(b"\n")
+        whole = self._rest
+        found = whole.count(b"\n")
         while found < count:
             if count - found > FEW:
                 time.sleep((count - found) * SECONDS_A_LINE)
             part = os.read(self._out, (count - found) * LONGEST)
             if not part:
                 raise self._trouble()
-            parts.append(part)
             found += part.count(b"\n")
-        whole = parts[0] if len(parts) == 1 else b"".join(parts)
+            whole = whole + part if whole else part
         lines = whole.decode("latin-1").split("\n")
-        self._rest = "\n".join(lines[count:]).encode("latin-1") if found > count or lines[-1] else b""
+        rest = lines.pop()
+        if found == count and not rest:
+            self._rest = b""
+        else:
+            self._rest = "\n".join([*lines[count:], rest]).encode("latin-1")
+            whole = whole[: len(whole) - len(self._rest)]
+            del lines[count:]
         if self._kept.report:
-            self._kept.report.write(whole[: len(whole) - len(self._rest)] if self._rest else whole)
-        del lines[count:]
+            self._kept.report.write(whole)
         return lines
 
     def _trouble(self) -> Trouble:

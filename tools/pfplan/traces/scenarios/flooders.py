@@ -6,13 +6,17 @@ from collections.abc import Callable
 from dataclasses import dataclass
 from fractions import Fraction
 from random import Random
+from socket import inet_ntoa
 
 from pfplan.traces.scenarios.askers import Question
 from pfplan.traces.scenarios.clients import Client, Crew, Phase
 from pfplan.traces.scenarios.counts import Count
 from pfplan.traces.scenarios.hosts import FIRST_PORT, PORTS, Addresses, Host, Hosts, Way
 from pfplan.traces.scenarios.servers import Backlog
-from pfplan.traces.scenarios.worlds import SLOTS, Entry, Fate, World
+from pfplan.traces.scenarios.worlds import SLOTS, Fate, World
+
+# How many forged packets are made at a time.
+MADE = 1024
 
 
 class Flooder(Client):
@@ -76,24 +80,24 @@ class Pace:
     one."""
 
     def __init__(self, rate: Fraction, first: int, last: int | None) -> None:
-        self._share = (rate / SLOTS).as_integer_ratio()
+        self._part, self._whole = (rate / SLOTS).as_integer_ratio()
         self._first = first
         self._last = last
 
     def of(self, slot: int) -> int:
         """How many come in this slot, which is one of these."""
-        return self._before(slot + 1) - self._before(slot)
+        if self._whole == 1:
+            return self._part
+        before = (slot - self._first) * self._part
+        return -(-(before + self._part) // self._whole) + -before // self._whole
 
     def next(self, slot: int) -> int | None:
         """The next slot in which one comes, from one on."""
-        part, whole = self._share
-        found = self._first + self._before(max(slot, self._first)) * whole // part
+        found = max(slot, self._first)
+        if self._whole > 1:
+            since = found - self._first
+            found = self._first + -(-since * self._part // self._whole) * self._whole // self._part
         return found if self._last is None or found < self._last else None
-
-    def _before(self, slot: int) -> int:
-        """How many come before a slot: the first comes in the first one."""
-        part, whole = self._share
-        return -(-(slot - self._first) * part // whole)
 
 
 class Openers:
@@ -109,12 +113,15 @@ class Openers:
         self._make = make
         self.next = pace.next
 
-    def emit(self, slot: int) -> tuple[list[Entry], list[Entry]]:
+    def emit(self, slot: int) -> bool:
         """Opens the connections of a slot, whose packets come among those of all others."""
         random = self._crew.random.random
         for _ in range(self._pace.of(slot)):
             self._make(self._hosts.of(self._addresses.name(int(random() * self._addresses.count)))).open()
-        return [], []
+        return False
+
+    def emit_behind(self) -> None:
+        """Nothing comes behind others."""
 
 
 @dataclass(frozen=True)
@@ -139,47 +146,79 @@ class Forger:
         self._addresses = addresses
         self._first = addresses.first
         self._hosts = addresses.count
-        self._forgery = forgery
+        self._pace = forgery.pace
+        self._backlog = forgery.backlog
         self._end = forgery.flags + "\n"
         self._before, self._behind = ways[0].parts(self._end)
+        self._answers_to, self._source = ways[0].answers_to, slice(len(self._before), -len(self._behind))
         is_plain = addresses.version == 4 and len(ways) == 1 and not ways[0].is_forwarded
-        self._make = self._plain if is_plain else self._general
+        self._send = self._send_plain if is_plain else self._send_others
+        self._left = 0
+        # packets that are made, and how many of them were sent
+        self._made: list[str] = []
+        self._sent = 0
         self.next = forgery.pace.next
 
-    def emit(self, slot: int) -> tuple[list[Entry], list[Entry]]:
-        """What is sent in a slot: half before what others send, half behind."""
-        many = self._forgery.pace.of(slot)
+    def emit(self, slot: int) -> bool:
+        """Sends the first half of what is sent in a slot."""
+        many = self._pace.of(slot)
         self._count.packets += many
-        before, make = many // 2, self._make
-        return [make() for _ in range(before)], [make() for _ in range(many - before)]
+        self._left = many - many // 2
+        if many > 1:
+            self._send(many // 2)
+        return True
 
-    def _plain(self) -> Entry:
-        """A packet of IPv4 that is asked once."""
-        value = self._first + int(self._random() * self._hosts)
-        port = FIRST_PORT + int(self._random() * PORTS)
-        source = f"{value >> 24}.{value >> 16 & 255}.{value >> 8 & 255}.{value & 255},{port}"
-        return f"{self._before}{source}{self._behind}", self._hear_fate_plain, source
+    def emit_behind(self) -> None:
+        """Sends the second half."""
+        self._send(self._left)
 
-    def _hear_fate_plain(self, source: str, fate: Fate) -> None:
-        if not fate.passes:
+    def _send_plain(self, many: int) -> None:
+        """Packets of IPv4 to one server, that are asked once."""
+        end = self._sent + many
+        if len(self._made) < end:
+            self._made = self._made[self._sent :] + self._make(max(many, MADE))
+            self._sent, end = 0, many
+        texts = self._made[self._sent : end]
+        self._sent = end
+        self._world.ask_all(texts, self._hear_fates, texts)
+
+    def _make(self, many: int) -> list[str]:
+        """The next so many packets."""
+        random, first, hosts, before, behind = self._random, self._first, self._hosts, self._before, self._behind
+        return [
+            f"{before}{inet_ntoa((first + int(random() * hosts)).to_bytes(4, 'big'))},"
+            f"{FIRST_PORT + int(random() * PORTS)}{behind}"
+            for _ in range(many)
+        ]
+
+    def _hear_fates(self, texts: list[str], fates: list[Fate]) -> None:
+        """What became of packets that went out together: there are few kinds of fates."""
+        through = texts
+        if not (fates[0].passes and fates.count(fates[0]) == len(fates)):
+            through = [text for text, fate in zip(texts, fates) if fate.passes]
+            for one in dict.fromkeys(fates):
+                if one.is_taken:
+                    self._count.passed += fates.count(one)
+                elif not one.passes:
+                    self._count.refuse(one, self._world.now, fates.count(one))
+        self._count.passed += len(through)
+        if through and self._backlog is not None:
+            start, source = self._answers_to, self._source
+            self._backlog.come([f"{start}{it[source]},SA\n" for it in through])
+
+    def _send_others(self, many: int) -> None:
+        """Packets of either family, to one of several servers, that may be forwarded."""
+        for _ in range(many):
+            host = self._addresses.name(int(self._random() * self._hosts))
+            port = FIRST_PORT + int(self._random() * PORTS)
+            way = self._ways[int(self._random() * len(self._ways))]
+            answer = way.back(host, port)[0] + "SA\n"
+            self._world.ask(tuple([it + self._end for it in way.there(host, port)]), self._hear_fate, answer)
+
+    def _hear_fate(self, answer: str, fate: Fate) -> None:
+        if not (fate.passes or fate.is_taken):
             self._count.refuse(fate, self._world.now)
             return
         self._count.passed += 1
-        if self._forgery.backlog is not None:
-            self._forgery.backlog.come((f"{self._ways[0].answers_to}{source},SA\n",))
-
-    def _general(self) -> Entry:
-        """A packet of either family, to one of several servers, that may be forwarded."""
-        host = self._addresses.name(int(self._random() * self._hosts))
-        port = FIRST_PORT + int(self._random() * PORTS)
-        way = self._ways[int(self._random() * len(self._ways))]
-        back = tuple([it + "SA\n" for it in way.back(host, port)])
-        return self._world.entry(tuple([it + self._end for it in way.there(host, port)]), self._hear_fate, back)
-
-    def _hear_fate(self, back: tuple[str, ...], fate: Fate) -> None:
-        if not fate.passes:
-            self._count.refuse(fate, self._world.now)
-            return
-        self._count.passed += 1
-        if self._forgery.backlog is not None:
-            self._forgery.backlog.come(back)
+        if fate.passes and self._backlog is not None:
+            self._backlog.come([answer])

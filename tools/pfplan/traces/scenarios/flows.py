@@ -11,6 +11,9 @@ from pfplan.traces.scenarios.worlds import Fate, World
 
 # the flow, the flags, and the number of the request or the answer (below 0 for what keeps a connection)
 Packet = tuple["Flow", str, int]
+# What a host hears of pf itself: a SYN|ACK that lets it send nothing yet (its window is 0), and an ACK that opens the
+# window, once the server has answered.
+SHUT, WINDOW = "SYN|ACK of pf", "ACK of pf"
 
 
 class Caller(Protocol):
@@ -26,10 +29,23 @@ class Caller(Protocol):
 class Flow:
     """A connection's packets.
 
-    A packet that goes through reaches the other side; one that a rule refuses may be answered by a RST.
+    A packet that goes through reaches the other side; one that a rule refuses may be answered by a RST. By a rule with
+    `synproxy state`, and where it gives SYN cookies, pf takes those of a handshake, and leads one with the host, and
+    then one with the server.
     """
 
-    __slots__ = ("_answer", "_back", "_caller", "_count", "_round_trip", "_server", "_there", "_world", "port")
+    __slots__ = (
+        "_answer",
+        "_back",
+        "_caller",
+        "_count",
+        "_is_acknowledged",
+        "_round_trip",
+        "_server",
+        "_there",
+        "_world",
+        "port",
+    )
 
     def __init__(
         self, world: World, way: Way, host: str, port: int, caller: Caller, count: Count, delays: tuple[int, int]
@@ -41,25 +57,38 @@ class Flow:
         self._caller = caller
         self._count = count
         self._answer, self._round_trip = delays
-        self._server = Server(world, self)
+        self._server = Server(world, self, way.listener)
+        self._is_acknowledged = False
         self.port = port
 
     def send(self, flags: str, number: int) -> None:
         """A packet to the server."""
         end = flags + "\n"
         self._count.packets += 1
-        self._world.ask(tuple([it + end for it in self._there]), self._hear_fate_there, (self, flags, number))
+        there = self._there
+        if len(there) == 1:
+            self._world.ask_once(there[0] + end, self._hear_fate_there, (self, flags, number))
+        else:
+            self._world.ask(tuple([it + end for it in there]), self._hear_fate_there, (self, flags, number))
 
     def send_back(self, flags: str, number: int) -> None:
         """A packet from the server."""
         end = flags + "\n"
-        self._world.ask(tuple([it + end for it in self._back]), self._hear_fate_back, (self, flags, number))
+        back = self._back
+        if len(back) == 1:
+            self._world.ask_once(back[0] + end, self._hear_fate_back, (self, flags, number))
+        else:
+            self._world.ask(tuple([it + end for it in back]), self._hear_fate_back, (self, flags, number))
 
     def _hear_fate_there(self, packet: Packet, fate: Fate) -> None:
         world = self._world
         if fate.passes:
             self._count.passed += 1
             world.at(world.now + self._answer, self._server.hear, packet)
+            return
+        if fate.is_taken:
+            self._count.passed += 1
+            self._take(packet[1])
             return
         self._count.refuse(fate, world.now)
         self._caller.lose()
@@ -71,7 +100,39 @@ class Flow:
         if fate.passes:
             world.at(world.now + self._round_trip, self._caller.hear, packet)
             return
+        if fate.is_taken:
+            if packet[1] == "SA":
+                self._send_of_pf("A")
+                world.at(world.now + self._round_trip, self._caller.hear, (self, WINDOW, 0))
+            return
         self._count.refuse(fate, world.now)
         self._caller.lose()
         if fate.resets:
             world.at(world.now + self._answer, self._server.hear, (self, "R", 0))
+
+    def _take(self, flags: str) -> None:
+        """pf has taken a packet of the host: it answers a SYN. Once the host has acknowledged that, it sends a SYN to
+        the server, again at each packet of the host, until the server has answered."""
+        world = self._world
+        if flags == "S":
+            if not self._is_acknowledged:
+                world.at(world.now + self._round_trip, self._caller.hear, (self, SHUT, 0))
+            return
+        self._is_acknowledged = self._is_acknowledged or flags in ("A", "PA")
+        if self._is_acknowledged:
+            self._send_of_pf("S")
+
+    def _send_of_pf(self, flags: str) -> None:
+        """A packet of pf's own to the server, which is asked where it leaves."""
+        packet = (self, flags, 0)
+        if len(self._there) > 1:
+            self._world.ask_once(f"{self._there[1]}{flags}\n", self._hear_fate_of_pf, packet)
+        else:
+            self._world.at(self._world.now + self._answer, self._server.hear, packet)
+
+    def _hear_fate_of_pf(self, packet: Packet, fate: Fate) -> None:
+        world = self._world
+        if fate.passes:
+            world.at(world.now + self._answer, self._server.hear, packet)
+        elif not fate.is_taken:
+            self._count.refuse(fate, world.now)

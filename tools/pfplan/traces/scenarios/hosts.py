@@ -3,6 +3,7 @@
 import ipaddress
 
 from pfplan.common.networks import Network
+from pfplan.traces.scenarios.listeners import Listener
 from pfplan.traces.scenarios.model import Endpoint, Forward
 from pfplan.traces.scenarios.reading import room
 
@@ -68,7 +69,10 @@ class Hosts:
 class Way:
     """The way between the hosts of a group and a server: the interfaces that its packets are asked on, one or two."""
 
-    def __init__(self, forward: Forward, interface: str, server: Endpoint, protocol: str) -> None:
+    def __init__(
+        self, forward: Forward, interface: str, server: Endpoint, protocol: str, listener: Listener | None = None
+    ) -> None:
+        """`listener` is the server's, where it has a backlog."""
         onward = forward.next(interface, server.address)
         end = f"{server.address},{server.port}"
         self._in = (f",in,{interface},{protocol},", f",{end},")
@@ -76,6 +80,7 @@ class Way:
         self._in_behind = f",out,{onward},{protocol},"
         self._out_behind = f",in,{onward},{protocol},{end},"
         self.is_forwarded = bool(onward)
+        self.listener = listener
 
     def there(self, host: str, port: int) -> tuple[str, ...]:
         """The records of a packet to the server, behind their moment and up to the flags."""
@@ -88,6 +93,14 @@ class Way:
         end = f"{host},{port},"
         last = f"{self.answers_to}{end}"
         return (f"{self._out_behind}{end}", last) if self.is_forwarded else (last,)
+
+    def has_sent(self, first: str) -> bool:
+        """Whether the first record of a packet from a server is one of this server's."""
+        return first.startswith(self._out_behind if self.is_forwarded else self.answers_to)
+
+    def last_of(self, first: str) -> str:
+        """The second record of such a packet, that is forwarded."""
+        return self.answers_to + first[len(self._out_behind) :]
 
     def parts(self, end: str) -> tuple[str, str]:
         """What stands before and behind the source in the record of a packet to the server."""

@@ -12,7 +12,7 @@ from pathlib import Path
 from pfplan.common.errors import Status, Trouble
 from pfplan.traces.records import ORDERS, Traces
 from pfplan.traces.scenarios.counts import Count
-from pfplan.traces.scenarios.worlds import SLOTS, Entry, Fate, World
+from pfplan.traces.scenarios.worlds import SLOTS, Fate, World
 
 
 class Layer:
@@ -36,24 +36,29 @@ class Layer:
             return None
         return self._held[0]
 
-    def emit(self, slot: int) -> tuple[list[Entry], list[Entry]]:
+    def emit(self, slot: int) -> bool:
         """The records of a slot, before those of others."""
         assert self._held is not None
         mine = self._held[1]
         self._held = next(self._parts, None)
         self._count.packets += len(mine)
-        return [(it, self._hear_fate, None) for it in mine], []
+        self._world.ask_all(mine, self._hear_fates, mine)
+        return False
+
+    def emit_behind(self) -> None:
+        """Nothing comes behind others."""
 
     def end(self) -> None:
         """The play is over: counts the records that it did not come to."""
         left = 0 if self._held is None else len(self._held[1])
         self._count.left_over = left + sum(len(records) for _, records in self._parts)
 
-    def _hear_fate(self, _: None, fate: Fate) -> None:
-        if fate.passes:
-            self._count.passed += 1
-        else:
-            self._count.refuse(fate, self._world.now)
+    def _hear_fates(self, records: list[str], fates: list[Fate]) -> None:
+        for it in fates:
+            if it.passes or it.is_taken:
+                self._count.passed += 1
+            else:
+                self._count.refuse(it, self._world.now)
 
     def _by_slot(self) -> Iterator[tuple[int, list[str]]]:
         """The slots that have records, and these, without their moments."""

@@ -127,7 +127,7 @@ class Scenario:
     """A scenario.
 
     `answer` is the milliseconds that a server takes, `wait` the seconds within which a connection is served without
-    waiting.
+    waiting. `backlog` is how many connections may be half open at a server, 0 as many as come.
     """
 
     name: str
@@ -138,6 +138,7 @@ class Scenario:
     answer: int
     wait: int
     groups: tuple[Group, ...]
+    backlog: int = 0
 
     @property
     def has_users(self) -> bool:

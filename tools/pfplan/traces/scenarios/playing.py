@@ -4,12 +4,16 @@ from __future__ import annotations
 
 import contextlib
 import gc
+import itertools
 import multiprocessing
 import signal
 import sys
 from collections.abc import Callable, Iterator, Mapping, Sequence
 from dataclasses import dataclass
+from multiprocessing.connection import Connection, wait
+from multiprocessing.context import ForkProcess
 from pathlib import Path
+from types import TracebackType
 
 from pfplan.common.errors import Status, Trouble
 from pfplan.common.outputs import part_file
@@ -20,6 +24,9 @@ from pfplan.traces.scenarios.firewalls import Kept, Pfsrc, Writer
 from pfplan.traces.scenarios.model import Scenario
 from pfplan.traces.scenarios.plays import Play, traces_of
 from pfplan.traces.scenarios.returning import Answer
+
+# Seconds in which a play that is told to end does so, before it is killed.
+GRACE = 5
 
 
 @dataclass(frozen=True)
@@ -118,25 +125,87 @@ def play_all(tasks: Sequence[Task], jobs: int) -> list[Played]:
     if len(tasks) == 1 or jobs == 1:
         return [_played(it) for it in tasks]
     progress = Progress("play", len(tasks), "plays")
-    found = []
-    with multiprocessing.get_context("fork").Pool(min(jobs, len(tasks)), _heed) as pool:
-        try:
-            for it in pool.imap(play, tasks):
-                found.append(it)
+    found: dict[int, Played] = {}
+    try:
+        with _Sides(min(jobs, len(tasks))) as sides:
+            for at, it in sides.play(tasks):
+                found[at] = it
                 progress.advance()
-            pool.close()
-            pool.join()
-        finally:
-            progress.finish()
-    return found
+    finally:
+        progress.finish()
+    return [found[at] for at in range(len(tasks))]
 
 
-def _heed() -> None:
-    """A process of a pool: an interrupt, from the keyboard or as the terminal goes, reaches it through the first
-    process, which ends it."""
+class _Sides:
+    """Processes that play, so many at a time. Leaving it ends those that still go on."""
+
+    def __init__(self, most: int) -> None:
+        self._most = most
+        self._context = multiprocessing.get_context("fork")
+        self._going: dict[Connection, tuple[int, ForkProcess]] = {}
+
+    def __enter__(self) -> "_Sides":
+        return self
+
+    def __exit__(
+        self, kind: type[BaseException] | None, error: BaseException | None, trace: TracebackType | None
+    ) -> None:
+        for _, process in self._going.values():
+            process.terminate()
+        for pipe, (_, process) in self._going.items():
+            process.join(GRACE)
+            if process.is_alive():
+                process.kill()
+                process.join()
+            pipe.close()
+
+    def play(self, tasks: Sequence[Task]) -> Iterator[tuple[int, Played]]:
+        """The plays, each with the place of its task, as they end. Trouble as the first that fails."""
+        waiting = iter(enumerate(tasks))
+        for at, task in itertools.islice(waiting, self._most):
+            self._begin(at, task)
+        while self._going:
+            for pipe in wait(list(self._going)):
+                assert isinstance(pipe, Connection)
+                yield self._end(pipe)
+                for at, task in itertools.islice(waiting, 1):
+                    self._begin(at, task)
+
+    def _begin(self, at: int, task: Task) -> None:
+        ours, theirs = self._context.Pipe(duplex=False)
+        process = self._context.Process(target=_play_there, args=(task, theirs))
+        self._going[ours] = at, process
+        process.start()
+        theirs.close()
+
+    def _end(self, pipe: Connection) -> tuple[int, Played]:
+        """What a process sends as it ends."""
+        at, process = self._going[pipe]
+        try:
+            sent = pipe.recv()
+        except EOFError:
+            process.join()
+            raise Trouble(f"a play ended with status {process.exitcode} and said nothing", Status.FAILED) from None
+        if isinstance(sent, BaseException):
+            raise sent
+        process.join()
+        del self._going[pipe]
+        pipe.close()
+        assert isinstance(sent, Played)
+        return at, sent
+
+
+def _play_there(task: Task, pipe: Connection) -> None:
+    """A play in a process of its own: sends what came of it, or why nothing did. An interrupt, from the keyboard or as
+    the terminal goes, reaches it through the first process, which ends it."""
     for it in (signal.SIGINT, signal.SIGHUP):
         signal.signal(it, signal.SIG_IGN)
     signal.signal(signal.SIGTERM, lambda number, frame: sys.exit(int(Status.INTERRUPTED)))
+    try:
+        sent: Played | Exception = play(task)
+    except Exception as error:  # noqa: BLE001 (told by the first process)
+        sent = error
+    pipe.send(sent)
 
 
 def _played(task: Task) -> Played:

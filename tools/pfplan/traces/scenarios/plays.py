@@ -21,6 +21,7 @@ from pfplan.traces.scenarios.firewalls import Firewall, check_records
 from pfplan.traces.scenarios.flooders import Flooder, Forger, Forgery, Openers, Pace
 from pfplan.traces.scenarios.hosts import Addresses, Host, Hosts, Way
 from pfplan.traces.scenarios.laid import Layer
+from pfplan.traces.scenarios.listeners import Listener
 from pfplan.traces.scenarios.model import Askers, Crowd, Forgers, Group, Holders, Laid, Scenario, Visits
 from pfplan.traces.scenarios.returning import Answer
 from pfplan.traces.scenarios.servers import Backlog
@@ -49,9 +50,12 @@ class Play:
         self._answer = slots_of(scenario.answer)
         self._world = World(firewall, returning, self._lookahead(), scenario.seconds)
         self._hosts = Hosts()
+        servers = dict.fromkeys(it for group in scenario.groups for it in group.to)
+        self._listeners = {it: Listener(scenario.backlog) for it in servers} if scenario.backlog else {}
         self._emitters: list[Emitter] = []
         self._layers: list[Layer] = []
-        self.tally = Tally([Count(it, scenario.wait) for it in scenario.groups], step_of(0, scenario.seconds))
+        counts = [Count(it, scenario.wait) for it in scenario.groups]
+        self.tally = Tally(counts, step_of(0, scenario.seconds), list(self._listeners.values()))
 
     def _lookahead(self) -> int:
         """Slots within which nobody hears of a packet's fate.
@@ -107,7 +111,8 @@ class Play:
         )
 
     def _ways(self, group: Group, protocol: str) -> tuple[Way, ...]:
-        return tuple(Way(self._scenario.forward, group.interface, it, protocol) for it in group.to)
+        forward, listeners = self._scenario.forward, self._listeners if protocol == "tcp" else {}
+        return tuple(Way(forward, group.interface, it, protocol, listeners.get(it)) for it in group.to)
 
     def _random(self, group: Group) -> Random:
         """Numbers of the group's own, so that they are the same whatever others do.
@@ -159,7 +164,7 @@ class Play:
         pace = Pace(group.rate, group.begin * SLOTS, self._last(group))
         is_tcp = group.kind == "syn"
         ways = self._ways(group, "tcp" if is_tcp else "udp")
-        backlog = Backlog(self._world, count, self._answer) if is_tcp and not self._is_plain else None
+        backlog = Backlog(self._world, count, ways, self._answer) if is_tcp and not self._is_plain else None
         forgery = Forgery("S" if is_tcp else "", pace, backlog)
         addresses = Addresses(group.origin, group.hosts)
         self._emitters.append(Forger(self._world, count, ways, self._random(group), addresses, forgery))

@@ -75,6 +75,7 @@ _WHOLE = (
     interface("interface", "em0"),
     whole("answer", 1, 900, 20),
     whole("wait", 0, 86400, 3),
+    whole("backlog", 0, 1_000_000, 0),
 )
 _TABLES = ("server", "forward", "group")
 
@@ -161,6 +162,7 @@ def scenario_of(tables: Mapping[str, Any], path: Path, numbers: Mapping[str, int
         found["answer"],
         found["wait"],
         tuple(groups),
+        found["backlog"],
     )
 
 

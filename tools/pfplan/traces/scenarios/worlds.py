@@ -9,7 +9,6 @@ by when its packets are at the firewall: what it does at slot 100 is what it sen
 import heapq
 from collections.abc import Callable, Mapping, Sequence
 from dataclasses import dataclass
-from itertools import islice
 from operator import itemgetter
 from typing import Any, Protocol
 
@@ -35,12 +34,16 @@ class Fate:
     text: str
     killed: int = 0  # states that were killed with it
     overload: str = ""  # what a kill did to the overload table
+    is_taken: bool = False  # by pf itself, which leads the handshake (`synproxy state`, or by a SYN cookie)
 
 
+# hears the fate of a packet, and what it was sent for
 Hearer = Callable[[Any, Fate], None]
-Entry = tuple[str, Hearer, Any]
-# the packets of a slot, and who hears the fates of all of them where it is one
-Part = tuple[int, list[Entry], Callable[[list[Entry], list["Fate"]], None] | None]
+# hears the fates of several
+HearerOfAll = Callable[[list[Any], list[Fate]], None]
+# packets of a slot that are asked in turn: the slot, how many they are, who hears the fates of all of them,
+# and what each was sent for; where nobody hears all, who hears of each, and what it was sent for
+Part = tuple[int, int, HearerOfAll | None, list[Any]]
 
 
 class Emitter(Protocol):
@@ -49,8 +52,11 @@ class Emitter(Protocol):
     def next(self, slot: int) -> int | None:
         """The next slot in which it sends, from one on; None where there is none."""
 
-    def emit(self, slot: int) -> tuple[list[Entry], list[Entry]]:
-        """What it sends in a slot: before the events of the slot, and behind them."""
+    def emit(self, slot: int) -> bool:
+        """Sends what comes before the events of a slot; whether more comes behind them."""
+
+    def emit_behind(self) -> None:
+        """Sends that."""
 
 
 @dataclass(frozen=True)
@@ -87,8 +93,12 @@ class World:
         self._calendar: dict[int, list[tuple[Callable[[Any], None], Any]]] = {}
         self._sending: dict[int, list[tuple[int, Emitter]]] = {}
         self._slots: list[int] = []
-        self._batch: list[Entry] = []
+        # packets that wait to be asked, in parts; those behind the last part each have a hearer
+        self._texts: list[str] = []
         self._parts: list[Part] = []
+        self._hearers: list[tuple[Hearer, Any]] = []
+        # how many digits the number of a row has, with its space, and the first row that has more
+        self._width, self._wider = 2, 10
         self._known: dict[str, Fate] = {}
 
     def at(self, slot: int, call: Callable[[Any], None], argument: Any) -> None:
@@ -96,7 +106,8 @@ class World:
         there = self._calendar.get(slot)
         if there is None:
             self._calendar[slot] = [(call, argument)]
-            heapq.heappush(self._slots, slot)
+            if slot not in self._sending:
+                heapq.heappush(self._slots, slot)
         else:
             there.append((call, argument))
 
@@ -106,20 +117,26 @@ class World:
         A text is the record behind its moment, with its line feed.
         """
         if len(texts) == 1:
-            self._batch.append((texts[0], hear, argument))
+            self.ask_once(texts[0], hear, argument)
         else:
-            self._batch.append(self.entry(texts, hear, argument))
+            self.ask_once(texts[0], self._onward, (texts[1], hear, argument))
 
-    def ask_all(self, entries: list[Entry], hear: Callable[[list[Entry], list[Fate]], None]) -> None:
-        """Sends packets that `entry` made, now. `hear` hears the fates of all at once; of those that are forwarded each
-        hears its own."""
-        if entries[0][1] == self._onward:
-            self._batch += entries
-            return
-        if self._batch:
-            self._parts.append((self.now, self._batch, None))
-            self._batch = []
-        self._parts.append((self.now, entries, hear))
+    def ask_once(self, text: str, hear: Hearer, argument: Any) -> None:
+        """Sends a packet that is not forwarded."""
+        self._texts.append(text)
+        self._hearers.append((hear, argument))
+
+    def ask_all(self, texts: list[str], hear: HearerOfAll, arguments: list[Any]) -> None:
+        """Sends packets that are not forwarded, now. `hear` hears the fates of all of them at once."""
+        if self._hearers:
+            self._close()
+        self._texts += texts
+        self._parts.append((self.now, len(texts), hear, arguments))
+
+    def _close(self) -> None:
+        """Makes a part of the packets that each have a hearer."""
+        self._parts.append((self.now, len(self._hearers), None, self._hearers))
+        self._hearers = []
 
     def put(self, records: Sequence[str]) -> None:
         """Has entries put into tables before all else. Trouble with status 3 where a table does not take one."""
@@ -132,15 +149,12 @@ class World:
                 raise Trouble("Duplicate: an entry that comes by a record is there with the other sign", Status.RULES)
         self.rows += len(records)
 
-    def entry(self, texts: tuple[str, ...], hear: Hearer, argument: Any) -> Entry:
-        """A packet as `ask` sends it, for an emitter."""
-        return (texts[0], hear, argument) if len(texts) == 1 else (texts[0], self._onward, (texts[1], hear, argument))
-
-    def _onward(self, entry: Entry, fate: Fate) -> None:
+    def _onward(self, behind: tuple[str, Hearer, Any], fate: Fate) -> None:
+        """A packet that is forwarded went through, or not; `behind` is what is asked of it on its way out."""
         if fate.passes:
-            self._batch.append(entry)
+            self.ask_once(*behind)
         else:
-            entry[1](entry[2], fate)
+            behind[1](behind[2], fate)
 
     def run(self, emitters: Sequence[Emitter], hear: Callable[[int], None], asking: Asking | None) -> End:
         """Runs to the end: to the last second of the scenario, and then until all that is going is over.
@@ -169,7 +183,8 @@ class World:
         there = self._sending.get(found)
         if there is None:
             self._sending[found] = [(number, emitter)]
-            heapq.heappush(self._slots, found)
+            if found not in self._calendar:
+                heapq.heappush(self._slots, found)
         else:
             there.append((number, emitter))
             there.sort(key=itemgetter(0))
@@ -198,63 +213,73 @@ class World:
         slots, calendar, sending = self._slots, self._calendar, self._sending
         while slots and slots[0] < end:
             slot = self.now = heapq.heappop(slots)
-            behind: list[Entry] = []
-            for number, it in sending.pop(slot, ()):
-                before, after = it.emit(slot)
-                self._batch += before
-                behind += after
-                self._post(number, it, slot + 1)
-            for call, argument in calendar.pop(slot, ()):
-                call(argument)
-            self._batch += behind
-            if self._batch:
-                self._parts.append((slot, self._batch, None))
-                self._batch = []
+            behind = self._emit(slot) if slot in sending else ()
+            if slot in calendar:
+                for call, argument in calendar.pop(slot):
+                    call(argument)
+            for it in behind:
+                it.emit_behind()
+            if self._hearers:
+                self._close()
+        # packets that are forwarded are asked once more, in the same slot
         while self._parts:
-            parts, self._parts = self._parts, []
-            self._decide(second, parts)
-            # packets that are forwarded are asked once more, in the same slot
-            if self._batch:
-                self._parts.append((self.now, self._batch, None))
-                self._batch = []
+            self._decide(second)
+            if self._hearers:
+                self._close()
 
-    def _decide(self, second: str, parts: Sequence[Part]) -> None:
-        """Asks the firewall, and tells everybody what became of their packets."""
-        lines = self._firewall.decide([entry[0] for _, part, _ in parts for entry in part], second)
-        first = self.rows + 1
-        self.rows += len(lines)
-        width = len(str(first)) + 1
-        if len(str(self.rows)) == width - 1:
-            texts = [it[width:] for it in lines]
-        else:
-            texts = [it.partition(" ")[2] for it in lines]
-        fates = iter(self._fates(texts))
-        for slot, part, hear_all in parts:
-            self.now = slot
+    def _emit(self, slot: int) -> Sequence[Emitter]:
+        """Has those send that send in a slot. Answers those that send more behind the events."""
+        behind = []
+        for number, it in self._sending.pop(slot):
+            if it.emit(slot):
+                behind.append(it)
+            self._post(number, it, slot + 1)
+        return behind
+
+    def _decide(self, second: str) -> None:
+        """Asks the firewall of all that waits, and tells everybody what became of their packets."""
+        texts, parts = self._texts, self._parts
+        self._texts, self._parts = [], []
+        fates = self._fates(self._firewall.decide(texts, second))
+        end = 0
+        for self.now, count, hear_all, arguments in parts:
+            begin, end = end, end + count
             if hear_all is not None:
-                hear_all(part, list(islice(fates, len(part))))
+                hear_all(arguments, fates[begin:end])
                 continue
-            for (_, hear, argument), fate in zip(part, fates):
+            for (hear, argument), fate in zip(arguments, fates[begin:end]):
                 hear(argument, fate)
 
-    def _fates(self, texts: Sequence[str]) -> list[Fate]:
-        """The fates that the texts of lines tell, behind their rows."""
+    def _fates(self, lines: Sequence[str]) -> list[Fate]:
+        """The fates that the next lines of the report tell."""
         known = self._known
-        try:
-            return [known[it] for it in texts]
-        except KeyError:
-            if len(known) > KNOWN:
-                known.clear()
-            for it in texts:
-                if it not in known:
-                    known[it] = self._fate(it)
-            return [known[it] for it in texts]
+        first, self.rows = self.rows + 1, self.rows + len(lines)
+        if first >= self._wider:
+            self._width, self._wider = len(str(first)) + 1, 10 ** len(str(first))
+        width = self._width
+        if self.rows < self._wider:
+            try:
+                return [known[it[width:]] for it in lines]
+            except KeyError:
+                pass
+        return [self._fate_of(it.partition(" ")[2]) for it in lines]
+
+    def _fate_of(self, text: str) -> Fate:
+        """The fate that the text of a line tells, behind its row."""
+        found = self._known.get(text)
+        if found is None:
+            if len(self._known) > KNOWN:
+                self._known.clear()
+            found = self._known[text] = self._fate(text)
+        return found
 
     def _fate(self, text: str) -> Fate:
-        """The fate that the text of a line tells, behind its row."""
+        """Reads it."""
         word, _, rest = text.partition(" ")
         if word in ("state", "new", "pass", "skip"):
             return Fate(word, True, False, False, text)
+        if word in ("proxy", "cookie"):
+            return Fate(word, False, False, False, text, is_taken=True)
         if word.startswith("kill:"):
             _, overload, killed = rest.split(" ")
             return Fate(word, False, False, False, text, int(killed.partition("=")[2]), overload.partition("=")[2])

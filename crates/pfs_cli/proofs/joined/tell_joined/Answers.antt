@@ -1,5 +1,5 @@
--- Answers of tell_joined: what is written is that of the two parts of the joined text (`tells`), or its rules
--- are refused (`refuses`, `kinds`).
+-- Answers of tell_joined: what is written is that of the two parts of the joined text (`tells`), and so is the tally (`tallies`), or its
+-- rules are refused (`refuses`, `kinds`).
 use Rattle.std.proofs.Common.{◌≡◌, Some, ℕ, List, [], Option, refl}
 use Rattle.std.specs.Io.Buffered.{reader_remaining, reader_buffer, reader_inner, reader_capacity}
 use Rattle.std.specs.declared.io.buffered.BufReader.{BufReader}
@@ -28,3 +28,12 @@ returns-in-Err-clause-refuses g c xs e =
 
 pub returns-in-Err-clause-kinds : goal.returns-in-Err-clause-kinds
 returns-in-Err-clause-kinds g c = refuses-halt c.in-Ok-read_joined.text.items c.in-Err.fault c.in-Err.ensures.err
+
+pub returns-in-Ok-load_config-clause-tallies : goal.returns-in-Ok-load_config-clause-tallies
+returns-in-Ok-load_config-clause-tallies g c xs e =
+    let start = fresh_holds g.S.Read.remaining c.in-Ok.reader _ xs c.in-Ok.ensures.inner c.in-Ok.ensures.empty c.in-Ok.ensures.capacity e in
+    let conf = c.in-Ok-load_config.config in
+    let known = kept-reads c.in-Ok-read_joined.text.items (split_joined xs).0 conf (c.in-Ok-read_joined.ensures.rules xs start) c.in-Ok-load_config.ensures.ok in
+    let trace = c.in-Ok-read_joined.ensures.trace xs start c.in-Ok-load_config.ensures.ok.short in
+    let (t, grown, is) = c.write_report.ensures.tallies (split_joined xs).1 trace in
+    (t, grown, (conf, known, is))

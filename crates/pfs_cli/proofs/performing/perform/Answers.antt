@@ -1,4 +1,4 @@
--- Answers of perform: a job `Replay` writes what replay reports (`performs`); each job reports its own rules refused
+-- Answers of perform: a job `Replay` writes what replay reports (`performs`) and has its tally (`work`); each job reports its own rules refused
 -- (`refused`), and what `check` and `print` leave is one record.
 use Rattle.std.proofs.Common.{inl, refl}
 use Rattle.pfs_cli.proofs.performing.perform.Goals as goal
@@ -6,6 +6,9 @@ use Rattle.pfs_cli.proofs.performing.perform.Goals as goal
 pub returns-in-Replay-clause-performs : goal.returns-in-Replay-clause-performs
 returns-in-Replay-clause-performs g c rs ts er et =
     rw c.in-Replay.is (c.replay.ensures.reports rs ts er (rw c.in-Replay.is at et))
+
+pub returns-in-Joined-clause-performs : goal.returns-in-Joined-clause-performs
+returns-in-Joined-clause-performs g c rs ts er et = rw c.in-Joined.is (c.replay_joined.ensures.reports rs er)
 
 pub returns-in-Joined-clause-refused : goal.returns-in-Joined-clause-refused
 returns-in-Joined-clause-refused g c rs f er is = rw c.in-Joined.is (c.replay_joined.ensures.refused rs f er is)
@@ -90,3 +93,15 @@ returns-in-Check-clause-flushes g c = c.check.ensures.tells.flushes
 
 pub returns-in-Show-clause-flushes : goal.returns-in-Show-clause-flushes
 returns-in-Show-clause-flushes g c = c.print.ensures.tells.flushes
+
+pub returns-in-Joined-clause-work : goal.returns-in-Joined-clause-work
+returns-in-Joined-clause-work g c rs ts er et = rw c.in-Joined.is (c.replay_joined.ensures.work rs er)
+
+pub returns-in-Replay-clause-work : goal.returns-in-Replay-clause-work
+returns-in-Replay-clause-work g c rs ts er et = rw c.in-Replay.is (c.replay.ensures.work rs ts er (rw c.in-Replay.is at et))
+
+pub returns-in-Check-clause-work : goal.returns-in-Check-clause-work
+returns-in-Check-clause-work g c rs ts er et = let (t, grown, answers) = c.check.ensures.tells.answers rs er in rw c.in-Check.is (t, grown, c.none.ensures)
+
+pub returns-in-Show-clause-work : goal.returns-in-Show-clause-work
+returns-in-Show-clause-work g c rs ts er et = let (t, grown, answers) = c.print.ensures.tells.answers rs er in rw c.in-Show.is (t, grown, c.none.ensures)

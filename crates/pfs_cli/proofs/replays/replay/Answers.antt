@@ -1,8 +1,8 @@
--- Answers of replay: the report, also of refused rules (`reports`), their fault (`refused`, `rules_alone`), a feed that gives no more (`read`,
+-- Answers of replay: the report, also of refused rules (`reports`), and its tally (`work`), their fault (`refused`, `rules_alone`), a feed that gives no more (`read`,
 -- `endless`, `memory`, `waits`), and what is flushed (`shows`).
 use Rattle.std.proofs.Common.{◌≡◌, ◌<◌, [], arith, refl, inr}
 use Rattle.pfs_cli.specs.declared.faults.ReplayFault.TheVariants as fault
-use Rattle.pfs_cli.proofs.Replaying.{lent-gives, rules-cut, text-refused, told-refused}
+use Rattle.pfs_cli.proofs.Replaying.{cut-tally, lent-gives, refused-tally, rules-cut, run-tally, text-refused, told-refused}
 use Rattle.pfs_cli.proofs.Telling.{Appends-nothing, Appends-kept}
 use Rattle.pfs_cli.proofs.Checking.{unwritten-shows}
 use Rattle.pfs_streams.proofs.Flushing.{then-flushed, unwritten-flushed}
@@ -68,3 +68,16 @@ returns-in-Err-read-clause-flushes g c = unwritten-flushed c.args.out.now
 pub returns-clause-flushes : goal.returns-clause-flushes
 returns-clause-flushes g c =
     then-flushed c.args.out.now c.write_report-outcome.new.out c.finish.new.out c.write_report-outcome.ensures.flushes c.finish.ensures.flushes
+
+pub returns-in-Err-clause-work : goal.returns-in-Err-clause-work
+returns-in-Err-clause-work g c rs ts er et = ([], Appends-nothing _, refused-tally rs ts c.in-Err.fault _ (c.in-Err.ensures.err rs er) c.none.ensures)
+
+pub returns-in-Err-read-clause-work : goal.returns-in-Err-read-clause-work
+returns-in-Err-read-clause-work g c rs ts er et = ([], Appends-nothing _, cut-tally rs ts c.feed_fault.result _ c.feed_fault.ensures.kinds c.none.ensures)
+
+pub returns-clause-work : goal.returns-clause-work
+returns-clause-work g c rs ts er et =
+    let conf = c.in-Ok.config in
+    let given = lent-gives ts _ _ _ _ _ et c.in-Ok-read.ensures.bytes.0 (c.lend.ensures.bytes g.T.Read.remaining) c.chain-lent.ensures.bytes in
+    let (t, grown, is) = c.write_report-outcome.ensures.tallies ts given in
+    (t, Appends-kept _ _ _ t grown c.finish.ensures.kept, run-tally conf rs ts t _ c.finish.result _ (c.in-Ok.ensures.ok rs er) c.finish.ensures.answers is)

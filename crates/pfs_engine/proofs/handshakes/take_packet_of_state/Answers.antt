@@ -40,7 +40,7 @@ complete_handshake-requires-clause-room g c =
     (subst (λ (v : HeldView _). HasRoomFor (tables_held v) (options_of was.config t.rule.0).overload) (sym c.held.view_is) (room done))
 
 pub returns-clause-answered : goal.returns-clause-answered
-returns-clause-answered g c =
+returns-clause-answered g c = λ cookie.
     let inside = c.held.inside in
     let w = g.S.Store.world inside.store in
     let store_conf = g.S.Store.config inside.store in
@@ -50,9 +50,9 @@ returns-clause-answered g c =
     let same = opened was c.make_room.new.held inside.config inside.store w inside.tables c.held.view_is c.in_ok-make_room.ensures.same in
     let m = held_of w inside.tables.entries in
     let found = subst (λ (h : Held). option_map state_number (state_with (key_of p) h.world) ≡ Some c.args.found.number) (sym same.1) c.requires.found.number in
-    let told = told_after inside.config store_conf m (g.S.Store.world t.new.self) p c.args.now c.args.found.number t.result c.held.invariant.store found t.ensures.world t.ensures.answer in
+    let told = told_after inside.config store_conf m (g.S.Store.world t.new.self) p cookie c.args.now c.args.found.number t.result c.held.invariant.store found t.ensures.world t.ensures.answer in
     record {
-      ok = c.complete_handshake.ensures.told.told ∙ (told ∙ (λ i. answer_of_key (same.0 i) (same.1 i) p c.args.now));
+      ok = c.complete_handshake.ensures.told.told ∙ (told ∙ (λ i. answer_of_key (same.0 i) (same.1 i) p cookie c.args.now));
       err = tt;
       config = c.complete_handshake.ensures.told.config ∙ same.0;
     }

@@ -1,13 +1,13 @@
--- Answers of answer: what it meets is kept (`kept`); and what the meters show where the rules decide (`meters`).
-use Rattle.std.proofs.Common.{◌≡◌, ◌∙◌, None, IfOk, ap, subst, sym}
+-- Answers of answer: what it meets is kept (`kept`); what comes of a packet of a held state, whether it brings a cookie or not; and what the
+-- meters show where the rules decide (`meters`).
+use Rattle.std.proofs.Common.{◌≡◌, ◌∙◌, None, IfOk, OnErr, ap, subst, sym}
 use Rattle.std.specs.Prelude.{option_map}
 use Rattle.pfs_addr_values.specs.Keys.{key_of}
 use Rattle.pfs_conf_values.specs.Configs.{Conf}
-use Rattle.pfs_store_contract.specs.Calls.{state_number}
 use Rattle.pfs_store_contract.specs.Worlds.{state_with}
 use Rattle.pfs_engine_machine.specs.Kept.{IsKept}
 use Rattle.pfs_engine_machine.specs.Looks.{AreLooks}
-use Rattle.pfs_engine_machine.specs.Machine.{Held, held_for}
+use Rattle.pfs_engine_machine.specs.Machine.{Held, answer_of_key, held_for}
 use Rattle.pfs_engine_machine.specs.Visits.{AreVisits}
 use Rattle.pfs_engine_machine.proofs.Reopening.{kept_met}
 use Rattle.pfs_engine.proofs.Metering.{meters_by_rules, none_found}
@@ -20,6 +20,22 @@ take_packet_of_state-requires-clause-kept g c =
     subst (λ (k : Conf). IsKept k c.meet.new.held.held c.args.now) (sym same.config)
     (subst (λ (h : Held). IsKept was.config h c.args.now) (sym same.held) (kept_met was.config was.held c.args.packet.now c.args.now c.requires.kept))
 
+pub returns-in-Some-clause-answered : goal.returns-in-Some-clause-answered
+returns-in-Some-clause-answered g c =
+    let was = c.args.held.now in
+    let p = c.args.packet.now in
+    let found = held_for was.config was.held p c.args.now in
+    let same = c.meet.ensures.held in
+    let r = c.take_packet_of_state.result in
+    let after = c.take_packet_of_state.new.held.held in
+    let a = c.take_packet_of_state.ensures.answered c.args.cookie in
+    record {
+      ok = subst (λ (k : Conf). IfOk r (λ o. (o, after) ≡ answer_of_key k found p c.args.cookie c.args.now)) same.config
+          (subst (λ (h : Held). IfOk r (λ o. (o, after) ≡ answer_of_key c.meet.new.held.config h p c.args.cookie c.args.now)) same.held a.ok);
+      err = subst (λ (h : Held). OnErr r (after ≡ h)) same.held a.err;
+      config = a.config ∙ same.config;
+    }
+
 pub returns-in-None-clause-meters : goal.returns-in-None-clause-meters
 returns-in-None-clause-meters g c =
     let was = c.args.held.now in
@@ -28,7 +44,7 @@ returns-in-None-clause-meters g c =
     let same = c.meet.ensures.held in
     let none = none_found (state_with (key_of p) c.meet.new.held.held.world) (sym c.meet.ensures.number ∙ ap (option_map _) c.in-None.is) in
     let none_met = subst (λ (h : Held). state_with (key_of p) h.world ≡ None) same.held none in
-    let visits = subst (λ (h : Held). AreVisits was.config h p None c.by_rules.new.visits) same.held
-    (subst (λ (k : Conf). AreVisits k c.meet.new.held.held p None c.by_rules.new.visits) same.config c.by_rules.ensures.visits) in
+    let visits = subst (λ (h : Held). AreVisits was.config h p c.args.cookie None c.by_rules.new.visits) same.held
+    (subst (λ (k : Conf). AreVisits k c.meet.new.held.held p c.args.cookie None c.by_rules.new.visits) same.config c.by_rules.ensures.visits) in
     let no_looks = subst (λ (k : Conf). IfOk c.by_rules.result (λ o. AreLooks k 0 o 0)) same.config c.by_rules.ensures.no_looks in
-    meters_by_rules g.S.Store.counts was.config was.held found p c.by_rules.result c.meet.new.looks c.by_rules.new.visits none_met visits c.meet.ensures.looks no_looks
+    meters_by_rules g.S.Store.counts was.config was.held found p c.args.cookie c.by_rules.result c.meet.new.looks c.by_rules.new.visits none_met visits c.meet.ensures.looks no_looks

@@ -1,6 +1,6 @@
 -- Answer of Draft::finish: a draft that keeps the load rules of the whole text is a configuration.
 use Rattle.std.proofs.Common.{◌∙◌, ap}
-use Rattle.pfs_conf_settings.specs.Drafts.{Drafted, const_overload, has_broken_pair, has_too_many_entries, has_too_many_tables}
+use Rattle.pfs_conf_settings.specs.Drafts.{Drafted, const_overload, has_broken_pair, has_too_many_entries, has_too_many_tables, has_unprofiled_cookies, unprofiled}
 use Rattle.pfs_conf_settings.proofs.FinishLaws.{IsConfig_finished}
 use Rattle.pfs_conf_settings.proofs.drafts.Draft.finish.Goals as goal
 
@@ -9,6 +9,7 @@ of_parts-requires c =
     let tables = c.into_tables-tables.ensures.value in
     let draft : Drafted = record {
       profile = c.self.inside.profile;
+      syncookies = c.self.inside.syncookies;
       limits = c.self.inside.limits;
       timeouts = c.self.inside.timeouts;
       tables = c.self.inside.tables.tables;
@@ -20,4 +21,6 @@ of_parts-requires c =
     (ap has_broken_pair c.self.view_is ∙ c.requires.pair)
     (ap const_overload c.self.view_is ∙ c.requires.overloads)
     (ap has_too_many_tables c.self.view_is ∙ c.requires.tables)
+    (ap has_unprofiled_cookies c.self.view_is ∙ c.requires.cookies)
+    (ap unprofiled c.self.view_is ∙ c.requires.profile)
     (ap has_too_many_entries c.self.view_is ∙ c.requires.entries))

@@ -9,11 +9,11 @@ pub invariant_of-self : goal.invariant_of-self
 invariant_of-self g c =
     let inside = c.self.inside in
     let later : ForSome inside.last (λ m. m ≤ c.args.now) = λ m e. c.requires.order m (sym (ap (λ (v : View). v.machine.last) c.self.view_is) ∙ e) in
-    subst (λ (n : ℕ). IsWhole c.purge_due-self-inside.new.self.config (machine_at c.purge_due-self-inside.new.self.held (Some n) (Some c.args.now)) inside.taken) (sym c.unwrap_or.ensures)
-    (whole_advanced inside.held c.purge_due-self-inside.new.self inside.first inside.last inside.taken c.args.now later c.requires.moment c.self.invariant c.purge_due-self-inside.ensures.held)
+    subst (λ (n : ℕ). IsWhole c.pass_due-self-inside.new.held.config (machine_at c.pass_due-self-inside.new.held.held c.pass_due-self-inside.new.guard (Some n) (Some c.args.now)) inside.taken) (sym c.unwrap_or.ensures)
+    (whole_advanced inside.held c.pass_due-self-inside.new.held inside.guard c.pass_due-self-inside.new.guard inside.first inside.last inside.taken c.args.now later c.requires.moment c.self.invariant c.pass_due-self-inside.ensures.held)
 
 pub returns-clause-limits : goal.returns-clause-limits
 returns-clause-limits g c =
     let inside = c.self.inside in
     let later : ForSome inside.last (λ m. m ≤ c.args.now) = λ m e. c.requires.order m (sym (ap (λ (v : View). v.machine.last) c.self.view_is) ∙ e) in
-    (whole_advanced inside.held c.purge_due-self-inside.new.self inside.first inside.last inside.taken c.args.now later c.requires.moment c.self.invariant c.purge_due-self-inside.ensures.held).kept.limits
+    (whole_advanced inside.held c.pass_due-self-inside.new.held inside.guard c.pass_due-self-inside.new.guard inside.first inside.last inside.taken c.args.now later c.requires.moment c.self.invariant c.pass_due-self-inside.ensures.held).kept.limits

@@ -1,44 +1,51 @@
 -- Answers of Engine::take: what an engine keeps, and its clauses `answered`, `limited` and `free`.
-use Rattle.std.proofs.Common.{◌<◌, ℕ, ap, arith, subst, sym}
+use Rattle.std.proofs.Common.{◌<◌, ℕ, IsOk, ap, arith, subst, sym}
 use Rattle.pfs_addr_values.specs.Packets.{run_limit}
 use Rattle.pfs_engine_machine.specs.Kept.{moment_of}
-use Rattle.pfs_engine_machine.specs.Machine.{held_for}
-use Rattle.pfs_engine.specs.Packets.{NeedsNoneOf}
+use Rattle.pfs_engine_machine.specs.Refusals.{IsFree}
+use Rattle.pfs_engine.specs.Calls.{answer_at_last, met_held}
+use Rattle.pfs_engine.specs.Packets.{NeedsNoneBehindGuard}
 use Rattle.pfs_engine.specs.Views.{View}
-use Rattle.pfs_engine.proofs.Free.{needs_none}
-use Rattle.pfs_engine.proofs.Keeping.{answered_by, limited, whole_packet}
+use Rattle.pfs_engine.proofs.Free.{needs_none_behind_guard}
+use Rattle.pfs_engine.proofs.Keeping.{answered_by, limited, taken_at_last, whole_packet}
 use Rattle.pfs_engine.proofs.engine.Engine.take.Goals as goal
 
 pub invariant_of-self : goal.invariant_of-self
 invariant_of-self g c =
     let inside = c.self.inside in
+    let a = c.answer_behind_guard-outcome in
     let room : inside.taken < run_limit = omega (arith, ap (λ (v : View). v.taken) c.self.view_is, c.requires.room) in
-    whole_packet inside.held c.answer-outcome.new.held inside.first inside.last inside.taken _ c.unwrap_or-now.result c.args.packet.now c.answer-outcome.result c.unwrap_or-now.ensures room c.self.invariant c.answer-outcome.ensures.answered c.taken_after-self-inside.ensures
+    let told = taken_at_last inside.held a.new.held inside.guard a.new.guard inside.last c.unwrap_or-now.result c.args.packet.now a.result c.unwrap_or-now.ensures
+    (record { answered = a.ensures.answered; guard = a.ensures.guard; refused = a.ensures.refused; free = a.ensures.free }) in
+    whole_packet inside.held a.new.held inside.guard a.new.guard inside.first inside.last inside.taken _ c.args.packet.now a.result room c.self.invariant told c.taken_after-self-inside.ensures
 
 pub returns-clause-answered : goal.returns-clause-answered
 returns-clause-answered g c =
     let inside = c.self.inside in
+    let a = c.answer_behind_guard-outcome in
     let room : inside.taken < run_limit = omega (arith, ap (λ (v : View). v.taken) c.self.view_is, c.requires.room) in
-    let answered = c.answer-outcome.ensures.answered in
+    let told = taken_at_last inside.held a.new.held inside.guard a.new.guard inside.last c.unwrap_or-now.result c.args.packet.now a.result c.unwrap_or-now.ensures
+    (record { answered = a.ensures.answered; guard = a.ensures.guard; refused = a.ensures.refused; free = a.ensures.free }) in
     let taken = c.taken_after-self-inside.ensures in
-    let whole = whole_packet inside.held c.answer-outcome.new.held inside.first inside.last inside.taken _ c.unwrap_or-now.result c.args.packet.now c.answer-outcome.result c.unwrap_or-now.ensures room c.self.invariant answered taken in
-    answered_by inside.held c.answer-outcome.new.held c.args.self.now inside.first inside.last inside.taken _ c.unwrap_or-now.result inside.work _ c.args.packet.now c.answer-outcome.result c.self.view_is c.unwrap_or-now.ensures whole answered taken
+    let whole = whole_packet inside.held a.new.held inside.guard a.new.guard inside.first inside.last inside.taken _ c.args.packet.now a.result room c.self.invariant told taken in
+    answered_by inside.held a.new.held c.args.self.now inside.guard a.new.guard inside.first inside.last inside.taken _ inside.work _ c.args.packet.now a.result c.self.view_is whole told taken
 
 pub returns-clause-limited : goal.returns-clause-limited
 returns-clause-limited g c =
     let inside = c.self.inside in
-    limited inside.held c.answer-outcome.new.held c.args.self.now inside.first inside.last inside.taken _ c.unwrap_or-now.result inside.work _ c.args.packet.now c.answer-outcome.result c.self.view_is c.unwrap_or-now.ensures c.self.invariant c.answer-outcome.ensures.answered c.answer-outcome.ensures.free
+    let a = c.answer_behind_guard-outcome in
+    let told = taken_at_last inside.held a.new.held inside.guard a.new.guard inside.last c.unwrap_or-now.result c.args.packet.now a.result c.unwrap_or-now.ensures
+    (record { answered = a.ensures.answered; guard = a.ensures.guard; refused = a.ensures.refused; free = a.ensures.free }) in
+    limited inside.held a.new.held c.args.self.now inside.guard a.new.guard inside.first inside.last inside.taken _ inside.work _ c.args.packet.now a.result c.self.view_is c.self.invariant told
 
-pub answer-outcome-requires-clause-moment : goal.answer-outcome-requires-clause-moment
-answer-outcome-requires-clause-moment g c = omega (arith, c.unwrap_or-now.ensures, c.self.invariant.early)
+pub answer_behind_guard-outcome-requires-clause-moment : goal.answer_behind_guard-outcome-requires-clause-moment
+answer_behind_guard-outcome-requires-clause-moment g c = omega (arith, c.unwrap_or-now.ensures, c.self.invariant.early)
 
 pub returns-clause-free : goal.returns-clause-free
 returns-clause-free g c =
     let inside = c.self.inside in
     let p = c.args.packet.now in
-    let same_held = ap (λ (v : View). v.machine.held) c.self.view_is in
-    let same_config = ap (λ (v : View). v.config) c.self.view_is in
-    let same_last = ap (λ (v : View). v.machine.last) c.self.view_is in
-    rw (sym same_config, sym same_held, sym same_last) (λ free.
-    c.answer-outcome.ensures.free (subst (λ (n : ℕ). NeedsNoneOf inside.held.config (held_for inside.held.config inside.held.held p n) p) (sym c.unwrap_or-now.ensures)
-    (needs_none inside.held.config (held_for inside.held.config inside.held.held p (moment_of inside.last)) p (moment_of inside.last) free)))
+    let a = c.answer_behind_guard-outcome in
+    subst (λ (v : View). IsFree v.config (met_held v.config v.machine p).world p (answer_at_last v.config v.machine p).0 → IsOk a.result) c.self.view_is (λ free.
+    a.ensures.free (subst (λ (n : ℕ). NeedsNoneBehindGuard inside.held.config inside.guard inside.held.held p n) (sym c.unwrap_or-now.ensures)
+    (needs_none_behind_guard inside.held.config inside.guard inside.held.held p (moment_of inside.last) free)))

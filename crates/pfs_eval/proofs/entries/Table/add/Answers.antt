@@ -8,7 +8,7 @@ use Rattle.pfs_eval.proofs.entries.Table.add.Goals as goal
 
 pub returns-clause-ok : goal.returns-clause-ok
 returns-clause-ok c =
-    let view = ap (λ (s : HeldEntries). s.entries) c.self.view_is in
+    let view = ap (λ (s : HeldEntries). s.entries) c.self.view_is ∙ c.reserve.ensures.entries in
     c.in_ok-insert.ensures.entries
     ∙ inserted-last _ c.prefix.result c.args.addr c.args.bits c.args.mark _ c.prefix.ensures.value c.prefix.ensures.addr c.self.invariant.networks (record { same = λ q h. search rules; self = search rules })
     (ap (λ es. holds_prefix es c.args.addr c.args.bits) view ∙ c.requires.absent)
@@ -16,10 +16,10 @@ returns-clause-ok c =
 
 pub invariant_of-self-2 : goal.invariant_of-self-2
 invariant_of-self-2 c =
-    let view = ap (λ (s : HeldEntries). s.entries) c.self.view_is in
+    let view = ap (λ (s : HeldEntries). s.entries) c.self.view_is ∙ c.reserve.ensures.entries in
     let is =
     c.in_ok-insert.ensures.entries
     ∙ inserted-last _ c.prefix.result c.args.addr c.args.bits c.args.mark _ c.prefix.ensures.value c.prefix.ensures.addr c.self.invariant.networks (record { same = λ q h. search rules; self = search rules })
     (ap (λ es. holds_prefix es c.args.addr c.args.bits) view ∙ c.requires.absent)
     in
-    rw is (kept-added _ c.self.inside.lengths _ c.args.addr c.args.bits (c.width.result - c.args.bits) c.args.mark c.self.invariant c.prefix.ensures.addr c.requires.bits (ap (λ w. w - c.args.bits) c.width.ensures) c.note.ensures.long (record { at = c.note.ensures.noted }))
+    rw is (kept-added _ c.self.inside.lengths _ c.self.inside.bloom c.note-2.new.self c.args.addr c.args.bits (c.width.result - c.args.bits) c.args.mark c.self.invariant c.prefix.ensures.addr c.requires.bits (ap (λ w. w - c.args.bits) c.width.ensures) c.note.ensures.long (record { at = c.note.ensures.noted }) (record { noted = c.note-2.ensures.noted; kept = c.note-2.ensures.kept }))

@@ -39,10 +39,10 @@ write_at-requires-clause-placed g c =
     let rs = c.self.inside.records in
     let h = key-at k c.args.found c.self.inside.records c.args.self.now c.numbers_rise.ensures (ap (λ (x : Holding). x.states) c.self.view_is) (ap (λ (x : Holding). x.records) c.self.view_is) c.requires.held c.requires.reached in
     let q = read-is k c.args.found.place c.read_at-state.result rs h c.read_at-state.ensures.value in
-    write-held k c.args.found.place _ rs h (ap (λ (s : State). s.number) (q) ∙ sym (ap (λ (s : State). s.number) c.stepped-completed.ensures.state))
+    write-held k c.args.found.place _ rs h (ap (λ (s : State). s.number) (q) ∙ sym (ap (λ (s : State). s.number) c.stepped-step.ensures.state))
 
 pub write_at-requires-clause-sourced : goal.write_at-requires-clause-sourced
-write_at-requires-clause-sourced g c = subst IsSourced (sym c.stepped-completed.ensures.state) c.read_at-state.ensures.sourced
+write_at-requires-clause-sourced g c = subst IsSourced (sym c.stepped-step.ensures.state) c.read_at-state.ensures.sourced
 
 pub meet-met-requires-clause-has : goal.meet-met-requires-clause-has
 meet-met-requires-clause-has g c =
@@ -73,9 +73,9 @@ invariant_of-self g c =
     let q = read-is k c.args.found.place c.read_at-state.result rs h c.read_at-state.ensures.value in
     let f = number-found k c.args.found.place s rs h q c.numbers_rise.ensures in
     let w : c.write_at.new.self ≡ map (renewed_record s.number c.args.packet.now c.args.now) c.self.inside.records =
-    c.write_at.ensures.records ∙ written k c.args.found.place c.args.packet.now c.args.now s _ rs h q c.numbers_rise.ensures c.stepped-completed.ensures.state in
+    c.write_at.ensures.records ∙ written k c.args.found.place c.args.packet.now c.args.now s _ rs h q c.numbers_rise.ensures c.stepped-step.ensures.state in
     let m : c.meet-met.new.nodes ≡ map (at_node (node_scope_of c.self.inside.config s.rule.0) s.source (met_by (options_of c.self.inside.config s.rule.0).max_src_conn_rate c.args.now (completes_at c.args.packet.now s))) c.self.inside.nodes =
-    c.meet-met.ensures.nodes ∙ ap (λ b. map (at_node (node_scope_of c.self.inside.config s.rule.0) s.source (met_by (options_of c.self.inside.config s.rule.0).max_src_conn_rate c.args.now b)) c.self.inside.nodes) c.stepped-completed.ensures.completes in
+    c.meet-met.ensures.nodes ∙ ap (λ b. map (at_node (node_scope_of c.self.inside.config s.rule.0) s.source (met_by (options_of c.self.inside.config s.rule.0).max_src_conn_rate c.args.now b)) c.self.inside.nodes) c.stepped-step.ensures.completes in
     rw (w, m)
     (tied-met c.self.inside.config rs c.self.inside.keys c.self.inside.counts.items c.self.inside.nodes c.self.inside.filing s.number c.args.packet.now c.args.now s c.self.invariant c.numbers_rise.ensures f (counts-done s c.args.packet.now))
 
@@ -95,14 +95,14 @@ returns-clause-states g c =
     let h = key-at k c.args.found c.self.inside.records c.args.self.now c.numbers_rise.ensures (ap (λ (x : Holding). x.states) c.self.view_is) (ap (λ (x : Holding). x.records) c.self.view_is) c.requires.held c.requires.reached in
     let q = read-is k c.args.found.place c.read_at-state.result rs h c.read_at-state.ensures.value in
     let w : c.write_at.new.self ≡ map (renewed_record s.number c.args.packet.now c.args.now) c.self.inside.records =
-    c.write_at.ensures.records ∙ written k c.args.found.place c.args.packet.now c.args.now s _ rs h q c.numbers_rise.ensures c.stepped-completed.ensures.state in
+    c.write_at.ensures.records ∙ written k c.args.found.place c.args.packet.now c.args.now s _ rs h q c.numbers_rise.ensures c.stepped-step.ensures.state in
     ap states_of w ∙ states-renewed s.number c.args.packet.now c.args.now rs ∙ ap (λ (x : Holding). map (numbered_state_after s.number c.args.packet.now c.args.now) x.states) c.self.view_is
 
 pub returns-clause-nodes : goal.returns-clause-nodes
 returns-clause-nodes g c =
     let s = c.read_at-state.result in
     let m : c.meet-met.new.nodes ≡ map (at_node (node_scope_of c.self.inside.config s.rule.0) s.source (met_by (options_of c.self.inside.config s.rule.0).max_src_conn_rate c.args.now (completes_at c.args.packet.now s))) c.self.inside.nodes =
-    c.meet-met.ensures.nodes ∙ ap (λ b. map (at_node (node_scope_of c.self.inside.config s.rule.0) s.source (met_by (options_of c.self.inside.config s.rule.0).max_src_conn_rate c.args.now b)) c.self.inside.nodes) c.stepped-completed.ensures.completes in
+    c.meet-met.ensures.nodes ∙ ap (λ b. map (at_node (node_scope_of c.self.inside.config s.rule.0) s.source (met_by (options_of c.self.inside.config s.rule.0).max_src_conn_rate c.args.now b)) c.self.inside.nodes) c.stepped-step.ensures.completes in
     ap nodes_of m ∙ nodes-met c.self.inside.config s c.args.now (completes_at c.args.packet.now s) c.self.inside.nodes
     ∙ ap (λ (x : Holding). nodes_touched x.config x.nodes s c.args.now (completes_at c.args.packet.now s)) c.self.view_is
 
@@ -114,7 +114,7 @@ returns-clause-told g c =
     let rate = (options_of conf s.rule.0).max_src_conn_rate in
     let sc = node_scope_of conf s.rule.0 in
     let m : c.meet-met.new.nodes ≡ map (at_node (node_scope_of c.self.inside.config s.rule.0) s.source (met_by (options_of c.self.inside.config s.rule.0).max_src_conn_rate c.args.now (completes_at c.args.packet.now s))) c.self.inside.nodes =
-    c.meet-met.ensures.nodes ∙ ap (λ b. map (at_node (node_scope_of c.self.inside.config s.rule.0) s.source (met_by (options_of c.self.inside.config s.rule.0).max_src_conn_rate c.args.now b)) c.self.inside.nodes) c.stepped-completed.ensures.completes in
+    c.meet-met.ensures.nodes ∙ ap (λ b. map (at_node (node_scope_of c.self.inside.config s.rule.0) s.source (met_by (options_of c.self.inside.config s.rule.0).max_src_conn_rate c.args.now b)) c.self.inside.nodes) c.stepped-step.ensures.completes in
     let tied = invariant_of-self g c in
     let k = key_of c.args.packet.now in
     let rs = c.self.inside.records in
@@ -123,19 +123,19 @@ returns-clause-told g c =
     let f = number-found k c.args.found.place s rs h q c.numbers_rise.ensures in
     let has : HasTally c.self.inside.config c.self.inside.nodes s =
     all-found state_number (HasTally c.self.inside.config c.self.inside.nodes) s.number s (states_of rs) c.self.invariant.noded f in
-    let here = c.args.asked || c.stepped-completed.result.1 in
+    let here = c.args.asked || c.stepped-step.result.completed in
     let n = c.meet-met.ensures.connections
     ∙ ap (λ x. if here then x else 0) (told-connections conf sc s.source (states_of c.write_at.new.self) c.meet-met.new.nodes tied.counted
     (λ own e. ap (list_any (is_tally own s.source)) m ∙ tally-at own s.source sc s.source (met_by rate c.args.now done) (met-faithful rate c.args.now done) c.self.inside.nodes ∙ has own e)
     ∙ ap (λ xs. connections_in conf s.source xs sc) (returns-clause-states g c)
     ∙ ap (λ (x : Conf). connections_in x s.source (map (numbered_state_after s.number c.args.packet.now c.args.now) c.args.self.now.states) (node_scope_of x s.rule.0)) (ap (λ (x : Holding). x.config) c.self.view_is))
-    ∙ ap (λ b. if c.args.asked || b then connections_in c.args.self.now.config s.source (map (numbered_state_after s.number c.args.packet.now c.args.now) c.args.self.now.states) (node_scope_of c.args.self.now.config s.rule.0) else 0) c.stepped-completed.ensures.completes in
+    ∙ ap (λ b. if c.args.asked || b then connections_in c.args.self.now.config s.source (map (numbered_state_after s.number c.args.packet.now c.args.now) c.args.self.now.states) (node_scope_of c.args.self.now.config s.rule.0) else 0) c.stepped-step.ensures.completes in
     let z = c.meet-met.ensures.score
     ∙ ap (λ (x : Score). if here then x else zero_score) (told-score sc s.source c.meet-met.new.nodes
     ∙ ap (λ ns. score_in s.source ns sc) (returns-clause-nodes g c)
     ∙ ap (λ (x : Conf). score_in s.source (nodes_touched c.args.self.now.config c.args.self.now.nodes s c.args.now (completes_at c.args.packet.now s)) (node_scope_of x s.rule.0)) (ap (λ (x : Holding). x.config) c.self.view_is))
-    ∙ ap (λ b. if c.args.asked || b then score_in s.source (nodes_touched c.args.self.now.config c.args.self.now.nodes s c.args.now (completes_at c.args.packet.now s)) (node_scope_of c.args.self.now.config s.rule.0) else zero_score) c.stepped-completed.ensures.completes in
-    (λ j. record { rule = s.rule; source = s.source; dir = s.dir; completed = c.stepped-completed.ensures.completes j; connections = n j; score = z j })
+    ∙ ap (λ b. if c.args.asked || b then score_in s.source (nodes_touched c.args.self.now.config c.args.self.now.nodes s c.args.now (completes_at c.args.packet.now s)) (node_scope_of c.args.self.now.config s.rule.0) else zero_score) c.stepped-step.ensures.completes in
+    (λ j. record { rule = s.rule; source = s.source; dir = s.dir; completed = c.stepped-step.ensures.completes j; taken = c.stepped-step.ensures.taken j; connections = n j; score = z j })
 
 pub returns-clause-reached : goal.returns-clause-reached
 returns-clause-reached g c =
@@ -145,6 +145,6 @@ returns-clause-reached g c =
     let h = key-at k c.args.found c.self.inside.records c.args.self.now c.numbers_rise.ensures (ap (λ (x : Holding). x.states) c.self.view_is) (ap (λ (x : Holding). x.records) c.self.view_is) c.requires.held c.requires.reached in
     let q = read-is k c.args.found.place s rs h c.read_at-state.ensures.value in
     let w : c.write_at.new.self ≡ map (renewed_record s.number c.args.packet.now c.args.now) c.self.inside.records =
-    c.write_at.ensures.records ∙ written k c.args.found.place c.args.packet.now c.args.now s _ rs h q c.numbers_rise.ensures c.stepped-completed.ensures.state in
+    c.write_at.ensures.records ∙ written k c.args.found.place c.args.packet.now c.args.now s _ rs h q c.numbers_rise.ensures c.stepped-step.ensures.state in
     ap (λ (ps : List Placed). is_reached ps c.args.found) w
     ∙ reached-renewed s.number c.args.packet.now c.args.now c.args.found rs (ap (λ (x : Holding). is_reached x.records c.args.found) c.self.view_is ∙ c.requires.reached)

@@ -1,18 +1,18 @@
 -- Answers of IndexStore's make: a new number is above all others, and the world then is as defined (`ok`).
 use Rattle.std.proofs.Common.{◌≡◌, ◌∙◌, ◌+◌, ◌<◌, ◌++◌, ◌∷◌, [], ap, refl, sym, arith}
 use Rattle.pfs_addr_values.specs.Packets.{run_limit}
-use Rattle.pfs_conf_values.specs.Configs.{Conf, tracks_fully}
-use Rattle.pfs_store_contract.specs.Admission.{world_after_admission, new_state, nodes_with}
+use Rattle.pfs_conf_values.specs.Configs.{Conf}
+use Rattle.pfs_store_contract.specs.Admission.{new_phase, new_state, nodes_with, world_after_admission}
 use Rattle.pfs_store_contract.specs.Counts.{node_scope_of}
 use Rattle.pfs_store_index.specs.Holdings.{Indexed}
 use Rattle.pfs_store_contract.specs.Purging.{node_numbers, state_numbers}
 use Rattle.pfs_store_contract.specs.Worlds.{World, lists}
 use Rattle.pfs_store_contract.specs.declared.records.State.{State}
-use Rattle.pfs_track.specs.StatePhases.{first_phase}
+use Rattle.pfs_track.specs.StatePhases.{is_done}
 use Rattle.pfs_store_records.specs.Sourced.{source_at}
 use Rattle.pfs_store_index.specs.Rounds.{waiting}
 use Rattle.pfs_store_index.specs.Stored.{world_of}
-use Rattle.pfs_store_index.proofs.Comings.{key-sourced}
+use Rattle.pfs_store_index.proofs.Comings.{key-sourced, new-undone}
 use Rattle.pfs_store_index.proofs.Storing.{few-numbered, made-above, stored-came, world-came}
 use Rattle.pfs_store_index.proofs.store.IndexStore.make.Goals as goal
 
@@ -26,13 +26,17 @@ pub put-requires-clause-few : goal.put-requires-clause-few
 put-requires-clause-few g c =
     omega (arith, few-numbered c.self.inside.made c.self.inside.indexes.states c.state_numbers_rise.ensures c.self.invariant.numbered, c.self.invariant.few)
 
+pub put-requires-clause-phase : goal.put-requires-clause-phase
+put-requires-clause-phase g c =
+    ap is_done (c.new_phase.ensures ∙ ap (λ (k : Conf). new_phase k c.args.rule.0 c.args.packet.now c.args.cookie) c.config.ensures) ∙ new-undone c.self.inside.indexes.config c.args.rule.0 c.args.packet.now c.args.cookie
+
 pub put-requires-clause-sourced : goal.put-requires-clause-sourced
 put-requires-clause-sourced g c =
     c.src-source.ensures ∙ key-sourced c.args.packet.now.dir c.args.packet.now ∙ (λ j. source_at (sym c.dir.ensures j) (sym c.of.ensures j))
 
 pub invariant_of-self : goal.invariant_of-self
 invariant_of-self g c =
-    let s : State = record { number = c.self.inside.made + 1; key = c.of.result; dir = c.dir.result; source = c.src-source.result; rule = c.args.rule; phase = c.first.result; last = c.args.now } in
+    let s : State = record { number = c.self.inside.made + 1; key = c.of.result; dir = c.dir.result; source = c.src-source.result; rule = c.args.rule; phase = c.new_phase.result; last = c.args.now } in
     let l : c.self.inside.made < run_limit = omega (arith, ap (λ (p : Indexed). p.world.made) c.self.view_is, c.requires.room) in
     stored-came s c.self.inside.indexes c.put.new.self c.self.inside.states_round.cursor c.self.inside.states_round.mark c.self.inside.nodes_round.cursor c.self.inside.nodes_round.mark c.self.inside.made _ l c.self.invariant refl
     c.in-Ok.ensures.config c.in-Ok.ensures.states c.in-Ok.ensures.nodes
@@ -42,11 +46,11 @@ returns-in-Ok-clause-ok g c =
     let h = c.self.inside.indexes in
     let m = c.self.inside.made in
     let w : World = world_of c.self.inside.indexes c.self.inside.states_round.cursor c.self.inside.states_round.mark c.self.inside.nodes_round.cursor c.self.inside.nodes_round.mark c.self.inside.made in
-    let s : State = record { number = c.self.inside.made + 1; key = c.of.result; dir = c.dir.result; source = c.src-source.result; rule = c.args.rule; phase = c.first.result; last = c.args.now } in
-    let full : c.tracks_fully-full.result ≡ tracks_fully c.self.inside.indexes.config c.args.rule.0 =
-    c.tracks_fully-full.ensures ∙ ap (λ (k : Conf). tracks_fully k c.args.rule.0) c.config.ensures in
-    let q : s ≡ new_state c.self.inside.indexes.config (c.self.inside.made + 1) c.args.packet.now c.args.rule.0 c.args.now =
-    (λ j. record { number = c.self.inside.made + 1; key = c.of.ensures j; dir = c.dir.ensures j; source = c.src-source.ensures j; rule = c.args.rule; phase = (c.first.ensures ∙ (λ i. first_phase (full i) (c.proto.ensures i))) j; last = c.args.now }) in
+    let s : State = record { number = c.self.inside.made + 1; key = c.of.result; dir = c.dir.result; source = c.src-source.result; rule = c.args.rule; phase = c.new_phase.result; last = c.args.now } in
+    let phase : c.new_phase.result ≡ new_phase c.self.inside.indexes.config c.args.rule.0 c.args.packet.now c.args.cookie =
+    c.new_phase.ensures ∙ ap (λ (k : Conf). new_phase k c.args.rule.0 c.args.packet.now c.args.cookie) c.config.ensures in
+    let q : s ≡ new_state c.self.inside.indexes.config (c.self.inside.made + 1) c.args.packet.now c.args.rule.0 c.args.cookie c.args.now =
+    (λ j. record { number = c.self.inside.made + 1; key = c.of.ensures j; dir = c.dir.ensures j; source = c.src-source.ensures j; rule = c.args.rule; phase = phase j; last = c.args.now }) in
     world-came s h c.put.new.self c.self.inside.states_round.cursor c.self.inside.states_round.mark c.self.inside.nodes_round.cursor c.self.inside.nodes_round.mark m _ c.self.invariant refl c.in-Ok.ensures.states c.in-Ok.ensures.nodes
     ∙ ap (λ (x : State). lists (h.states ++ x ∷ []) (nodes_with h.nodes (m + 1) x.source x.last (node_scope_of h.config x.rule.0)) (waiting c.self.inside.states_round.cursor c.self.inside.states_round.mark (state_numbers h.states)) (waiting c.self.inside.nodes_round.cursor c.self.inside.nodes_round.mark (node_numbers h.nodes)) (m + 1)) q
-    ∙ ap (λ (p : Indexed). world_after_admission p.config p.world c.args.packet.now c.args.rule.0 c.args.now) c.self.view_is
+    ∙ ap (λ (p : Indexed). world_after_admission p.config p.world c.args.packet.now c.args.rule.0 c.args.cookie c.args.now) c.self.view_is

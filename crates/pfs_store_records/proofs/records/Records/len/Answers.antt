@@ -6,4 +6,4 @@ use Rattle.pfs_store_records.proofs.records.Records.len.Goals as goal
 
 pub returns : goal.returns
 returns c =
-    c.len.ensures.len ∙ sym (length-held number_in RecordIsAt (record_in c.self.inside.slab) c.self.inside.places.entries c.self.invariant.placed) ∙ ap length c.self.view_is
+    c.len.ensures.len ∙ sym (length-held number_in RecordIsAt (record_in c.self.inside.slab) c.self.inside.places.entries c.self.invariant.kept.placed) ∙ ap length c.self.view_is

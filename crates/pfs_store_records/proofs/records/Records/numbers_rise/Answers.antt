@@ -5,4 +5,4 @@ use Rattle.pfs_store_records.proofs.records.Records.numbers_rise.Goals as goal
 
 pub returns : goal.returns
 returns c =
-    rw (sym c.self.view_is) (rising-states c.self.inside.slab c.self.inside.places.entries c.self.invariant)
+    rw (sym c.self.view_is) (rising-states c.self.inside.slab c.self.inside.places.entries c.self.invariant.kept)

@@ -8,4 +8,4 @@ use Rattle.pfs_store_records.proofs.records.Records.order.Goals as goal
 pub returns-clause-numbers : goal.returns-clause-numbers
 returns-clause-numbers c =
     sym (ap (λ (ps : List Placed). state_numbers (states_of ps)) (sym c.self.view_is)
-    ∙ numbers-keys c.self.inside.slab c.self.inside.places.entries c.self.invariant.placed)
+    ∙ numbers-keys c.self.inside.slab c.self.inside.places.entries c.self.invariant.kept.placed)

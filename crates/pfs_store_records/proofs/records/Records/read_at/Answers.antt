@@ -5,8 +5,8 @@ use Rattle.pfs_store_records.proofs.records.Records.read_at.Goals as goal
 
 pub look-requires-clause-held : goal.look-requires-clause-held
 look-requires-clause-held c =
-    stands c.args.place c.self.inside.slab c.self.inside.places.entries c.self.invariant.placed (rw c.self.view_is c.requires.held)
+    stands c.args.place c.self.inside.slab c.self.inside.places.entries c.self.invariant.kept.placed (rw c.self.view_is c.requires.held)
 
 pub returns-clause-value : goal.returns-clause-value
 returns-clause-value c =
-    rw (sym c.self.view_is, c.state.ensures.value) (records-at c.args.place c.look.result.now c.self.inside.slab c.self.inside.places.entries c.look.ensures.value c.self.invariant.placed)
+    rw (sym c.self.view_is, c.state.ensures.value) (records-at c.args.place c.look.result.now c.self.inside.slab c.self.inside.places.entries c.look.ensures.value c.self.invariant.kept.placed)

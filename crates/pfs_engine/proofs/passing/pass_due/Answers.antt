@@ -1,16 +1,16 @@
--- Answers of purge_due: two slices for each second since the last moment, each within its share (`work`).
+-- Answers of pass_due: two slices for each second since the last moment, each within its share (`work`).
 use Rattle.std.proofs.Common.{arith}
 use Rattle.std.proofs.lemmas.List.FromFn.{length-range_with_len}
 use Rattle.pfs_engine_machine.specs.Shares.{seconds}
 use Rattle.pfs_engine_machine.proofs.Shares.{most_nodes-share, most_states-share}
-use Rattle.pfs_engine.proofs.purges.purge_due.Goals as goal
+use Rattle.pfs_engine.proofs.passing.pass_due.Goals as goal
 
 pub returns-in-Some-clause-work : goal.returns-in-Some-clause-work
 returns-in-Some-clause-work g c =
-    let conf = g.S.Store.config c.args.store.now in
-    let w = g.S.Store.world c.args.store.now in
+    let conf = c.args.held.now.config in
+    let w = c.args.held.now.held.world in
     let due = seconds c.in-Some.last c.args.now in
-    let done = c.purge_each-work.ensures.work in
+    let done = c.pass-work.ensures.work in
     rw c.in-Some.is (record {
       slices = rw length-range_with_len;
       most_states = done.most_states;

@@ -1,0 +1,3 @@
+pub mod CookieLaws
+pub mod Cookies
+pub mod KeyOrders

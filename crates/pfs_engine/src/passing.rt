@@ -1,0 +1,60 @@
+//! Time that passes: the purges that are due, and behind them the turns of the guard's secret.
+
+ghost use Rattle.std.specs.Prelude.{◌≡◌, ◌<◌, ◌≤◌, ◌^◌};
+ghost use Rattle.std.specs.Option.{ForSome};
+ghost use Rattle.pfs_engine_machine.specs.Guards.{guard_after_seconds};
+ghost use Rattle.pfs_engine_machine.specs.Machine.{due, held_of, world_after_purges};
+ghost use Rattle.pfs_engine_machine.specs.Shares.{seconds};
+ghost use Rattle.pfs_engine.specs.Calls.{IsWorkOfSeconds};
+ghost use Rattle.pfs_engine.specs.Held.{Holds};
+ghost use Rattle.pfs_engine.specs.Meters.{IsWorkOfPurges};
+
+use crate::guard::Guard;
+use crate::held::Held;
+use crate::works::Work;
+use pfs_store_contract::Store;
+
+/// All seconds due between the last moment and this one; none before the first event. It takes no memory.
+pub(crate) fn pass_due<S: Store>(
+    guard: &mut Guard,
+    held: &mut Held<S>,
+    last: Option<u64>,
+    now: u64,
+) -> Work
+    requires order { ForSome last (λ m. m ≤ now) }
+    requires moment { now < 2 ^ 32 }
+    ensures held { Holds held.old held.new
+        (held_of (world_after_purges held.old.config held.old.held.world (due last now)) held.old.held.tables) }
+    ensures guard { guard.new ≡ guard_after_seconds held.old.config held.old.held.world guard.old (due last now) }
+    ensures work { IsWorkOfSeconds S.counts held.old.config held.old.held.world (due last now) result }
+{
+    match last {
+        Some(last) => {
+            let work = pass(guard, held, last, now);
+            Work {
+                slices: 2 * (now - last),
+                ..work
+            }
+        }
+        None => Work::none(),
+    }
+}
+
+/// The seconds after one moment up to another, parted at those at which the secret turns; and their greatest slices.
+fn pass<S: Store>(guard: &mut Guard, held: &mut Held<S>, from: u64, to: u64) -> Work
+    requires order { from ≤ to }
+    requires moment { to < 2 ^ 32 }
+    ensures held { Holds held.old held.new
+        (held_of (world_after_purges held.old.config held.old.held.world (seconds from to)) held.old.held.tables) }
+    ensures guard { guard.new ≡ guard_after_seconds held.old.config held.old.held.world guard.old (seconds from to) }
+    ensures work { IsWorkOfPurges S.counts held.old.config held.old.held.world (seconds from to) result }
+{
+    let mut at = from;
+    let mut work = Work::none();
+    while let Some(turn) = guard.next_turn(at, to) {
+        work = Work::greatest(work, held.purge(at, turn));
+        guard.turn(held);
+        at = turn;
+    }
+    Work::greatest(work, held.purge(at, to))
+}
