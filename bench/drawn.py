@@ -73,7 +73,7 @@ def drawn_rules(draw: random.Random) -> str:
         is_tcp = draw.random() < 0.65
         way = draw.choice(["in ", "in ", ""]) + draw.choice(["", "", "", "inet ", "inet6 "])
         parameters = "proto tcp" + draw.choice([" to any port 80", " flags any", ""]) if is_tcp else draw.choice(["proto udp", "proto 47", "all"])
-        state = " no state" if draw.random() < 0.05 else drawn_options(draw, is_tcp, often)
+        state = " no state" if draw.random() < 0.1 else drawn_options(draw, is_tcp, often)
         lines.append(f"pass {way}{parameters}{state}")
     if draw.random() < 0.2:
         lines.append(f"block in proto udp from {draw.choice(SOURCES)}")
@@ -82,8 +82,8 @@ def drawn_rules(draw: random.Random) -> str:
 
 def drawn_profile(draw: random.Random) -> str:
     """The profile of OpenBSD 7.4, mostly with SYN cookies: they go on and off often."""
-    start = draw.randint(1, 100)
-    chosen = draw.choice(["never", "always", "adaptive", f"adaptive (start {start}%, end {draw.randrange(start)}%)"])
+    start = draw.randint(1, 60)
+    chosen = draw.choice(["never", "always", "always", "adaptive", f"adaptive (start {start}%, end {draw.randrange(start)}%)"])
     return f"set profile openbsd-7.4\nset syncookies {chosen}\n"
 
 
