@@ -1,4 +1,5 @@
 -- Answer of admit_first: the first state, or a refusal, leaves no handshake to come (`order`).
+use Rattle.std.proofs.Common.{false}
 use Rattle.pfs_store_contract.proofs.MomentLaws.{world_at-up_to_now}
 use Rattle.pfs_tests_memory.proofs.stores.admit_first.Goals as goal
 
