@@ -1,9 +1,15 @@
-"""The texts of cases/pf_conf, one for a kind of site: each construct comes whole or is told, and no rule comes out wider.
+"""The texts of cases/pf_conf, one for a kind of site: each construct comes whole or is told, and no rule comes out
+wider.
 
-A plain reader, which shares nothing with pfplan's, splits a text into statements: macros put in, continued lines joined,
-lists kept together. It writes the combinations that a rule stands for. Each must be one of an item that came of the
+A plain reader, which shares nothing with pfplan's, splits a text into statements: macros put in, continued lines
+joined, lists kept together. It writes the combinations that a rule stands for. Each must be one of an item that came of the
 statement, or what it is made of must be told by the statement's line. So must each other part: a translation, a tag, an
 option of a state. An item may be no other combination, and may lack no part that makes it match less.
+
+A plain reader, which shares nothing with pfplan's, splits a text into statements: macros put in, continued lines
+joined, lists kept together. It writes the combinations that a rule stands for. Each must be one of an item that came of
+the statement, or what it is made of must be told by the statement's line. So must each other part: a translation, a
+tag, an option of a state. An item may be no other combination, and may lack no part that makes it match less.
 
 The test says nothing of which parts a rules text can carry: it holds whether translation is carried or told.
 """
@@ -31,7 +37,7 @@ from pfplan.tests.support import Done
 FOLDER = TOP / "cases/pf_conf"
 IFCONFIG = FOLDER / "ifconfig"
 WORD = re.compile(r'"[^"]*"|->|[!<>=]=|><|<>|<[A-Za-z0-9_.:-]+>|[{}(),=!<>]|[^\s{}(),=!<>"]+')
-TOLD = re.compile(r".*: line (\d+): left out: (.*): (can change an answer \([a-z ]+\)|changes no answer): .*")
+TOLD = re.compile(r".*: line (\d+): left out: (.*): (?:can change an answer \(([a-z ]+)\)|changes no answer): .*")
 COUNT = re.compile(r".*: (\d+) items?; left out: (\d+) that can change an answer, (\d+) that change none")
 OPENED = {"{": 1, "(": 1, "}": -1, ")": -1}
 NUMBERS = {
@@ -73,10 +79,12 @@ Combination = tuple[str, ...]
 
 @dataclass(frozen=True)
 class Statement:
-    """A statement: its line, its words, and what stood before it and gives it a part that it does not write."""
+    """A statement: its line, its words, how many anchors are around it, and what stood before it and gives it a part
+    that it does not write."""
 
     line: int
     words: Words
+    depth: int = 0
     policy: str = "drop"
     defaults: tuple[Words, ...] = ()
 
@@ -87,16 +95,23 @@ class Told:
 
     line: int
     words: Words
-    changes: bool
+    way: str
+
+    @property
+    def changes(self) -> bool:
+        """Whether it is said to change an answer."""
+        return bool(self.way)
 
 
 @dataclass(frozen=True)
 class Answer:
-    """What came of a statement: its items, what is told of its line, and the settings and tables of the whole text."""
+    """What came of a statement: its items, how many anchors are around them, what is told of its line, and the settings
+    and tables of the whole text."""
 
     items: tuple[Words, ...]
     told: tuple[Told, ...]
-    lines: tuple[Words, ...]
+    lines: tuple[Words, ...] = ()
+    depths: frozenset[int] = frozenset()
 
     def is_told(self, words: Words) -> bool:
         """Whether something is told that has these words side by side, and not of an item of a list alone."""
@@ -132,7 +147,8 @@ class Machine:
         if is_dynamic and "0" in modifiers or "network" in modifiers:
             found = [pair for pair in found if not pair[0].is_link_local]
         if "0" in modifiers:
-            found = [next(pair for pair in found if pair[0].version == it) for it in {pair[0].version for pair in found}]
+            versions = {pair[0].version for pair in found}
+            found = [next(pair for pair in found if pair[0].version == it) for it in versions]
         return [pair["network" in modifiers] for pair in found]
 
     def zone(self, network: Network) -> str:
@@ -183,7 +199,7 @@ def statements(text: str) -> list[Statement]:
     macros: dict[str, str] = {}
     found: list[Statement] = []
     open_words: list[str] = []
-    first = 0
+    first, anchors = 0, 0
     for number, raw in enumerate(text.splitlines(), 1):
         line = without_comment(raw).rstrip()
         first = first if open_words else number
@@ -197,14 +213,19 @@ def statements(text: str) -> list[Statement]:
         open_words = []
         if words[1:2] == ("=",):
             macros[words[0]] = " ".join(it.strip('"') for it in words[2:])
-        elif words not in ((), ("}",)):
-            found.append(Statement(first, words[:-1] if words[-1] == "{" and words[0] == "anchor" else words))
+        elif words == ("}",):
+            anchors -= 1
+        elif words:
+            is_opened = words[0] == "anchor" and words[-1] == "{"
+            found.append(Statement(first, words[:-1] if is_opened else words, anchors))
+            anchors += is_opened
     return list(with_settings(found))
 
 
 def with_settings(found: Iterable[Statement]) -> Iterator[Statement]:
     """The statements, each with what `set block-policy` and `set state-defaults` above it give it."""
-    policy, defaults = "drop", ()
+    policy = "drop"
+    defaults: tuple[Words, ...] = ()
     for it in found:
         if it.words[:2] == ("set", "block-policy"):
             policy = it.words[2]
@@ -257,6 +278,7 @@ class Rule:
 
     action: Words
     parts: tuple[Words, ...]
+    is_old: bool = False
 
     def part(self, *kinds: str) -> Words:
         """What stands behind the first word of a part of these kinds; nothing where there is none."""
@@ -288,7 +310,7 @@ def old_rule(words: Words) -> Rule:
     action = "pass" if head[:1] == ["pass"] else "match"
     direction = {"nat": ("out",), "rdr": ("in",), "binat": ("out",)}[kind]
     asked = tuple(head[1:] if action == "pass" else head)
-    return Rule((action,), (direction, *parts_of(asked), (OLD[kind], *words[behind + 1 :])))
+    return Rule((action,), (direction, *parts_of(asked), (OLD[kind], *words[behind + 1 :])), is_old=True)
 
 
 @dataclass(frozen=True)
@@ -299,12 +321,12 @@ class Reader:
     made: dict[str, list[Network]]
 
     def combinations(self, rule: Rule) -> dict[Combination, list[Words]]:
-        """Each combination, with the items of lists that it is made of."""
+        """Each combination, with the items of lists that it is made of: pf has those of the same items in one rule."""
         family = rule.word("inet", "inet6")
-        axes = [
+        axes: list[list[tuple[Words, Combination]]] = [
             [((), (it,)) for it in ([rule.word("in", "out")] if rule.word("in", "out") else ["in", "out"])],
             [(it, (name,)) for it in listed(rule.part("on")) or [()] for name in self.interfaces(it)],
-            [((), (NUMBERS.get(it[0], it[0]) if it else "",)) for it in listed(rule.part("proto")) or [()]],
+            [(it, (NUMBERS.get(it[0], it[0]) if it else "",)) for it in listed(rule.part("proto")) or [()]],
             self.side(rule.part("from"), family),
             self.side(rule.part("to"), family),
         ]
@@ -330,11 +352,16 @@ class Reader:
         return [it for it in self.machine.addresses if it not in members]
 
     def side(self, words: Words, family: str) -> list[tuple[Words, Combination]]:
-        """The hosts and ports of one side: the host's item; its family, the interface that it is on, and both."""
+        """The hosts and ports of one side: their items, where a static name has its address for its own; the family of
+        the host, the interface that it is on, and both."""
         at = words.index("port") if "port" in words else len(words)
-        ports = [it for item in listed(words[at + 1 :]) for it in ranges(item)] or [""]
+        ports = [(item, it) for item in listed(words[at + 1 :]) for it in ranges(item)] or [((), "")]
         hosts = [(item, it) for item in listed(words[:at]) or [("any",)] for it in self.host(item, family)]
-        return [(item, (*host, port)) for item, host in hosts for port in ports]
+        found = []
+        for (item, host), (number, port) in itertools.product(hosts, ports):
+            is_static = item[-1] != ")" and host[-1] != " ".join(item)
+            found.append(((*(host[-1:] if is_static else item), *number), (*host, port)))
+        return found
 
     def host(self, item: Words, family: str) -> list[Combination]:
         """Each address that an item stands for: its family, the interface that it is on where it is link-local and
@@ -342,7 +369,7 @@ class Reader:
         is_negated, text = item[0] == "!", item[-2] if item[-1] == ")" else item[-1]
         if "-" in item:
             ends = [ipaddress.ip_address(it) for it in item[::2]]
-            networks: list[Network] | None = [*ipaddress.summarize_address_range(ends[0], ends[1])]  # type: ignore
+            networks: list[Network] | None = [*ipaddress.summarize_address_range(ends[0], ends[1])]
         elif text.startswith("<"):
             networks = self.made.get(text)
         else:
@@ -366,14 +393,15 @@ class Reader:
         except ValueError:
             return self.machine.networks(text, is_dynamic)
 
-    def pool(self, part: Words) -> tuple[set[str], set[str]]:
-        """The addresses that a translation puts in, and its other words."""
+    def pool(self, part: Words, family: str) -> tuple[set[str], set[str]]:
+        """The addresses of a family that a translation puts in, and its other words."""
         hosts: set[str] = set()
         others: set[str] = set()
         for item in listed(part[1:]):
             networks = None if item[-1].isdecimal() else self.networks(item[-2] if item[-1] == ")" else item[-1], True)
             if networks or item[-1].startswith("<"):
-                hosts.update(map(str, networks or item))
+                fitting = [it for it in networks or () if not family or family_of(it) == family]
+                hosts.update(map(str, fitting or item))
             else:
                 others.update(NUMBERS.get(it, it) for it in item)
         return hosts, others
@@ -406,6 +434,7 @@ class Checker:
         """All that is wrong, or nothing."""
         words = statement.words
         found = list(self.false_words(statement, answer))
+        found += ["in another anchor"] * (not answer.depths <= {statement.depth})
         if answer.is_told_whole(words):
             return found + ["told as left out, and it is there"] * bool(answer.items)
         if words[0] == "set":
@@ -431,6 +460,8 @@ class Checker:
             does = {*TRANSLATIONS, *ELSEWHERE} & {*it.words} or it.words[0] in OLD or it.words[0] == "no"
             if does and not it.changes and "icmp-type" not in it.words and "icmp6-type" not in it.words:
                 yield f"told as changing no answer: {' '.join(it.words)}"
+            if it.words == statement.words and it.changes and it.way not in ways_of(statement.words):
+                yield f"told as changing answers the other way: {it.way}"
 
     def setting(self, statement: Statement, answer: Answer) -> Iterator[str]:
         """What is lost of a setting."""
@@ -498,7 +529,7 @@ class Checker:
         for it in found - wanted.keys():
             yield f"wider: {' '.join(it)}"
         for it in wanted.keys() - found:
-            if not any(item and answer.is_gap(item) for item in wanted[it]):
+            if not any(item[:length] and answer.is_gap(item[:length]) for item in wanted[it] for length in (1, 2, 3)):
                 yield f"lost: {' '.join(it)}"
 
     def rule(self, statement: Statement, answer: Answer) -> Iterator[str]:
@@ -517,6 +548,11 @@ class Checker:
             for it in items:
                 yield from self.part(part, it, answer)
         yield from self.more_parts(statement, rule, items)
+        if counts(statement.words):
+            wanted = self.reader.combinations(rule)
+            one = [{tuple(wanted.get(key, ())) for key in self.reader.combinations(it)} for it in items]
+            if any(first & second for first, second in itertools.combinations(one, 2)):
+                yield "several rules that count apart"
 
     def compared_both_ways(self, rule: Rule, answer: Answer, items: list[Rule]) -> Iterator[str]:
         """As `compared`. A rule with binat-to stands for packets out, and for those in to the address that it puts in;
@@ -529,12 +565,12 @@ class Checker:
         back = [("in",), ("from", *(rule.part("to") or ("any",))), ("to", *pool)]
         kept = [it for it in rule.parts if kind_of(it) not in ("in", "out", "all", "from", "to", "binat-to")]
         turned = self.reader.combinations(Rule(rule.action, (*back, *kept)))
-        outward = [it for it in items if it.word("in", "out") != "in" or not it.part("rdr-to")]
-        is_told = answer.is_told(("binat-to",))
-        out = {key: it for key, it in wanted.items() if key[0] == "out" or not is_told}
-        yield from self.compared(out, answer, outward)
-        for it in {key for item in items if item not in outward for key in self.reader.combinations(item)} - {*turned}:
-            yield f"wider: {' '.join(it)}"
+        inward = [it for it in items if it.word("in", "out") == "in" and it.part("rdr-to")]
+        if inward or answer.is_told(("binat-to",)):
+            wanted = {key: it for key, it in wanted.items() if key[0] == "out"}
+        yield from self.compared(wanted, answer, [it for it in items if it not in inward])
+        if inward:
+            yield from self.compared(turned, answer, inward)
 
     def part(self, part: Words, item: Rule, answer: Answer) -> Iterator[str]:
         """Whether an item lacks a part that is not told, or one without which it is wider."""
@@ -556,12 +592,14 @@ class Checker:
         if answer.is_told(part):
             return
         kinds = ("binat-to", "nat-to", "rdr-to") if part[0] == "binat-to" else part[:1]
-        hosts, others = self.reader.pool(part)
+        families = {it[3] for it in self.reader.combinations(item)}
+        family = part[1] if kind_of(part) == "af-to" else "".join(families) if len(families) == 1 else ""
+        hosts, others = self.reader.pool(part, family)
         there = next((it for it in item.parts if it[0] in kinds), ())
         if not there:
             yield f"lost: {' '.join(part)}"
             return
-        hosts_there, others_there = self.reader.pool(there)
+        hosts_there, others_there = self.reader.pool(there, family)
         if there[0] == part[0] and hosts_there != hosts:
             yield f"translated to other addresses: {' '.join(there)}"
         for it in others - others_there:
@@ -578,12 +616,31 @@ class Checker:
             for part in it.others():
                 kind = kind_of(part)
                 is_state = kind in ("keep", "synproxy") and (has_state or given)
-                if not is_state and part not in rule.parts and kind not in TRANSLATIONS:
+                is_quick = kind == "quick" and rule.is_old and rule.action == ("pass",)
+                if not is_state and part not in rule.parts and kind not in TRANSLATIONS and not is_quick:
                     yield f"more: {' '.join(part)}"
                 if is_state and not {*options_of(part)} <= given:
                     yield f"more: {' '.join(part)}"
             if not has_state and given and not {*statement.defaults} <= {*options_of(("keep", *it.part("keep")))}:
                 yield "lost: set state-defaults"
+
+
+def ways_of(words: Words) -> set[str]:
+    """The ways in which pf can answer otherwise than without a statement."""
+    if words[0] in ("block", "antispoof"):
+        return {"pf blocks more"}
+    if words[0] == "pass" and not counts(words) or words[0] in OLD and words[1] == "pass":
+        return {"pf passes more"}
+    if "reassemble" in words:
+        return {"pf blocks more"}
+    if words[0] in ("match", "no", *OLD):
+        return {"pf makes other states"}
+    return {"pf may block or pass more", "pf makes other states"}
+
+
+def counts(words: Words) -> bool:
+    """Whether a rule counts its states or sources, so that two in its place would count apart."""
+    return any(it == "max" or it.startswith("max-src-") for it in words)
 
 
 def options_of(part: Words) -> list[Words]:
@@ -629,7 +686,10 @@ def answers(name: str, words: Words) -> tuple[Checker, list[tuple[Statement, Ans
     done = called(name, "--json", *words)
     made = json.loads(done.out)
     lines = [words_of(it) for it in made["rules"].splitlines() if not it.startswith("#")]
-    items = [it for it in lines if it[0] not in ("set", "table", "}")]
+    anchors = [*itertools.accumulate((it[-1] == "{") - (it == ("}",)) for it in lines)]
+    items, depths = zip(
+        *((it, depth - (it[-1] == "{")) for it, depth in zip(lines, anchors) if it[0] not in ("set", "table", "}"))
+    )
     told = [told_of(it) for it in done.err.splitlines()[:-1] if not it.startswith("note: ")]
     origins = [it["line"] for it in made["items"]]
     found = [
@@ -639,6 +699,7 @@ def answers(name: str, words: Words) -> tuple[Checker, list[tuple[Statement, Ans
                 tuple(item for item, line in zip(items, origins, strict=True) if line == it.line),
                 tuple(one for one in told if one.line == it.line),
                 tuple(line for line in lines if line[0] in ("set", "table")),
+                frozenset(depth for depth, line in zip(depths, origins, strict=True) if line == it.line),
             ),
         )
         for it in statements((FOLDER / name).read_text("utf-8"))
@@ -646,7 +707,9 @@ def answers(name: str, words: Words) -> tuple[Checker, list[tuple[Statement, Ans
     own = {it.words[1] for it, _ in found if it.words[0] == "table"}
     own |= {word for it, _ in found for word in it.words if word.startswith("<")}
     tables = {it[1]: it for it in lines if it[0] == "table" and it[1] not in own}
-    networks = {it: [ipaddress.ip_network(one[0]) for one in listed(line[line.index("{") :])] for it, line in tables.items()}
+    networks = {
+        it: [ipaddress.ip_network(one[0]) for one in listed(line[line.index("{") :])] for it, line in tables.items()
+    }
     machine = read_machine(IFCONFIG.read_text("utf-8")) if "--ifconfig" in words else Machine()
     return Checker(Reader(machine, networks)), found
 
@@ -657,11 +720,14 @@ def told_of(line: str) -> Told:
     if found is None:
         raise AssertionError(f"a line of no form that is known: {line}")
     said = words_of(found[2])
-    return Told(int(found[1]), said[:-3] if said[-3:] == ("{", "..", "}") else said, found[3] != "changes no answer")
+    return Told(int(found[1]), said[:-3] if said[-3:] == ("{", "..", "}") else said, found[3] or "")
 
 
-def wrong_answers(answer: Answer) -> Iterator[tuple[str, Answer]]:
-    """Answers with one thing wrong: what is told, an item, a part of one, an option, an entry, or a setting is lost."""
+def wrong_answers(answer: Answer, reader: Reader) -> Iterator[tuple[str, Answer]]:
+    """Answers with one thing wrong: what is told, an item, a part of one, an option or an anchor is lost, or a rule
+    that counts is several."""
+    if answer.items:
+        yield "another anchor", replace(answer, depths=frozenset((7,)))
     for at, one in enumerate(answer.told):
         yield f"not told: {' '.join(one.words)}", replace(answer, told=without(answer.told, at))
     for at, item in enumerate(answer.items):
@@ -669,6 +735,19 @@ def wrong_answers(answer: Answer) -> Iterator[tuple[str, Answer]]:
         for wrong in wrong_items(item):
             changed = (*answer.items[:at], wrong, *answer.items[at + 1 :])
             yield f"item: {' '.join(wrong)}", replace(answer, items=changed)
+        split = [*split_items(item, reader)] if counts(item) else []
+        if len(split) > 1:
+            changed = (*answer.items[:at], *split, *answer.items[at + 1 :])
+            yield f"several items: {' '.join(item)}", replace(answer, items=changed)
+
+
+def split_items(item: Words, reader: Reader) -> Iterator[Words]:
+    """The items, one for each address, that match what one item with a table in place of an interface does."""
+    table = next((it for it in item if it in reader.made), "")
+    for one in reader.made.get(table, []):
+        made = tuple(str(one) if it == table else it for it in item)
+        if reader.combinations(read_rule(made)):
+            yield made
 
 
 def wrong_items(item: Words) -> Iterator[Words]:
@@ -703,6 +782,61 @@ def without(values: tuple[T, ...], at: int) -> tuple[T, ...]:
     return values[:at] + values[at + 1 :]
 
 
+# a statement of a site with --ifconfig, what a pfplan that carries translation may make of it, and what it tells
+CARRIED = (
+    ("match out on em0 inet from em1:network nat-to (em0:0)",
+     ("match out on em0 inet from 192.168.1.0/24 to any nat-to 203.0.113.2",), ()),
+    ("pass in on em0 inet proto tcp to (em0) port { http https } rdr-to <web> round-robin sticky-address",
+     ("pass in on em0 inet proto tcp from any to 203.0.113.2 port = 80 rdr-to <web> round-robin",
+      "pass in on em0 inet proto tcp from any to 203.0.113.2 port = 443 rdr-to <web> round-robin"),
+     ("sticky-address",)),
+    ("pass on em0 inet from 192.168.2.80 to any binat-to 203.0.113.5",
+     ("pass out on em0 inet from 192.168.2.80 to any nat-to 203.0.113.5 static-port",
+      "pass in on em0 inet from any to 203.0.113.5 rdr-to 192.168.2.80"), ()),
+    ("pass on em0 inet from 192.168.2.80 to any binat-to 203.0.113.5",
+     ("pass on em0 inet from 192.168.2.80 to any binat-to 203.0.113.5",), ()),
+    ("pass in on em1 inet6 to 64:ff9b::/96 af-to inet from { 203.0.113.12 203.0.113.13 }",
+     ("pass in on em1 inet6 from any to 64:ff9b::/96 af-to inet from { 203.0.113.12, 203.0.113.13 }",), ()),
+    ("nat on fxp0 inet from fxp1:network to any -> (fxp0)",
+     ("match out on fxp0 inet from 10.1.0.0/16 to any nat-to 192.0.2.2",), ()),
+    ("rdr on fxp0 inet proto tcp from any to (fxp0) port 80 -> 10.2.0.80 port 8080",
+     ("match in on fxp0 inet proto tcp from any to 192.0.2.2 port = 80 rdr-to 10.2.0.80 port 8080",), ()),
+    ("rdr pass on fxp0 inet proto tcp from any to (fxp0) port 80 -> 10.2.0.80",
+     ("pass in quick on fxp0 inet proto tcp from any to 192.0.2.2 port = 80 rdr-to 10.2.0.80",), ()),
+    ("rdr pass on fxp0 inet proto tcp from any to (fxp0) port 80 -> 10.2.0.80",
+     ("match in on fxp0 inet proto tcp from any to 192.0.2.2 port = 80 rdr-to 10.2.0.80",), ("pass",)),
+    ("no nat on fxp0 inet from 10.1.0.0/16 to 10.9.0.0/16",
+     ("match out on fxp0 inet from 10.1.0.0/16 to 10.9.0.0/16",), ()),
+)  # fmt: skip
+# the same, where something is lost or wider
+NOT_CARRIED = (
+    ("match out on em0 inet from em1:network nat-to (em0:0)",
+     ("match out on em0 inet from 192.168.1.0/24 to any",), ()),
+    ("match out on em0 inet from em1:network nat-to (em0:0)",
+     ("pass out on em0 inet from 192.168.1.0/24 to any nat-to 203.0.113.2",), ()),
+    ("match out on em0 inet from em1:network nat-to (em0:0)",
+     ("match out on em0 inet all nat-to 203.0.113.2",), ()),
+    ("match out on em0 inet from em1:network nat-to (em0:0)",
+     ("match out on em0 inet from 192.168.1.0/24 to any nat-to 203.0.113.5",), ()),
+    ("pass in on em0 inet proto tcp to (em0) port http rdr-to <web> round-robin sticky-address",
+     ("pass in on em0 inet proto tcp from any to 203.0.113.2 port = 80 rdr-to <web> round-robin",), ()),
+    ("pass on em0 inet from 192.168.2.80 to any binat-to 203.0.113.5",
+     ("pass out on em0 inet from 192.168.2.80 to any nat-to 203.0.113.5 static-port",), ()),
+    ("pass on em0 inet from 192.168.2.80 to any binat-to 203.0.113.5",
+     ("pass out on em0 inet from 192.168.2.80 to any nat-to 203.0.113.5 static-port",
+      "pass in on em0 inet all rdr-to 192.168.2.80"), ()),
+    ("nat on fxp0 inet from fxp1:network to any -> (fxp0)",
+     ("pass out on fxp0 inet from 10.1.0.0/16 to any nat-to 192.0.2.2",), ()),
+    ("rdr on fxp0 inet proto tcp from any to (fxp0) port 80 -> 10.2.0.80",
+     ("match in on fxp0 inet proto tcp from any to 192.0.2.2 rdr-to 10.2.0.80",), ()),
+    ("rdr pass on fxp0 inet proto tcp from any to (fxp0) port 80 -> 10.2.0.80",
+     ("match in on fxp0 inet proto tcp from any to 192.0.2.2 port = 80 rdr-to 10.2.0.80",), ()),
+    ("rdr pass on fxp0 inet proto tcp from any to (fxp0) port 80 -> 10.2.0.80", (), ()),
+    ("no nat on fxp0 inet from 10.1.0.0/16 to 10.9.0.0/16",
+     ("pass out on fxp0 inet from 10.1.0.0/16 to 10.9.0.0/16",), ()),
+)  # fmt: skip
+
+
 NAMES = sorted(it.name for it in FOLDER.glob("*.conf"))
 WITH: Words = ("--ifconfig", str(IFCONFIG))
 
@@ -726,26 +860,41 @@ class Sites(unittest.TestCase):
             checker, found = answers(name, WITH)
             for statement, answer in found:
                 with self.subTest(f"{name} {statement.line}", words=" ".join(statement.words)):
-                    for wrong, changed in wrong_answers(answer):
+                    for wrong, changed in wrong_answers(answer, checker.reader):
                         self.assertTrue(checker.faults(statement, changed), wrong)
                     for lines in wrong_lines(statement.words, answer.lines):
                         self.assertTrue(checker.faults(statement, replace(answer, lines=lines)))
 
+    def test_translation_carried(self) -> None:
+        """A pfplan that carries translation is not refused for it; one that carries half of it in silence is."""
+        checker = Checker(Reader(read_machine(IFCONFIG.read_text("utf-8")), {}))
+        for is_right, table in ((True, CARRIED), (False, NOT_CARRIED)):
+            for text, items, said in table:
+                told = tuple(Told(1, words_of(it), "pf makes other states") for it in said)
+                answer = Answer(tuple(map(words_of, items)), told, depths=frozenset((0,)))
+                with self.subTest(text, items=items):
+                    faults = checker.faults(statements(text)[0], answer)
+                    self.assertEqual(faults == [], is_right, faults)
+
     def test_lines(self) -> None:
-        """Each item and each line of what is told belongs to a statement; the last line counts them. It refuses a
-        pfplan that makes rules of nothing, or tells of lines that say nothing."""
+        """Each item and each line of what is told belongs to a statement, in the order of the text; the last line
+        counts them. It refuses a pfplan that makes rules of nothing, puts one behind another that decides after it, or
+        tells of lines that say nothing."""
         for name, words in itertools.product(NAMES, ((), WITH)):
             with self.subTest(name, words=words):
                 done = called(name, "--json", *words)
                 lines = [it.line for it, _ in answers(name, words)[1]]
+                skips = {it.line for it, _ in answers(name, words)[1] if it.words[:2] == ("set", "skip")}
                 *rest, count = done.err.splitlines()
                 told = [told_of(it) for it in rest if not it.startswith("note: ")]
                 items = json.loads(done.out)["items"]
+                self.assertEqual(items, sorted(items, key=lambda it: (it["line"] not in skips, it["line"])))
                 self.assertLessEqual({*(it.line for it in told), *(it["line"] for it in items)}, {*lines})
                 changing = sum(it.changes for it in told)
                 counted = COUNT.fullmatch(count)
                 self.assertIsNotNone(counted)
-                self.assertEqual(counted and counted.groups(), (*map(str, (len(items), changing, len(told) - changing)),))
+                numbers = (len(items), changing, len(told) - changing)
+                self.assertEqual(counted and counted.groups(), (*map(str, numbers),))
 
     def test_accepted(self) -> None:
         """pfsrc accepts the rules, which are as many as pfplan says; --json and --out write the same."""
