@@ -2,11 +2,6 @@
 wider.
 
 A plain reader, which shares nothing with pfplan's, splits a text into statements: macros put in, continued lines
-joined, lists kept together. It writes the combinations that a rule stands for. Each must be one of an item that came of the
-statement, or what it is made of must be told by the statement's line. So must each other part: a translation, a tag, an
-option of a state. An item may be no other combination, and may lack no part that makes it match less.
-
-A plain reader, which shares nothing with pfplan's, splits a text into statements: macros put in, continued lines
 joined, lists kept together. It writes the combinations that a rule stands for. Each must be one of an item that came of
 the statement, or what it is made of must be told by the statement's line. So must each other part: a translation, a
 tag, an option of a state. An item may be no other combination, and may lack no part that makes it match less.
@@ -457,7 +452,8 @@ class Checker:
         for it in answer.told:
             if not {word.removesuffix(":") for word in it.words} <= {word.removesuffix(":") for word in own}:
                 yield f"told of a statement that does not say it: {' '.join(it.words)}"
-            does = {*TRANSLATIONS, *ELSEWHERE} & {*it.words} or it.words[0] in OLD or it.words[0] == "no"
+            is_old = it.words[0] in OLD or it.words[0] == "no" and it.words[1] in OLD
+            does = is_old or {*TRANSLATIONS, *ELSEWHERE} & {*it.words}
             if does and not it.changes and "icmp-type" not in it.words and "icmp6-type" not in it.words:
                 yield f"told as changing no answer: {' '.join(it.words)}"
             if it.words == statement.words and it.changes and it.way not in ways_of(statement.words):
