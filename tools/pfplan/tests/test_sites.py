@@ -310,13 +310,21 @@ def old_rule(words: Words) -> Rule:
 
 @dataclass(frozen=True)
 class Reader:
-    """Writes the combinations that a rule stands for. `made` are tables that are not of the text."""
+    """Writes the combinations that a rule stands for. `made` are tables that are not of the text, `known` the
+    combinations that were asked for before, by a rule's parts."""
 
     machine: Machine
     made: dict[str, list[Network]]
+    known: dict[tuple[Words, ...], dict[Combination, list[Words]]] = field(default_factory=dict)
 
     def combinations(self, rule: Rule) -> dict[Combination, list[Words]]:
         """Each combination, with the items of lists that it is made of: pf has those of the same items in one rule."""
+        if rule.parts not in self.known:
+            self.known[rule.parts] = self.combined(rule)
+        return self.known[rule.parts]
+
+    def combined(self, rule: Rule) -> dict[Combination, list[Words]]:
+        """As `combinations`, made anew."""
         family = rule.word("inet", "inet6")
         axes: list[list[tuple[Words, Combination]]] = [
             [((), (it,)) for it in ([rule.word("in", "out")] if rule.word("in", "out") else ["in", "out"])],
