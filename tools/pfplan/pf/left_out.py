@@ -170,9 +170,12 @@ def reason_of_part(part: Part, direction: str) -> Reason:
 
 
 def reason_of_other(kind: str, text: str) -> Reason:
-    """Why a statement is left out, by its first words and, of `scrub`, by what it does."""
+    """Why a statement is left out, by its first words and, of `scrub`, by what it does. `no scrub` takes packets out of
+    what later `scrub` rules do, which are told by themselves."""
     if kind == "scrub" and "reassemble tcp" in text:
         return BY_TIMESTAMPS
+    if kind == "no" and text.split()[1:2] == ["scrub"]:
+        return _OTHERS["scrub"]
     if kind in ("nat", "rdr", "binat") and text.split()[1:2] == ["pass"]:
         return _OLD_PASS
     return _OTHERS.get(kind, _OLD_TRANSLATION)
