@@ -2,6 +2,7 @@
 from __future__ import annotations
 
 from dataclasses import dataclass, field
+from functools import cached_property
 from typing import Dict, FrozenSet, List, Optional, Tuple, Union
 
 from reader.values import Address, Network
@@ -83,7 +84,7 @@ class Rule:
     nat_to: Optional[Translation] = None
     rdr_to: Optional[Translation] = None
 
-    @property
+    @cached_property
     def scope(self) -> Optional[Scope]:
         """The scope of its source nodes: its own number, or all rules of scope global; none where it tracks no sources."""
         options = self.options

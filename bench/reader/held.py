@@ -2,7 +2,7 @@
 from __future__ import annotations
 
 from dataclasses import dataclass, field
-from typing import List, Optional
+from typing import Dict, List, Optional, Tuple
 
 from reader.configurations import GLOBAL, Configuration, Rule, Scope
 from reader.phases import CLOSED, ESTABLISHED
@@ -63,6 +63,9 @@ class Held:
     def states_of_node(self, node: Node) -> List[State]:
         return [state for state in self.states if state.rule.scope == node.scope and state.source == node.source]
 
+    def has_state(self, node: Node) -> bool:
+        return any(state.rule.scope == node.scope and state.source == node.source for state in self.states)
+
     def connections_of(self, node: Node) -> int:
         """How many of its states have completed their handshake."""
         return len([state for state in self.states_of_node(node) if state.is_connection])
@@ -118,17 +121,22 @@ class Held:
         self.pending_states = [state for state in self.pending_states if state not in gone]
         for state in gone:
             node = self.node_of(state.rule, state.source)
-            if node is not None and not self.states_of_node(node):
+            if node is not None and not self.has_state(node):
                 node.idle = now
 
-    def lifetime(self, state: State) -> int:
-        """The timeout of a state, scaled down while many states are held."""
-        whole = self.said.timeout(state.rule, state.timeout)
-        own = self.said.pair_of(state.rule)
+    def lifetimes(self, states: List[State]) -> Dict[Tuple[int, str], int]:
+        """The lifetimes of states, by the number of the rule and the timeout, scaled by what is held now."""
+        rules = {(state.rule.number, state.timeout): state.rule for state in states}
+        return {(number, timeout): self.lifetime(rule, timeout) for (number, timeout), rule in rules.items()}
+
+    def lifetime(self, rule: Rule, timeout: str) -> int:
+        """A timeout, scaled down while many states are held."""
+        whole = self.said.timeout(rule, timeout)
+        own = self.said.pair_of(rule)
         start, end = own or self.said.pair
         if (start, end) == (0, 0):
             return whole
-        count = len(self.states_of_rule(state.rule)) if own else len(self.states)
+        count = len(self.states_of_rule(rule)) if own else len(self.states)
         if count <= start:
             return whole
         return 0 if count >= end else whole * (end - count) // (end - start)
@@ -139,11 +147,12 @@ class Held:
         self.pending_states = self.pending_states or list(self.states)
         share = 1 + limits["states"] // interval
         examined, self.pending_states = self.pending_states[:share], self.pending_states[share:]
-        self.take_out([state for state in examined if state.last + self.lifetime(state) <= second], second)
+        lifetimes = self.lifetimes(examined)
+        self.take_out([state for state in examined if state.last + lifetimes[state.rule.number, state.timeout] <= second], second)
         self.pending_nodes = self.pending_nodes or list(self.nodes)
         share = 1 + limits["src-nodes"] // interval
         visited, self.pending_nodes = self.pending_nodes[:share], self.pending_nodes[share:]
-        over = [node for node in visited if not self.states_of_node(node) and node.idle + self.retention(node) <= second]
+        over = [node for node in visited if node.idle + self.retention(node) <= second and not self.has_state(node)]
         self.nodes = [node for node in self.nodes if node not in over]
 
     def retention(self, node: Node) -> int:

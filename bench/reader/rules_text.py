@@ -1,4 +1,4 @@
-"""Reads a rules text. A text that the program refuses is not read; neither is every text that it accepts."""
+"""Reads a rules text that the program accepts. Of a text that it refuses it tells no fault: some it does not read, others it takes for what they say."""
 from __future__ import annotations
 
 import itertools
