@@ -87,6 +87,15 @@ def drawn_profile(draw: random.Random) -> str:
     return f"set profile openbsd-7.4\nset syncookies {chosen}\n"
 
 
+def with_synproxy(draw: random.Random, rules: str) -> str:
+    """The rules, of which some that keep state have `synproxy state`."""
+    lines = rules.splitlines()
+    for place, line in enumerate(lines):
+        if line.startswith("pass") and " no state" not in line and draw.random() < 0.4:
+            lines[place] = line.replace(" keep state", " synproxy state") if " keep state" in line else line + " synproxy state"
+    return "\n".join(lines) + "\n"
+
+
 def drawn_step(draw: random.Random) -> int:
     """How many seconds pass: mostly none or few, sometimes many."""
     kind = draw.random()
