@@ -16,9 +16,9 @@ from pfplan.common.errors import Status, Trouble
 from pfplan.common.limits import LIMITING
 from pfplan.common.networks import Network
 from pfplan.common.progress import Progress
+from pfplan.plays.reading import is_scenario
 from pfplan.replays.machines import Machines, Runs
 from pfplan.traces.records import WORDS, Traces
-from pfplan.traces.scenarios.reading import is_scenario
 
 # limits that have no other effect than to be met, and what rules have that count sources
 _PLAIN = ("max-src-nodes", "max-src-states", "max-src-conn", "max-src-conn-rate")

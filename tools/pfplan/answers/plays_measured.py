@@ -12,13 +12,13 @@ from typing import Any
 from pfplan.answers.changed_rules import Number, RulesText
 from pfplan.answers.measures import LimitMet, Measure
 from pfplan.common.errors import Status, Trouble, reason_of
+from pfplan.plays.expecting import MOST, check_expected
+from pfplan.plays.model import Askers, Forgers, Laid, Scenario
+from pfplan.plays.playing import Played, Task, play
+from pfplan.plays.reading import numbers_of, read_scenario, read_tables, scenario_of, value_of
+from pfplan.plays.returning import answers_of, words_of
 from pfplan.replays.runs import show_rules
 from pfplan.traces.records import WORDS
-from pfplan.traces.scenarios.expecting import MOST, check_expected
-from pfplan.traces.scenarios.model import Askers, Forgers, Laid, Scenario
-from pfplan.traces.scenarios.playing import Played, Task, play
-from pfplan.traces.scenarios.reading import numbers_of, read_scenario, read_tables, scenario_of, value_of
-from pfplan.traces.scenarios.returning import answers_of, words_of
 
 _NOTE = re.compile(rb"^# play (\{.*\})$", re.MULTILINE)
 

@@ -24,8 +24,8 @@ from pfplan.common.figures import counted
 from pfplan.common.inputs import check_trace, regular
 from pfplan.common.repository import check_program
 from pfplan.pages import margin_texts
+from pfplan.plays.reading import is_scenario
 from pfplan.replays.machines import measure_words
-from pfplan.traces.scenarios.reading import is_scenario
 
 DESCRIPTION = """Replays a trace under the rules, or plays a scenario, and again with each limit, maximum and
 timeout a tenth lower and a tenth higher, and with all timeouts longer by `interval` seconds, as if pf's purge

@@ -50,7 +50,7 @@ def _is_scenario(path: Path) -> bool:
     """Whether a file is a scenario. A run of a trace does not load their code: `size` starts many."""
     if path.suffix != ".toml" and kind_of(path) in (None, Kind.TRACE):
         return False
-    from pfplan.traces.scenarios.reading import is_scenario
+    from pfplan.plays.reading import is_scenario
 
     return is_scenario(path)
 

@@ -23,9 +23,9 @@ from pfplan.pages.play_folder import files_of, names_of, write_plays
 from pfplan.pages.play_texts import headline_of, users_of
 from pfplan.pages.record_texts import letters
 from pfplan.pages.report_page import PAGE
-from pfplan.traces.scenarios.expecting import MOST, check_expected
-from pfplan.traces.scenarios.model import Scenario
-from pfplan.traces.scenarios.reading import read_scenario
+from pfplan.plays.expecting import MOST, check_expected
+from pfplan.plays.model import Scenario
+from pfplan.plays.reading import read_scenario
 
 DESCRIPTION = """Plays a scenario against each ruleset: clients repeat what is not answered, wait, give up and come
 back, servers answer, and the firewall

@@ -11,10 +11,10 @@ from pfplan.common.errors import Status, Trouble
 from pfplan.common.inputs import name_of, regular
 from pfplan.common.outputs import whole_files
 from pfplan.pf.conversion import machine_of
+from pfplan.plays.plain import write_plain
+from pfplan.plays.reading import is_scenario
 from pfplan.traces.captures import make_trace
 from pfplan.traces.pf_answers import HEAD
-from pfplan.traces.scenarios.plain import write_plain
-from pfplan.traces.scenarios.reading import is_scenario
 
 DESCRIPTION = """Makes a trace of a capture, by ./pfstrace; or of a scenario, as it were if the firewall let
 everything in and nobody reacted.

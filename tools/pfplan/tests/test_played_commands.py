@@ -10,8 +10,8 @@ from unittest import mock
 from pfplan.__main__ import main
 from pfplan.pages import pictures
 from pfplan.pf.profiles import Profile
+from pfplan.plays.returning import words_of
 from pfplan.tests.support import FolderCase, pfplan
-from pfplan.traces.scenarios.returning import words_of
 
 SCENARIO = """seconds = 12
 server = "192.0.2.1:80"

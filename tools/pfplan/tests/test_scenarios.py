@@ -12,13 +12,13 @@ import tomllib
 
 from pfplan.common.errors import Trouble
 from pfplan.common.repository import TOP, program
+from pfplan.plays.model import KINDS, Visits
+from pfplan.plays.playing import Task, play
+from pfplan.plays.reading import OF_KIND, numbers_of, read_scenario, value_of
+from pfplan.plays.returning import answers_of, words_of
 from pfplan.tests.playing import scenario
 from pfplan.tests.support import FolderCase, pfplan
 from pfplan.tests.test_plays import drawn
-from pfplan.traces.scenarios.model import KINDS, Visits
-from pfplan.traces.scenarios.playing import Task, play
-from pfplan.traces.scenarios.reading import OF_KIND, numbers_of, read_scenario, value_of
-from pfplan.traces.scenarios.returning import answers_of, words_of
 
 HEAD = 'seconds = 10\nserver = { web = ["192.0.2.1:80", "192.0.2.1:443"], six = "[2001:db8::1]:80" }\n'
 HOMES = '[group.homes]\nkind = "visits"\nfrom = "198.51.100.0/24"\nhosts = 3\n'

@@ -11,21 +11,21 @@ from random import Random
 
 from pfplan.common.inputs import Kind, check_readable, kind_of
 from pfplan.common.outputs import part_file
+from pfplan.plays.askers import Manner, Question
+from pfplan.plays.clients import Client, Crew, Habit, Visitor
+from pfplan.plays.counts import Count, Tally
+from pfplan.plays.firewalls import Firewall, check_records
+from pfplan.plays.flooders import Flooder, Forger, Forgery, Openers, Pace
+from pfplan.plays.hosts import Addresses, Host, Hosts, Way
+from pfplan.plays.laid import Layer
+from pfplan.plays.listeners import Listener
+from pfplan.plays.model import Askers, Crowd, Forgers, Group, Holders, Laid, Scenario, Visits
+from pfplan.plays.returning import Answer
+from pfplan.plays.servers import Backlog
+from pfplan.plays.worlds import SLOTS, Asking, Emitter, World, slots_of
 from pfplan.traces.captures import Seen, make_trace
 from pfplan.traces.moments import step_of
 from pfplan.traces.records import End
-from pfplan.traces.scenarios.askers import Manner, Question
-from pfplan.traces.scenarios.clients import Client, Crew, Habit, Visitor
-from pfplan.traces.scenarios.counts import Count, Tally
-from pfplan.traces.scenarios.firewalls import Firewall, check_records
-from pfplan.traces.scenarios.flooders import Flooder, Forger, Forgery, Openers, Pace
-from pfplan.traces.scenarios.hosts import Addresses, Host, Hosts, Way
-from pfplan.traces.scenarios.laid import Layer
-from pfplan.traces.scenarios.listeners import Listener
-from pfplan.traces.scenarios.model import Askers, Crowd, Forgers, Group, Holders, Laid, Scenario, Visits
-from pfplan.traces.scenarios.returning import Answer
-from pfplan.traces.scenarios.servers import Backlog
-from pfplan.traces.scenarios.worlds import SLOTS, Asking, Emitter, World, slots_of
 
 
 class Play:
