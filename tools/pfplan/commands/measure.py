@@ -63,8 +63,10 @@ def run(arguments: argparse.Namespace) -> int:
         entries = read_entries(arguments.entries) if arguments.entries else entries_of_rules(rules, arguments.rules)
         if _is_scenario(arguments.trace):
             from pfplan.answers.plays_measured import measure_play
+            from pfplan.plays.options import options_beside
 
-            line = json.dumps(measure_play(rules, arguments.trace, entries).to_json())
+            options = options_beside(rules, arguments.rules)
+            line = json.dumps(measure_play(rules, arguments.trace, entries, options).to_json())
         else:
             with regular(arguments.trace) as trace:
                 line = json.dumps(measure(rules, trace, arguments.users, arguments.held, entries).to_json())
@@ -86,8 +88,9 @@ def _measurer(arguments: argparse.Namespace, stack: contextlib.ExitStack) -> Cal
     entries = read_entries(arguments.entries) if arguments.entries else []
     if _is_scenario(arguments.trace):
         from pfplan.answers.plays_measured import measure_play
+        from pfplan.plays.options import options_beside
 
-        return lambda rules: measure_play(rules, arguments.trace, entries)
+        return lambda rules: measure_play(rules, arguments.trace, entries, options_beside(rules, rules))
     trace = stack.enter_context(regular(arguments.trace))
     asked = stack.enter_context(asking(trace, arguments.held, entries))
     return stack.enter_context(Measurer(trace, arguments.users, asked, entries, arguments.kept)).measure

@@ -10,6 +10,7 @@ from unittest import mock
 from pfplan.__main__ import main
 from pfplan.pages import pictures
 from pfplan.pf.profiles import Profile
+from pfplan.plays.options import PlayOptions, options_beside
 from pfplan.plays.returning import words_of
 from pfplan.tests.support import FolderCase, pfplan
 
@@ -62,6 +63,21 @@ class PlayedCommands(FolderCase):
         self.assertLessEqual(
             {"rules", "left-out.txt", "trace.csv", "report", "summary.txt", "summary.json", "report.html"}, made
         )
+
+    def test_options_beside_rules(self) -> None:
+        """Without a file of them they are what the text says; another file is refused."""
+        rules = self.write("blocking", "block return-rst\npass\n")
+        self.assertEqual(options_beside(rules, rules), PlayOptions({0: "return-rst"}))
+        options = PlayOptions({2: "return"}, {"holder.rate": 9, "seconds": 8}, 70_000)
+        plain = json.loads(self.output("measure", rules, self.scenario))["records"]
+        beside = self.write("blocking.play", options.to_json())
+        self.assertEqual(options_beside(rules, rules), options)
+        self.assertLess(json.loads(self.output("measure", rules, self.scenario))["records"], plain)
+        for text in ("", "[]", "{}", '{"returning": {"a": 1}, "numbers": {}, "most": 1}'):
+            self.write("blocking.play", text)
+            done = pfplan("measure", rules, self.scenario)
+            self.assertEqual((done.status, done.out), (1, ""))
+            self.assertEqual(done.err, f"pfplan measure: {beside}: no options of a play: {text!r}\n")
 
     def test_gnuplot_that_fails_or_hangs(self) -> None:
         """The plays are kept, and the page says why it has no pictures."""
