@@ -36,12 +36,22 @@ is refused; 4 reading or writing failed, or no memory; 70 pfsrc is not there or 
 pfplan is tested, not proved. pfplan(1) says more."""
 
 
+class Formatter(argparse.RawDescriptionHelpFormatter):
+    """How `--help` is laid out."""
+
+    def _format_args(self, action: argparse.Action, default_metavar: str) -> str:
+        """What stands for the words of an argument. A name with a space says itself how often each may stand."""
+        if isinstance(action.metavar, str) and " " in action.metavar:
+            return action.metavar
+        return super()._format_args(action, default_metavar)
+
+
 class Parser(argparse.ArgumentParser):
     """A parser whose refusals are Trouble, with the word that may have been meant."""
 
     def __init__(self, *words: Any, **more: Any) -> None:
         more.setdefault("allow_abbrev", False)
-        more.setdefault("formatter_class", argparse.RawDescriptionHelpFormatter)
+        more.setdefault("formatter_class", Formatter)
         super().__init__(*words, **more)
 
     def error(self, message: str) -> NoReturn:

@@ -113,7 +113,7 @@ class Drawing:
                 ["size", rules, "t.csv", "--vary", "states=1..5", "--runs", "2", *USERS, "--out", out, *page],
                 ["run", rules, trace, "--into", into, "--held", "0"], ["run", rules, "t.csv", "--into", into, *USERS],
                 ["run", rules, capture, *INSIDE, "--into", into, "--held", "2"],
-                ["play", "s.toml", rules, "other.conf", "--into", into, "--jobs", "1"],
+                ["play", rules, "other.conf", "s.toml", "--into", into, "--jobs", "1"],
                 ["agree", "log.conf", "log", "--into", into],
                 ["watch", rules, "other.conf", *INSIDE, "--into", into],
             ]

@@ -138,7 +138,7 @@ class Folders(Calling):
         scenario = self.write("s.toml", 'seconds = 2\nserver = "192.0.2.1:80"\n[group.a]\nkind = "hold"\n'
                               'from = "198.51.100.0/24"\nhosts = 2\nrate = 1\nusers = true\n')  # fmt: skip
         other = self.write("other.conf", "block all\n")
-        words = ("play", scenario, self.rules, other, "--into", self.folder / "played")
+        words = ("play", self.rules, other, scenario, "--into", self.folder / "played")
         self.assertEqual(pfplan(*words).status, 0)
         before = self.whole()
         self.rules.write_text("set limit states 60\npass in proto tcp all keep state\n", "utf-8")

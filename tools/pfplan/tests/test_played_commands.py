@@ -52,7 +52,7 @@ class PlayedCommands(FolderCase):
         """Connections of users, and those served without waiting, in a single play."""
         scenario = self.write("single.toml", SCENARIO.replace("rate = 8", f"rate = {rate}"))
         rules = self.write("single", RULES.replace("max-src-states 50", f"max-src-states {most}"))
-        self.output("play", scenario, rules, "--into", self.folder / "single-play")
+        self.output("play", rules, scenario, "--into", self.folder / "single-play")
         group = json.loads((self.folder / "single-play/single/summary.json").read_text("utf-8"))["groups"][0]
         return group["connections"], group["served_without_waiting"]
 
@@ -95,7 +95,7 @@ class PlayedCommands(FolderCase):
             with path, mock.patch.object(pictures, "SECONDS_FOR_A_PICTURE", 1), contextlib.redirect_stdout(
                 io.StringIO()
             ):
-                played = main(["play", str(self.scenario), str(self.rules), "--into", str(into)])
+                played = main(["play", str(self.rules), str(self.scenario), "--into", str(into)])
                 words = [self.rules, self.open, self.scenario, "--page", page, "--out", self.folder / "told"]
                 compared = main(["compare", *map(str, words)])
             self.assertEqual((played, compared), (0, 0))
