@@ -29,7 +29,7 @@ the one and in the other; and which connections of users change their fate. The 
 others are held against. Of a pf.conf a rules text is made, and standard error says what is left out of it."""
 
 
-def add_words(parser: argparse.ArgumentParser) -> None:
+def add_arguments(parser: argparse.ArgumentParser) -> None:
     """The words of `compare`."""
     parser.description = DESCRIPTION
     parser.add_argument("rules", nargs="+", type=file, metavar="RULES", help="two rules texts or more, or a pf.conf")

@@ -33,7 +33,7 @@ always came last. Tells which answers turn over: whether the wanted share of the
 limit is met. Rules that state the same number of one option are moved together."""
 
 
-def add_words(parser: argparse.ArgumentParser) -> None:
+def add_arguments(parser: argparse.ArgumentParser) -> None:
     """The words of `margins`."""
     parser.description = DESCRIPTION
     parser.add_argument("rules", type=file, metavar="RULES", help="a rules text, or a pf.conf")

@@ -20,7 +20,7 @@ met and when, what became of the users' connections, and what is held. Rules tha
 "refused"."""
 
 
-def add_words(parser: argparse.ArgumentParser) -> None:
+def add_arguments(parser: argparse.ArgumentParser) -> None:
     """The words of `measure`."""
     parser.description = DESCRIPTION
     parser.add_argument(

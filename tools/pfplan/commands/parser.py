@@ -9,6 +9,7 @@ from pathlib import Path
 from typing import Any, NoReturn
 
 from pfplan import VERSION
+from pfplan.commands.layout import Formatter
 from pfplan.commands.words import output
 from pfplan.common.errors import Trouble
 from pfplan.common.inputs import take, take_none
@@ -34,16 +35,6 @@ ENDS = """pfsrc replays, pfstrace reads captures: beside pfplan, else on the PAT
 Status: 0 done; 1 a trace, a report or a capture is refused; 2 a word of the command line; 3 a pf.conf or a rules text
 is refused; 4 reading or writing failed, or no memory; 70 pfsrc is not there or could not be built; 130 interrupted.
 pfplan is tested, not proved. pfplan(1) says more."""
-
-
-class Formatter(argparse.RawDescriptionHelpFormatter):
-    """How `--help` is laid out."""
-
-    def _format_args(self, action: argparse.Action, default_metavar: str) -> str:
-        """What stands for the words of an argument. A name with a space says itself how often each may stand."""
-        if isinstance(action.metavar, str) and " " in action.metavar:
-            return action.metavar
-        return super()._format_args(action, default_metavar)
 
 
 class Parser(argparse.ArgumentParser):
@@ -97,7 +88,7 @@ def make_parser(asked: Collection[str]) -> Parser:
         if name in asked:
             code = importlib.import_module(f"pfplan.commands.{name}")
             words.description = f"{does[0].upper()}{does[1:]}."
-            code.add_words(words)
+            code.add_arguments(words)
             words.set_defaults(run=code.run, own=words)
     return parser
 
@@ -127,6 +118,8 @@ def _check_outputs(arguments: argparse.Namespace) -> None:
     outputs: list[Path | None] = []
     inputs: list[Path] = []
     for action in arguments.own._actions:
+        if action.default == argparse.SUPPRESS:  # another word for one that is there too
+            continue
         given = getattr(arguments, action.dest, None)
         if action.type is output:
             outputs += [given] if given or action.dest == "out" else []

@@ -42,7 +42,7 @@ folder:
   summary.json                   the numbers"""
 
 
-def add_words(parser: Parser) -> None:
+def add_arguments(parser: Parser) -> None:
     """The words of `play`."""
     parser.description = DESCRIPTION
     parser.add_argument(

@@ -53,7 +53,7 @@ MOST_MISSING = 5
 MOMENTS = 20
 
 
-def add_words(parser: Parser) -> None:
+def add_arguments(parser: Parser) -> None:
     """The words of the command."""
     parser.description = DESCRIPTION
     parser.add_argument(

@@ -15,7 +15,7 @@ not wanted, and change the rest.
 examples/scenarios/ has twelve that are shorter."""
 
 
-def add_words(parser: Parser) -> None:
+def add_arguments(parser: Parser) -> None:
     """The words of `scenario`."""
     parser.description = DESCRIPTION
     parser.add_argument("--out", type=output, metavar="FILE", help="where it goes (standard output)")

@@ -54,7 +54,7 @@ def vary_word(text: str) -> Vary:
     return Vary(found[1], int(found[2]), int(found[3]))
 
 
-def add_words(parser: argparse.ArgumentParser) -> None:
+def add_arguments(parser: argparse.ArgumentParser) -> None:
     """The words of `size`."""
     parser.description = DESCRIPTION
     parser.add_argument("rules", type=file, metavar="RULES", help="a rules text, or a pf.conf")

@@ -105,7 +105,7 @@ class Drawing:
         return self.random.choice(
             [
                 ["rules", rules, "--out", out], ["scenario", "--out", out], ["trace", capture, *INSIDE, "--out", out],
-                ["trace", "log", "--out", out, "--told", str(self.place())], ["trace", "s.toml", "--out", out],
+                ["trace", "log", "--out", out, "--answers", str(self.place())], ["trace", "s.toml", "--out", out],
                 ["summary", report, "--trace", trace, "--out", out], ["measure", rules, trace],
                 ["explain", report, "--trace", trace, "--rules", rules, "--row", "1", "--out", out],
                 ["compare", rules, "other.conf", trace, "--out", out, *page],
@@ -181,7 +181,7 @@ class DrawnOutputs(FolderCase):
 
     def inputs_of(self, words: list[str]) -> list[str]:
         """The words that are no outputs and no options."""
-        outputs = ("--out", "--page", "--into", "--told")
+        outputs = ("--out", "--page", "--into", "--answers")
         return [it for before, it in zip(words, words[1:]) if before not in outputs and not it.startswith("-")]
 
     def run_it(self, drawing: Drawing, words: list[str]) -> int:

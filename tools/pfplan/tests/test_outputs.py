@@ -174,7 +174,7 @@ class Files(Calling):
             ("compare", rules, rules, trace, "--out", rules), ("compare", rules, rules, trace, "--page", trace),
             ("margins", rules, trace, "--out", rules), ("margins", rules, trace, "--page", rules),
             ("size", rules, trace, "--vary", "states=1..5", *USERS, "--page", trace),
-            ("trace", LOG, "--out", "log"), ("trace", LOG, "--told", "log"),
+            ("trace", LOG, "--out", "log"), ("trace", LOG, "--answers", "log"),
         ]  # fmt: skip
         (self.folder / "log").symlink_to(LOG)
         for words in calls:
