@@ -231,12 +231,12 @@ class Captures(FolderCase):
                 self.assertEqual(self.left(), [NAME, "pfstrace"])
 
     def test_words(self) -> None:
+        input_said = f"{self.capture}: it is the input {self.capture}, which no output may replace"
         for words, why in (
             (("--inside", "192.0.2.300"), "--inside: '192.0.2.300' is no prefix"),
             (("--outsid", "192.0.2.0/24"), "'--outsid': no such word; is --outside meant? (pfplan trace --help)"),
             (("--if", "any"), "--if/--interface: 'any' is no name of an interface"),
-            (("--out", self.capture), f"{self.capture}: it is the input {self.capture}, which no output may replace"),
-            (("--answers", self.capture), f"{self.capture}: it is the input {self.capture}, which no output may replace"),
+            (("--out", self.capture), input_said), (("--answers", self.capture), input_said),
         ):
             done = pfplan("trace", self.capture, *words)
             self.assertEqual((done.status, done.out, done.err), (2, "", f"pfplan trace: {why}\n"))
