@@ -3,4 +3,4 @@
 # That of pfsrc and pfstrace too.
 VERSION = "0.1.0"
 # The packages, in their order: a module imports from its own package and from those before it (tests/test_packages.py).
-PACKAGES = ("common", "traces", "pf", "replays", "answers", "pages", "commands")
+PACKAGES = ("common", "traces", "pf", "replays", "plays", "answers", "pages", "commands")

@@ -8,10 +8,10 @@ from itertools import groupby
 from pathlib import Path
 
 from pfplan.answers.episodes import PASSING, Event
+from pfplan.plays.firewalls import Kept, Pfsrc
 from pfplan.traces.entries import add_records
 from pfplan.traces.insertions import Heard
 from pfplan.traces.records import Traces
-from pfplan.traces.scenarios.firewalls import Kept, Pfsrc
 
 AFTER = 3600  # seconds behind the end of the trace that are tried
 

@@ -20,7 +20,7 @@ from pfplan.common.progress import Progress
 from pfplan.pf.reading_canonical_text import flushes_of, items_of
 from pfplan.replays.runs import records_of, replayed, show_rules
 from pfplan.traces.entries import mark_of
-from pfplan.traces.insertions import Held, asking
+from pfplan.traces.insertions import HeldCounts, asking
 from pfplan.traces.records import Record, read_record
 
 
@@ -264,7 +264,7 @@ def _against(pairs: Pairs, fates: Fates, lines_of: Sequence[Sequence[str]]) -> l
     ]
 
 
-def _timeline(steps: Steps, held: Sequence[Held], has_users: bool) -> Timeline:
+def _timeline(steps: Steps, held: Sequence[HeldCounts], has_users: bool) -> Timeline:
     """A ruleset over time."""
     points = [(it.moment, it.states) for it in held]
     return timeline_of(steps.whole(), steps.seconds, points, steps.first or 0, has_users)

@@ -11,9 +11,9 @@ from pfplan.common.figures import counted, share_text
 from pfplan.common.inputs import Kind, kind_of
 from pfplan.pf.profiles import Profile
 from pfplan.pf.reading_canonical_text import interfaces_of
+from pfplan.plays.model import Laid, Scenario
 from pfplan.traces.accounts import NEITHER_WAY, Frames
 from pfplan.traces.records import ORDERS, Traces
-from pfplan.traces.scenarios.model import Laid, Scenario
 
 # The share of a capture's packets that may be unread, and how many interfaces or missing things a sentence names.
 SMALL, NAMED = 0.05, 5

@@ -145,7 +145,7 @@ def map_of(
         trials = Trials(runs)
 
         def measure(pairs: Sequence[Pair]) -> list[Measure]:
-            return trials.measure([subject.text_of({varied[0]: one, varied[1]: other}) for one, other in pairs])
+            return trials.measure([subject.run_of({varied[0]: one, varied[1]: other}) for one, other in pairs])
 
         measures, is_cut = search((first, second), wanted.share, wanted.runs, measure)
     is_coarse = len(first) < len(grid_of(varies[0], varied[0].value, wanted.grid))

@@ -16,9 +16,9 @@ from pfplan.common.errors import Status, Trouble
 from pfplan.common.limits import LIMITING
 from pfplan.common.networks import Network
 from pfplan.common.progress import Progress
+from pfplan.plays.reading import is_scenario
 from pfplan.replays.machines import Machines, Runs
 from pfplan.traces.records import WORDS, Traces
-from pfplan.traces.scenarios.reading import is_scenario
 
 # limits that have no other effect than to be met, and what rules have that count sources
 _PLAIN = ("max-src-nodes", "max-src-states", "max-src-conn", "max-src-conn-rate")
@@ -200,12 +200,12 @@ def measure_margins(
     progress = Progress("margins", len(moves) + 1, "runs")
     with Runs(where, trace, words, entries) as runs:
         try:
-            base = from_json(runs.measure([subject.text_of({})], progress)[0])
+            base = from_json(runs.measure([subject.run_of({})], progress)[0])
             if base.refused:
                 raise Trouble(f"{names[1]}: {base.refused}", Status.RULES)
             alike = [not subject.scenario and is_alike(it, base, text.items()) for it in moves]
             progress.advance(sum(alike))
-            tried = [subject.text_of(dict(it.values.items())) for it, is_known in zip(moves, alike) if not is_known]
+            tried = [subject.run_of(dict(it.values.items())) for it, is_known in zip(moves, alike) if not is_known]
             found = map(from_json, runs.measure(tried, progress))
             moved = [base if is_known else next(found) for is_known in alike]
         finally:

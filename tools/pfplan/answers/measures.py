@@ -18,7 +18,7 @@ from pfplan.common.networks import Network
 from pfplan.common.outputs import part_file
 from pfplan.pf.reading_canonical_text import flushes_of
 from pfplan.replays.runs import show_rules, stream_texts
-from pfplan.traces.insertions import Asking, Held, asking
+from pfplan.traces.insertions import Asking, HeldCounts, asking
 from pfplan.traces.records import BLOCK, WORDS, End, read_answer
 
 
@@ -113,7 +113,7 @@ def measure_of(side: Side, most_held: int | None = None) -> Measure:
     )
 
 
-def most_of(held: Sequence[Held], end: End) -> int | None:
+def most_of(held: Sequence[HeldCounts], end: End) -> int | None:
     """The greatest number of states at some moments and at the end; None for no moments."""
     return max([it.states for it in held] + [end.states]) if held else None
 

@@ -12,11 +12,11 @@ from pfplan.common.outputs import make_folder
 from pfplan.pf.conversion import Ruleset, write_rules, write_ruleset
 from pfplan.pf.profiles import Profile, profile_of
 from pfplan.pf.reading_canonical_text import items_of
+from pfplan.plays.fields import MOST_SEED
+from pfplan.plays.model import Scenario
+from pfplan.plays.playing import Played, Task, play_all
+from pfplan.plays.returning import answers_of, words_of
 from pfplan.replays.runs import show_rules
-from pfplan.traces.scenarios.fields import MOST_SEED
-from pfplan.traces.scenarios.model import Scenario
-from pfplan.traces.scenarios.playing import Played, Task, play_all
-from pfplan.traces.scenarios.returning import answers_of, words_of
 
 
 @dataclass(frozen=True)

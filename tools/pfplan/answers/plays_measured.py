@@ -2,8 +2,6 @@
 
 from __future__ import annotations
 
-import json
-import re
 from collections.abc import Mapping, Sequence
 from dataclasses import dataclass
 from pathlib import Path
@@ -12,15 +10,15 @@ from typing import Any
 from pfplan.answers.changed_rules import Number, RulesText
 from pfplan.answers.measures import LimitMet, Measure
 from pfplan.common.errors import Status, Trouble, reason_of
+from pfplan.plays.expecting import MOST, check_expected
+from pfplan.plays.model import Askers, Forgers, Laid, Scenario
+from pfplan.plays.options import ENDING, PlayOptions
+from pfplan.plays.playing import Played, Task, play
+from pfplan.plays.reading import numbers_of, read_scenario, read_tables, scenario_of, value_of
+from pfplan.plays.returning import answers_of, words_of
+from pfplan.replays.machines import Run
 from pfplan.replays.runs import show_rules
 from pfplan.traces.records import WORDS
-from pfplan.traces.scenarios.expecting import MOST, check_expected
-from pfplan.traces.scenarios.model import Askers, Forgers, Laid, Scenario
-from pfplan.traces.scenarios.playing import Played, Task, play
-from pfplan.traces.scenarios.reading import numbers_of, read_scenario, read_tables, scenario_of, value_of
-from pfplan.traces.scenarios.returning import answers_of, words_of
-
-_NOTE = re.compile(rb"^# play (\{.*\})$", re.MULTILINE)
 
 
 @dataclass(frozen=True)
@@ -77,19 +75,14 @@ class Subject:
         if self._path and amounts:
             check_expected(scenario_of(self._tables, self._path, amounts), self._most)
 
-    def text_of(self, values: Mapping[Number | Amount, int]) -> bytes:
-        """The rules text of a run with other values.
-
-        Those of the scenario, and what blocked senders are told, stand in a comment at its head.
-        """
-        rules = {it: value for it, value in values.items() if isinstance(it, Number)}
-        changed = self._text.changed(rules)
+    def run_of(self, values: Mapping[Number | Amount, int]) -> Run:
+        """A run with other values: those of the rules stand in its text, and those of the scenario among the options of
+        the play."""
+        text = self._text.changed({it: value for it, value in values.items() if isinstance(it, Number)})
         if self.scenario is None:
-            return changed
+            return Run(text)
         amounts = {it.name: value for it, value in values.items() if isinstance(it, Amount)}
-        returning = {str(item): word for item, word in self._words.items()}
-        note = json.dumps({"returning": returning, "numbers": amounts, "most": self._most})
-        return f"# play {note}\n".encode() + changed
+        return Run(text, {ENDING: PlayOptions(self._words, amounts, self._most).to_json()})
 
     def protocols(self) -> set[str]:
         """The words with which timeouts of states begin that the packets of a scenario can have. Without one, none."""
@@ -118,24 +111,16 @@ def _read(path: Path) -> str:
         raise Trouble(f"{path}: can't be read: {reason_of(error)}", Status.FAILED) from None
 
 
-def measure_play(rules: Path, scenario: Path, entries: Sequence[str]) -> Measure:
-    """Plays a scenario with the values that the head of the rules text says, and counts it.
+def measure_play(rules: Path, scenario: Path, entries: Sequence[str], options: PlayOptions) -> Measure:
+    """Plays a scenario by its options, and counts it.
 
     Rules that are refused are a measure that says why.
     """
-    text = _read(rules)
-    note = _NOTE.search(text.encode("latin-1"))
-    said = (
-        json.loads(note[1])
-        if note
-        else {"returning": {str(item): word for item, word in words_of(text).items()}, "numbers": {}}
-    )
-    read = read_scenario(scenario, said["numbers"])
-    returning = answers_of({int(item): word for item, word in said["returning"].items()})
-    check_expected(read, said.get("most", MOST))
+    read = read_scenario(scenario, options.numbers)
+    check_expected(read, options.most)
     try:
         show_rules(rules)
-        return measure_of(read, play(Task(read, rules, returning, entries)))
+        return measure_of(read, play(Task(read, rules, answers_of(options.returning), entries)))
     except Trouble as trouble:
         if trouble.status != Status.RULES:
             raise

@@ -13,7 +13,7 @@ from pfplan.answers.plays_measured import Amount, Subject, users_text
 from pfplan.common.errors import Trouble
 from pfplan.common.networks import Network
 from pfplan.common.progress import Progress
-from pfplan.replays.machines import Machines, Runs, measure_words
+from pfplan.replays.machines import Machines, Run, Runs, measure_words
 
 # Values that are tried at an edge at a time, and around the best value where none serves the wanted share.
 BETWEEN = 3
@@ -130,21 +130,21 @@ class Wanted:
 
 
 class Trials:
-    """Measures rules texts in one go after another, and shows how many are done."""
+    """Runs in one go after another, and shows how many are done."""
 
     def __init__(self, runs: Runs) -> None:
         self._runs = runs
         self._done = 0
 
-    def measure(self, texts: Sequence[bytes]) -> list[Measure]:
-        """The measures of some rules texts."""
-        progress = Progress("size", self._done + len(texts), "runs so far")
+    def measure(self, runs: Sequence[Run]) -> list[Measure]:
+        """The measures of some runs."""
+        progress = Progress("size", self._done + len(runs), "runs so far")
         progress.at(self._done)
         try:
-            lines = self._runs.measure(texts, progress)
+            lines = self._runs.measure(runs, progress)
         finally:
             progress.finish()
-        self._done += len(texts)
+        self._done += len(runs)
         return [from_json(it) for it in lines]
 
 
@@ -156,7 +156,7 @@ def size(vary: Vary, subject: Subject, trace: Path, where: Machines, entries: Se
         trials = Trials(runs)
 
         def measure(values: Sequence[int]) -> list[Measure]:
-            return trials.measure([subject.text_of({varied: it}) for it in values])
+            return trials.measure([subject.run_of({varied: it}) for it in values])
 
         measures, is_cut = search(vary, varied.value, wanted.share, wanted.grid, wanted.runs, measure)
     return Sizing(wanted.trace, wanted.users_of(subject), varied, wanted.share, measures, wanted.moments, is_cut)

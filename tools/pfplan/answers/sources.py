@@ -47,10 +47,10 @@ class Sources:
             return []
         least = self._counts.most_common(most)[-1][1]
         best = [Source(address, count) for address, count in self._counts.items() if count >= max(least, 1)]
-        return sorted(best, key=lambda it: (-it.count, _place(it.address)))[:most]
+        return sorted(best, key=lambda it: (-it.count, _sort_key(it.address)))[:most]
 
 
-def _place(address: str) -> tuple[int, int, str]:
+def _sort_key(address: str) -> tuple[int, int, str]:
     try:
         value = ipaddress.ip_address(address)
     except ValueError:

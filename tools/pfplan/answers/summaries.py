@@ -23,7 +23,7 @@ from pfplan.pf.reading_canonical_text import flushes_of, items_of, settings_of
 from pfplan.replays.runs import show_rules, stream_blocks
 from pfplan.traces.accounts import Frames
 from pfplan.traces.entries import entries_of_rules
-from pfplan.traces.insertions import Held, asking
+from pfplan.traces.insertions import HeldCounts, asking
 from pfplan.traces.moments import first_moment_of, last_moment_of, step_of
 from pfplan.traces.records import WORDS, End, Traces, line_blocks
 
@@ -95,7 +95,7 @@ class Summary:
     labels: dict[int, str] = field(default_factory=dict)
     undecided: list[int] = field(default_factory=list)  # rules, not anchors, that no record has
     interfaces: Interfaces | None = None
-    held: list[Held] = field(default_factory=list)
+    held: list[HeldCounts] = field(default_factory=list)
     profile: Profile | None = None  # of the rules text, where it is known
     settings: dict[str, int] = field(default_factory=dict)  # the limits for all rules
     origins: Origins = field(default_factory=Origins)
@@ -297,7 +297,7 @@ def origins_told(summary: Path, items: Sequence[str]) -> Origins:
     return Origins(places) if is_theirs else Origins()
 
 
-def held_at(rules: Path, trace: Path, count: int, entries: Sequence[str] = ()) -> list[Held]:
+def held_at(rules: Path, trace: Path, count: int, entries: Sequence[str] = ()) -> list[HeldCounts]:
     """What is held at so many moments of a trace, evenly from its first to its last.
 
     A report does not tell when states run out, so the program is asked in a replay of its own, with records that are

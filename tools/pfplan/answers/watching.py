@@ -23,7 +23,7 @@ from pfplan.pf.reading_canonical_text import settings_of
 from pfplan.replays.live import Capture
 from pfplan.traces.accounts import Frames
 from pfplan.traces.entries import records_at
-from pfplan.traces.insertions import Held
+from pfplan.traces.insertions import HeldCounts
 from pfplan.traces.records import End
 
 
@@ -101,7 +101,7 @@ class Watched:
     rules: list[str]
     side: Side
     report: TextIO | None = None
-    held: list[Held] = field(default_factory=list)
+    held: list[HeldCounts] = field(default_factory=list)
     now: End = End(0, 0, 0, 0)
     before: Counter[str] = field(default_factory=Counter)
 
@@ -117,7 +117,7 @@ class Watched:
         if len(self.held) >= MOST_MOMENTS:
             pairs = zip(self.held[::2], self.held[1::2], strict=False)
             self.held = [max(it, key=lambda held: held.states) for it in pairs]
-        self.held.append(Held(moment, self.now.states, self.now.nodes, self.now.entries))
+        self.held.append(HeldCounts(moment, self.now.states, self.now.nodes, self.now.entries))
 
     def finish(self) -> None:
         """Counts the end of the report."""

@@ -1,1 +1,1 @@
-"""The command line: a module for each command with its words, `add_words`, and what it does, `run`."""
+"""The command line: a module for each command with its words, `add_arguments`, and what it does, `run`."""

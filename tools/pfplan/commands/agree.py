@@ -47,7 +47,7 @@ FILES = """Into the folder: rules, left-out.txt, trace.csv, told.csv (pf's answe
 report.html. Rules, trace and told.csv have addresses in them, also where what is printed has none."""
 
 
-def add_words(parser: Parser) -> None:
+def add_arguments(parser: Parser) -> None:
     """The words of the command."""
     parser.description = f"{DESCRIPTION}\n\n{FILES}"
     parser.add_argument(

@@ -7,8 +7,8 @@ from dataclasses import replace
 from pfplan.answers.comparisons import Asked, compare, names_of
 from pfplan.answers.doubts import of_profiles
 from pfplan.answers.plays_beside import PlaysBeside, json_of_side, play_apart
-from pfplan.commands.play_words import add_most, add_seeds
 from pfplan.commands.given_rules import rules_given, ruleset_given
+from pfplan.commands.play_words import add_most, add_seeds
 from pfplan.commands.rule_words import add_rule_words, options_of
 from pfplan.commands.run_words import add_answer_words, add_check, checked, in_doubt, write_answer
 from pfplan.commands.words import add_asked, file, number
@@ -19,9 +19,9 @@ from pfplan.common.repository import check_program
 from pfplan.pages import comparison_texts, play_folder, play_pages, play_texts
 from pfplan.pages.differences import differences_beside
 from pfplan.pf.profiles import profile_of
+from pfplan.plays.expecting import check_expected
+from pfplan.plays.reading import is_scenario, read_scenario
 from pfplan.replays.runs import show_rules
-from pfplan.traces.scenarios.expecting import check_expected
-from pfplan.traces.scenarios.reading import is_scenario, read_scenario
 
 DESCRIPTION = """Replays one trace under several rulesets and tells how they differ: what became of the users,
 which limits were met, what is held; the first record at which they part and why; how many records had which word in
@@ -29,7 +29,7 @@ the one and in the other; and which connections of users change their fate. The 
 others are held against. Of a pf.conf a rules text is made, and standard error says what is left out of it."""
 
 
-def add_words(parser: argparse.ArgumentParser) -> None:
+def add_arguments(parser: argparse.ArgumentParser) -> None:
     """The words of `compare`."""
     parser.description = DESCRIPTION
     parser.add_argument("rules", nargs="+", type=file, metavar="RULES", help="two rules texts or more, or a pf.conf")

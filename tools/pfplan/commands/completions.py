@@ -48,7 +48,10 @@ def script_of(shell: str) -> str:
     """The script of `bash` or `zsh`."""
     parser = make_parser([name for name, _ in COMMANDS])
     (commands,) = (it for it in parser._actions if isinstance(it, argparse._SubParsersAction))
-    own = {name: [it for it in commands.choices[name]._actions if it.option_strings] for name, _ in COMMANDS}
+    own = {
+        name: [it for it in commands.choices[name]._actions if it.option_strings and it.help != argparse.SUPPRESS]
+        for name, _ in COMMANDS
+    }
     general = [name for it in parser._actions for name in it.option_strings]
     if shell == "bash":
         top = " ".join([*own, *general])

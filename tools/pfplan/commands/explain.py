@@ -32,7 +32,7 @@ which limit was met, what was killed with it, and when the same packet would hav
 asked anew."""
 
 
-def add_words(parser: Parser) -> None:
+def add_arguments(parser: Parser) -> None:
     """The words of `explain`."""
     parser.description = DESCRIPTION
     parser.add_argument("report", type=file, metavar="REPORT", help="the report")

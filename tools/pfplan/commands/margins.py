@@ -24,8 +24,8 @@ from pfplan.common.figures import counted
 from pfplan.common.inputs import check_trace, regular
 from pfplan.common.repository import check_program
 from pfplan.pages import margin_texts
+from pfplan.plays.reading import is_scenario
 from pfplan.replays.machines import measure_words
-from pfplan.traces.scenarios.reading import is_scenario
 
 DESCRIPTION = """Replays a trace under the rules, or plays a scenario, and again with each limit, maximum and
 timeout a tenth lower and a tenth higher, and with all timeouts longer by `interval` seconds, as if pf's purge
@@ -33,7 +33,7 @@ always came last. Tells which answers turn over: whether the wanted share of the
 limit is met. Rules that state the same number of one option are moved together."""
 
 
-def add_words(parser: argparse.ArgumentParser) -> None:
+def add_arguments(parser: argparse.ArgumentParser) -> None:
     """The words of `margins`."""
     parser.description = DESCRIPTION
     parser.add_argument("rules", type=file, metavar="RULES", help="a rules text, or a pf.conf")

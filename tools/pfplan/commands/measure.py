@@ -20,7 +20,7 @@ met and when, what became of the users' connections, and what is held. Rules tha
 "refused"."""
 
 
-def add_words(parser: argparse.ArgumentParser) -> None:
+def add_arguments(parser: argparse.ArgumentParser) -> None:
     """The words of `measure`."""
     parser.description = DESCRIPTION
     parser.add_argument(
@@ -50,7 +50,7 @@ def _is_scenario(path: Path) -> bool:
     """Whether a file is a scenario. A run of a trace does not load their code: `size` starts many."""
     if path.suffix != ".toml" and kind_of(path) in (None, Kind.TRACE):
         return False
-    from pfplan.traces.scenarios.reading import is_scenario
+    from pfplan.plays.reading import is_scenario
 
     return is_scenario(path)
 
@@ -63,8 +63,10 @@ def run(arguments: argparse.Namespace) -> int:
         entries = read_entries(arguments.entries) if arguments.entries else entries_of_rules(rules, arguments.rules)
         if _is_scenario(arguments.trace):
             from pfplan.answers.plays_measured import measure_play
+            from pfplan.plays.options import options_beside
 
-            line = json.dumps(measure_play(rules, arguments.trace, entries).to_json())
+            options = options_beside(rules, arguments.rules)
+            line = json.dumps(measure_play(rules, arguments.trace, entries, options).to_json())
         else:
             with regular(arguments.trace) as trace:
                 line = json.dumps(measure(rules, trace, arguments.users, arguments.held, entries).to_json())
@@ -86,8 +88,9 @@ def _measurer(arguments: argparse.Namespace, stack: contextlib.ExitStack) -> Cal
     entries = read_entries(arguments.entries) if arguments.entries else []
     if _is_scenario(arguments.trace):
         from pfplan.answers.plays_measured import measure_play
+        from pfplan.plays.options import options_beside
 
-        return lambda rules: measure_play(rules, arguments.trace, entries)
+        return lambda rules: measure_play(rules, arguments.trace, entries, options_beside(rules, rules))
     trace = stack.enter_context(regular(arguments.trace))
     asked = stack.enter_context(asking(trace, arguments.held, entries))
     return stack.enter_context(Measurer(trace, arguments.users, asked, entries, arguments.kept)).measure

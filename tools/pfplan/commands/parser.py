@@ -9,6 +9,7 @@ from pathlib import Path
 from typing import Any, NoReturn
 
 from pfplan import VERSION
+from pfplan.commands.layout import Formatter
 from pfplan.commands.words import output
 from pfplan.common.errors import Trouble
 from pfplan.common.inputs import take, take_none
@@ -41,7 +42,7 @@ class Parser(argparse.ArgumentParser):
 
     def __init__(self, *words: Any, **more: Any) -> None:
         more.setdefault("allow_abbrev", False)
-        more.setdefault("formatter_class", argparse.RawDescriptionHelpFormatter)
+        more.setdefault("formatter_class", Formatter)
         super().__init__(*words, **more)
 
     def error(self, message: str) -> NoReturn:
@@ -87,7 +88,7 @@ def make_parser(asked: Collection[str]) -> Parser:
         if name in asked:
             code = importlib.import_module(f"pfplan.commands.{name}")
             words.description = f"{does[0].upper()}{does[1:]}."
-            code.add_words(words)
+            code.add_arguments(words)
             words.set_defaults(run=code.run, own=words)
     return parser
 
@@ -117,6 +118,8 @@ def _check_outputs(arguments: argparse.Namespace) -> None:
     outputs: list[Path | None] = []
     inputs: list[Path] = []
     for action in arguments.own._actions:
+        if action.default == argparse.SUPPRESS:  # another word for one that is there too
+            continue
         given = getattr(arguments, action.dest, None)
         if action.type is output:
             outputs += [given] if given or action.dest == "out" else []

@@ -23,9 +23,9 @@ from pfplan.pages.play_folder import files_of, names_of, write_plays
 from pfplan.pages.play_texts import headline_of, users_of
 from pfplan.pages.record_texts import letters
 from pfplan.pages.report_page import PAGE
-from pfplan.traces.scenarios.expecting import MOST, check_expected
-from pfplan.traces.scenarios.model import Scenario
-from pfplan.traces.scenarios.reading import read_scenario
+from pfplan.plays.expecting import MOST, check_expected
+from pfplan.plays.model import Scenario
+from pfplan.plays.reading import read_scenario
 
 DESCRIPTION = """Plays a scenario against each ruleset: clients repeat what is not answered, wait, give up and come
 back, servers answer, and the firewall
@@ -42,13 +42,16 @@ folder:
   summary.json                   the numbers"""
 
 
-def add_words(parser: Parser) -> None:
+def add_arguments(parser: Parser) -> None:
     """The words of `play`."""
     parser.description = DESCRIPTION
-    parser.add_argument("scenario", type=file, metavar="SCENARIO", help="a scenario, a file of TOML")
     parser.add_argument(
-        "rules", type=file, nargs="+", metavar="RULES", help="a pf.conf, what pfctl -nvf prints, or a rules text"
+        "rules", type=file, metavar="RULES", help="a pf.conf, what pfctl -nvf prints, or a rules text"
     )
+    parser.add_argument(
+        "others", type=file, nargs="+", metavar="[RULES ...] SCENARIO",
+        help="more of these, and the scenario, a file of TOML; one whose name ends in .toml may also stand first",
+    )  # fmt: skip
     parser.add_argument(
         "--into", type=folder, required=True, metavar="FOLDER", help="the folder; it is made where it is not there"
     )
@@ -60,11 +63,19 @@ def add_words(parser: Parser) -> None:
 
 def run(arguments: argparse.Namespace) -> int:
     """Plays, and writes the folder."""
-    for path in (arguments.scenario, *arguments.rules):
+    scenario, rules = scenario_and_rules([arguments.rules, *arguments.others])
+    for path in (scenario, *rules):
         check_readable(path)
-    scenario = read_scenario(arguments.scenario)
-    play_rules(scenario, arguments.rules, arguments)
+    play_rules(read_scenario(scenario), rules, arguments)
     return Status.DONE
+
+
+def scenario_and_rules(files: Sequence[Path]) -> tuple[Path, Sequence[Path]]:
+    """The scenario, which stands behind all rulesets, and these. It may stand before them where its name alone of the
+    two ends in .toml."""
+    if files[0].suffix == ".toml" and files[-1].suffix != ".toml":
+        return files[0], files[1:]
+    return files[-1], files[:-1]
 
 
 def run_play(arguments: argparse.Namespace) -> Status:

@@ -3,7 +3,7 @@
 import argparse
 
 from pfplan.commands.words import number
-from pfplan.traces.scenarios.expecting import MOST
+from pfplan.plays.expecting import MOST
 
 SEEDS = 100
 RECORDS = 10_000_000_000 - 1

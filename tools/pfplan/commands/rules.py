@@ -16,12 +16,13 @@ from pfplan.traces.entries import beside, write_entries
 DESCRIPTION = """Makes a rules text for ./pfsrc of a pf.conf as it stands in /etc, with no OpenBSD at hand, or of
 what pfctl -nvf prints. Macros and lists are expanded as pfctl does. Standard error says what is left out, a line
 each:
-  FILE: line N: left out: TEXT: can change an answer (WHICH WAY): WHY     or     .. : changes no answer: WHY
+  FILE: line N: left out: TEXT: can change an answer (WHICH WAY): WHY
+  FILE: line N: left out: TEXT: changes no answer: WHY
 No rule comes out wider than it was: a part goes alone only where the rule matches the same packets without it, else
 the whole rule does. docs/PFCONF.md says of each construct of pf.conf(5) what becomes of it."""
 
 
-def add_words(parser: argparse.ArgumentParser) -> None:
+def add_arguments(parser: argparse.ArgumentParser) -> None:
     """The words of `pfplan rules`."""
     parser.description = DESCRIPTION
     parser.add_argument(

@@ -30,11 +30,11 @@ from pfplan.pages.timeline_pictures import FILES
 from pfplan.pf.conversion import Ruleset, machine_of, write_ruleset
 from pfplan.pf.lexer import printable
 from pfplan.pf.origins import origins_of
+from pfplan.plays.reading import is_scenario
 from pfplan.replays.machines import Machines, measure_words
 from pfplan.replays.runs import replay_into
 from pfplan.traces.accounts import Frames, frames_of
 from pfplan.traces.captures import make_trace
-from pfplan.traces.scenarios.reading import is_scenario
 
 DESCRIPTION = """Makes a rules text and a trace where they are not yet, replays, and puts into a folder:
 
@@ -53,7 +53,7 @@ MOST_MISSING = 5
 MOMENTS = 20
 
 
-def add_words(parser: Parser) -> None:
+def add_arguments(parser: Parser) -> None:
     """The words of the command."""
     parser.description = DESCRIPTION
     parser.add_argument(

@@ -3,19 +3,19 @@
 import argparse
 from importlib import resources
 
+from pfplan import plays
 from pfplan.commands.parser import Parser
 from pfplan.commands.words import output
 from pfplan.common.errors import Status
 from pfplan.common.outputs import whole_file
-from pfplan.traces import scenarios
 
-SKETCH = resources.files(scenarios) / "sketch.toml"
+SKETCH = resources.files(plays) / "sketch.toml"
 DESCRIPTION = """Prints an example of a scenario: a group of each kind, and a comment on each word. Take out what is
 not wanted, and change the rest.
 examples/scenarios/ has twelve that are shorter."""
 
 
-def add_words(parser: Parser) -> None:
+def add_arguments(parser: Parser) -> None:
     """The words of `scenario`."""
     parser.description = DESCRIPTION
     parser.add_argument("--out", type=output, metavar="FILE", help="where it goes (standard output)")

@@ -15,8 +15,8 @@ from pfplan.answers.maps import map_of
 from pfplan.answers.measures import Measure
 from pfplan.answers.plays_measured import Subject
 from pfplan.answers.sizes import Vary, Wanted, size
-from pfplan.commands.play_words import add_most
 from pfplan.commands.given_rules import rules_given
+from pfplan.commands.play_words import add_most
 from pfplan.commands.rule_words import add_rule_words, options_of
 from pfplan.commands.run_words import add_answer_words, add_machine_words, machines_of, write_answer
 from pfplan.commands.words import add_asked, file, number, share_word
@@ -24,7 +24,7 @@ from pfplan.common.errors import Status, Trouble
 from pfplan.common.inputs import check_trace, regular
 from pfplan.common.repository import check_program
 from pfplan.pages import map_texts, size_texts
-from pfplan.traces.scenarios.reading import is_scenario
+from pfplan.plays.reading import is_scenario
 
 DESCRIPTION = """Replays a trace, or plays a scenario, with several values of one number, and tells which of them
 serve the users. Served in a scenario is who is served without waiting.
@@ -54,7 +54,7 @@ def vary_word(text: str) -> Vary:
     return Vary(found[1], int(found[2]), int(found[3]))
 
 
-def add_words(parser: argparse.ArgumentParser) -> None:
+def add_arguments(parser: argparse.ArgumentParser) -> None:
     """The words of `size`."""
     parser.description = DESCRIPTION
     parser.add_argument("rules", type=file, metavar="RULES", help="a rules text, or a pf.conf")

@@ -18,7 +18,7 @@ from pfplan.common.outputs import whole_file
 from pfplan.common.repository import check_program
 from pfplan.pages import summary_texts
 from pfplan.pf.origins import origins_of
-from pfplan.traces.insertions import Held
+from pfplan.traces.insertions import HeldCounts
 
 LEGEND = "\n".join(
     f"  {kind:<12}{rule}" + (" (with --rules: of which states)" if kind == "killed" else "")
@@ -33,7 +33,7 @@ is gone; a packet of UDP, until it was quiet for 4 minutes and its state is gone
 Where a connection has no first packet in the trace it is counted apart, as are those that others began."""
 
 
-def add_words(parser: Parser) -> None:
+def add_arguments(parser: Parser) -> None:
     """The words of the command."""
     parser.description = DESCRIPTION
     parser.add_argument("report", type=file, metavar="REPORT", help="- is standard input")
@@ -93,7 +93,7 @@ def run(arguments: argparse.Namespace) -> int:
         is_partial=arguments.partial,
     )
     with contextlib.ExitStack() as stack:
-        held: concurrent.futures.Future[list[Held]] | None = None
+        held: concurrent.futures.Future[list[HeldCounts]] | None = None
         if arguments.trace:
             trace = stack.enter_context(regular(arguments.trace))
             check_trace(trace)

@@ -11,10 +11,10 @@ from pfplan.common.errors import Status, Trouble
 from pfplan.common.inputs import name_of, regular
 from pfplan.common.outputs import whole_files
 from pfplan.pf.conversion import machine_of
+from pfplan.plays.plain import write_plain
+from pfplan.plays.reading import is_scenario
 from pfplan.traces.captures import make_trace
 from pfplan.traces.pf_answers import HEAD
-from pfplan.traces.scenarios.plain import write_plain
-from pfplan.traces.scenarios.reading import is_scenario
 
 DESCRIPTION = """Makes a trace of a capture, by ./pfstrace; or of a scenario, as it were if the firewall let
 everything in and nobody reacted.
@@ -27,7 +27,7 @@ address tells the directions; else the networks of --inside do, which is right o
 has only the packets that rules log, often the first of a state: a trace of it lacks all others."""
 
 
-def add_words(parser: Parser) -> None:
+def add_arguments(parser: Parser) -> None:
     """The words of the command."""
     parser.description = DESCRIPTION
     parser.add_argument(
@@ -43,10 +43,14 @@ def add_words(parser: Parser) -> None:
         "address",
     )
     parser.add_argument(
-        "--told",
+        "--answers",
         type=output,
         metavar="FILE",
         help=f"for a pflog: writes there what pf answered for each record, as {HEAD}",
+    )
+    # the word of before
+    parser.add_argument(
+        "--told", dest="answers", type=output, metavar="FILE", default=argparse.SUPPRESS, help=argparse.SUPPRESS
     )
     parser.add_argument("--partial", action="store_true", help="takes a capture that is cut at its end, up to there")
     parser.add_argument(
@@ -64,7 +68,7 @@ def run(arguments: argparse.Namespace) -> int:
         write_plain(arguments.captures[0], arguments.out)
         return Status.DONE
     machine = machine_of(arguments.ifconfig)
-    outputs = (arguments.out, arguments.told) if arguments.told else (arguments.out,)
+    outputs = (arguments.out, arguments.answers) if arguments.answers else (arguments.out,)
     with contextlib.ExitStack() as stack:
         captures = [stack.enter_context(regular(it)) for it in arguments.captures]
         seen = seen_on(arguments.seen, captures, [], machine)
@@ -80,7 +84,7 @@ def run(arguments: argparse.Namespace) -> int:
 
 def _refuse_words(arguments: argparse.Namespace) -> None:
     """Trouble where a word is given that asks something of a capture."""
-    for word in ("inside", "outside", "ifconfig", "interface", "told", "zero"):
+    for word in ("inside", "outside", "ifconfig", "interface", "answers", "zero"):
         if getattr(arguments, word, None) or word in words_in(arguments.seen):
             raise Trouble(f"--{word}: {arguments.captures[0]} is a scenario, and the word is for captures")
     if len(arguments.captures) > 1:

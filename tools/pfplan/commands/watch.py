@@ -39,7 +39,8 @@ from pfplan.traces.captures import by_networks, check_account
 
 DESCRIPTION = """Runs limits beside the traffic of this minute, and does not touch the firewall:
 
-  tcpdump -U -w - -i em0 | pfplan watch new.conf --if em0 --inside 192.0.2.0/24 --users 198.51.100.0/24
+  tcpdump -U -w - -i em0 | pfplan watch new.conf --if em0 \\
+      --inside 192.0.2.0/24 --users 198.51.100.0/24
 
 The capture comes on standard input. (OpenBSD's tcpdump has no -U, and gives blocks of packets.) On a terminal a screen
 is drawn again each second, elsewhere a line a second is printed: records a second, states held of the limit, what each
@@ -50,7 +51,7 @@ while no packet comes, nothing expires. Memory grows with what is held, not with
 TRACE = "the capture that was watched"
 
 
-def add_words(parser: Parser) -> None:
+def add_arguments(parser: Parser) -> None:
     """The words of the command."""
     parser.description = DESCRIPTION
     parser.add_argument(

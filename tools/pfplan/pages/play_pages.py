@@ -18,9 +18,9 @@ from pfplan.pages.play_texts import all_are_served, headline_of, rows_of, shut_o
 from pfplan.pages.record_texts import WHY
 from pfplan.pages.report_page import more_of
 from pfplan.pages.timeline_pictures import MAKERS, most_of
+from pfplan.plays.model import Scenario
+from pfplan.plays.playing import Played
 from pfplan.traces.moments import step_of
-from pfplan.traces.scenarios.model import Scenario
-from pfplan.traces.scenarios.playing import Played
 
 NOT_MODELLED = (
     "Nothing is lost on the way, no line is ever full, and a packet takes as long in the flood as before: whoever is "

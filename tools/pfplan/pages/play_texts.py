@@ -10,10 +10,10 @@ from pfplan.answers.plays_beside import PlaysBeside
 from pfplan.common.figures import counted
 from pfplan.common.visible import visible
 from pfplan.pages.record_texts import letters
+from pfplan.plays.counts import Count
+from pfplan.plays.model import Askers, Forgers, Laid
+from pfplan.plays.playing import Played
 from pfplan.traces.records import WORDS
-from pfplan.traces.scenarios.counts import Count
-from pfplan.traces.scenarios.model import Askers, Forgers, Laid
-from pfplan.traces.scenarios.playing import Played
 
 Row = tuple[str, list[str]]
 T = TypeVar("T")

@@ -12,7 +12,7 @@ from pfplan.common.figures import moment_text, share_text
 from pfplan.common.limits import BY_WORD
 from pfplan.pages.doubt_texts import doubt_lines
 from pfplan.pages.rule_notes import TWO_STATES, does_fill_decide, entering_of, frame_lines, note_of, skipped_lines
-from pfplan.traces.insertions import Held
+from pfplan.traces.insertions import HeldCounts
 
 # rules that are named for a limit
 FEW_RULES = 5
@@ -169,7 +169,7 @@ def _interfaces(found: Interfaces) -> Iterator[str]:
         yield f"  of records, and no rule names them: {', '.join(found.without_rules)}"
 
 
-def _held(held: Sequence[Held]) -> Iterator[str]:
+def _held(held: Sequence[HeldCounts]) -> Iterator[str]:
     if not held:
         return
     width = max(10, *(len(moment_text(it.moment)) for it in held))

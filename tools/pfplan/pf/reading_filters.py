@@ -2,6 +2,7 @@
 PARAMETERS)."""
 
 import re
+from collections.abc import Callable, Mapping
 
 from pfplan.common.limits import OF_RULES
 from pfplan.pf.cursor import Cursor
@@ -288,7 +289,8 @@ class FilterReader:
             kind = self.at.take_word(*PARTS)
             if not kind:
                 raise self._no_part()
-        self._rest_of_part(kind)
+        if kind in _BEHIND:
+            _BEHIND[kind](self, kind)
         return Part(kind, self.at.text_since(mark))
 
     def _no_part(self) -> Exception:
@@ -297,30 +299,9 @@ class FilterReader:
             return trouble(self.at.token, f"{self.at.token.shown()}: stands too late, or twice; pf's order is {order}")
         return self.at.wanted("a part of a rule, or the end of the line", (*AFTER_HOSTS, *HEAD))
 
-    def _rest_of_part(self, kind: str) -> None:
-        if kind in _ONE_WORD:
-            self.at.want_name(f"what {kind} names")
-        elif kind in ("user", "group"):
-            self.at.listed(self._owner)
-        elif kind in ("icmp-type", "icmp6-type"):
-            self.at.listed(self._icmp_type)
-        elif kind == "queue":
-            self._name_or_parentheses("a queue")
-        elif kind == "set":
-            self._set()
-        elif kind == "scrub":
-            self.at.skip_parentheses()
-        elif kind == "probability":
-            self.at.want_name("a probability")
-            self.at.take_mark("%")
-        elif kind == "max-pkt-rate":
-            self._rate(kind)
-        elif kind in _TRANSLATIONS:
-            self._translation(kind)
-        elif kind in _ROUTES:
-            self._pool()
-        elif kind.startswith("divert-") and kind != "divert-reply":
-            self._divert(kind)
+    def _probability(self) -> None:
+        self.at.want_name("a probability")
+        self.at.take_mark("%")
 
     def _name_or_parentheses(self, what: str) -> None:
         if self.at.is_mark("("):
@@ -397,3 +378,19 @@ class FilterReader:
             self.at.want_name("an address")
         self.at.want_word("port")
         self.at.want_name("a port")
+
+
+# what reads that which stands behind the word of a part; behind a word that is not in it nothing does
+_BEHIND: Mapping[str, Callable[[FilterReader, str], object]] = {
+    **dict.fromkeys(_ONE_WORD, lambda it, kind: it.at.want_name(f"what {kind} names")),
+    **dict.fromkeys(("user", "group"), lambda it, kind: it.at.listed(it._owner)),
+    **dict.fromkeys(("icmp-type", "icmp6-type"), lambda it, kind: it.at.listed(it._icmp_type)),
+    **dict.fromkeys(_TRANSLATIONS, FilterReader._translation),
+    **dict.fromkeys(_ROUTES, lambda it, kind: it._pool()),
+    **dict.fromkeys(("divert-to", "divert-packet"), FilterReader._divert),
+    "queue": lambda it, kind: it._name_or_parentheses("a queue"),
+    "set": lambda it, kind: it._set(),
+    "scrub": lambda it, kind: it.at.skip_parentheses(),
+    "probability": lambda it, kind: it._probability(),
+    "max-pkt-rate": FilterReader._rate,
+}

@@ -19,8 +19,8 @@ import subprocess
 import sys
 import tempfile
 import threading
-from collections.abc import Sequence
-from dataclasses import dataclass
+from collections.abc import Mapping, Sequence
+from dataclasses import dataclass, field
 from pathlib import Path
 from types import TracebackType
 
@@ -52,6 +52,15 @@ class Machines:
     def is_here(self) -> bool:
         """Whether all runs are on this machine, without GNU parallel."""
         return not self.logins and not self.login_files
+
+
+@dataclass(frozen=True)
+class Run:
+    """What one run measures: a rules text. `beside` are texts that stand beside it in files of its name with these
+    endings; all runs of one trace have the same endings."""
+
+    rules: bytes
+    beside: Mapping[str, str] = field(default_factory=dict)
 
 
 def measure_words(users: Sequence[Network], moments: int) -> list[str]:
@@ -112,20 +121,27 @@ class Runs:
             self._clear_there()
         self._place.cleanup()
 
-    def measure(self, texts: Sequence[bytes], progress: Progress | None = None) -> list[str]:
-        """Runs each rules text, and answers the line that each run printed, in their order.
+    def measure(self, runs: Sequence[Run], progress: Progress | None = None) -> list[str]:
+        """Runs each, and answers the line that each printed, in their order.
 
         Trouble with the run's own message and status where one fails; then the others are ended.
         """
-        names = []
-        for text in texts:
-            names.append(f"rules-{self._count}")
-            self._count += 1
-            try:
-                (self._folder / names[-1]).write_bytes(text)
-            except OSError as error:
-                raise Trouble(f"{self._folder}: can't be written: {reason_of(error)}", Status.FAILED) from None
-        return self._here(names, progress) if self._machines.is_here else self._spread(names, progress)
+        names = [self._write(it) for it in runs]
+        if self._machines.is_here:
+            return self._here(names, progress)
+        return self._spread(names, sorted({ending for it in runs for ending in it.beside}), progress)
+
+    def _write(self, run: Run) -> str:
+        """Writes the files of a run, and answers the name of its rules."""
+        name = f"rules-{self._count}"
+        self._count += 1
+        try:
+            (self._folder / name).write_bytes(run.rules)
+            for ending, text in run.beside.items():
+                (self._folder / f"{name}{ending}").write_text(text, encoding="utf-8")
+        except OSError as error:
+            raise Trouble(f"{self._folder}: can't be written: {reason_of(error)}", Status.FAILED) from None
+        return name
 
     def stop(self) -> None:
         """Ends all that run and waits for them; what has not ended in five seconds is killed."""
@@ -190,9 +206,10 @@ class Runs:
         ]
         return self._start(command, self._folder)
 
-    def _spread(self, names: Sequence[str], progress: Progress | None) -> list[str]:
-        """Runs by GNU parallel. Each prints one line, which begins with the name of its rules."""
-        process = self._start(self._parallel(), self._folder)
+    def _spread(self, names: Sequence[str], endings: Sequence[str], progress: Progress | None) -> list[str]:
+        """Runs by GNU parallel, with the files of these endings beside the rules. Each prints one line, which begins
+        with the name of its rules."""
+        process = self._start(self._parallel(endings), self._folder)
         assert process.stdin is not None and process.stdout is not None and process.stderr is not None
         errors: list[str] = []
         reader = threading.Thread(target=errors.extend, args=(process.stderr,), daemon=True)
@@ -236,9 +253,9 @@ class Runs:
         logins = [f"--sshlogin={it}" for it in self._machines.logins]
         return logins + [f"--sshloginfile={it.resolve()}" for it in self._machines.login_files]
 
-    def _parallel(self) -> list[str]:
-        """The command line of GNU parallel. The last word is a shell's command: what is in it is quoted, or holds
-        letters of our own."""
+    def _parallel(self, endings: Sequence[str]) -> list[str]:
+        """The command line of GNU parallel, which brings the files of these endings with the rules. The last word is a
+        shell's command: what is in it is quoted, or holds letters of our own."""
         machines = self._machines
         command = [
             "parallel",
@@ -254,6 +271,7 @@ class Runs:
         command += [f"--jobs={machines.jobs}"] if machines.jobs else []
         entries = beside(Path("all")).name if self._entries else ""
         command += [*self._logins(), "--workdir", self._workdir, "--basefile", "./trace", "--transferfile", "./{}"]
+        command += [it for ending in endings for it in ("--transferfile", f"./{{}}{ending}")]
         command += ["--basefile", f"./{entries}"] if entries else []
         program = [f"PFSRC={os.environ['PFSRC']}"] if os.environ.get("PFSRC") else []
         path = machines.there or str(TOP / "pfplan")

@@ -17,7 +17,7 @@ from pfplan.common.inputs import check_rules, check_trace
 from pfplan.common.outputs import part_file
 from pfplan.common.progress import Progress
 from pfplan.common.repository import program
-from pfplan.traces.insertions import NOTHING, Asking, Heard, Held, Insertions, asking
+from pfplan.traces.insertions import NOTHING, Asking, Heard, HeldCounts, Insertions, asking
 from pfplan.traces.records import BLOCK, blocks_of
 from pfplan.traces.rows import Rows
 
@@ -71,7 +71,7 @@ def run_replay(
             _check_end(process.returncode, errors, replay.rules, replay.trace)
 
 
-def replay_into(folder: Path, trace: Path, entries: Sequence[str], moments: int = 0) -> list[Held]:
+def replay_into(folder: Path, trace: Path, entries: Sequence[str], moments: int = 0) -> list[HeldCounts]:
     """Replays a trace under the file `rules` of a folder into its file `report`, shows how far it is, and answers how
     much is held at so many moments. `entries` come by records. Trouble as `run_replay`."""
     rules = folder / "rules"

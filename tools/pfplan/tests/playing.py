@@ -4,12 +4,12 @@ from collections.abc import Callable, Mapping, Sequence
 from dataclasses import dataclass, field
 from pathlib import Path
 
+from pfplan.plays.counts import Tally
+from pfplan.plays.model import Scenario
+from pfplan.plays.reading import scenario_of
+from pfplan.plays.returning import Answer
+from pfplan.plays.staging import Play
 from pfplan.traces.records import End
-from pfplan.traces.scenarios.counts import Tally
-from pfplan.traces.scenarios.model import Scenario
-from pfplan.traces.scenarios.plays import Play
-from pfplan.traces.scenarios.reading import scenario_of
-from pfplan.traces.scenarios.returning import Answer
 
 HEAD = {"seconds": 10, "server": "192.0.2.1:80"}
 ONE = {"kind": "visits", "from": "198.51.100.7/32", "hosts": 1, "requests": 1, "stay": 1}

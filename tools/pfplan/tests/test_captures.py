@@ -115,7 +115,9 @@ class Captures(FolderCase):
         self.assertFalse(os.path.exists(self.read("words").strip()))
 
     def test_told(self) -> None:
+        """The word of before, --told, is read too."""
         script = f'printf \'{ANSWERS}\\n1,block,7,a,0\\n\' > "$2"; echo "$1 $3" > words; {ONE}'
+        self.assertEqual(self.call(script, "--answers", "told", "--out", "trace"), Done(0, "", ""))
         self.assertEqual(self.call(script, "--told", "told", "--out", "trace"), Done(0, "", ""))
         self.assertEqual((self.read("told"), self.read("trace")), (f"{ANSWERS}\n1,block,7,a,0\n", "time,dir\n5,in\n"))
         self.assertEqual(
@@ -123,7 +125,7 @@ class Captures(FolderCase):
         )
 
     def test_it_fails(self) -> None:
-        words = ("--told", "told", "--out", "trace")
+        words = ("--answers", "told", "--out", "trace")
         self.assertEqual(self.call(f'echo {ANSWERS} > "$2"; {ONE}', *words).status, 0)
         before = (self.read("told"), self.read("trace"))
         for end, status, why in (
@@ -213,7 +215,7 @@ class Captures(FolderCase):
 
     def test_an_interrupt(self) -> None:
         around = os.environ | self.pfstrace(f"{ONE}; echo > begun; exec sleep 60")
-        words = [sys.executable, str(TOP / "pfplan"), "trace", NAME, "--told", "told", "--out", "trace"]
+        words = [sys.executable, str(TOP / "pfplan"), "trace", NAME, "--answers", "told", "--out", "trace"]
         begun = self.folder / "begun"
         for number in (signal.SIGINT, signal.SIGTERM):
             with self.subTest(number=number):
@@ -229,12 +231,12 @@ class Captures(FolderCase):
                 self.assertEqual(self.left(), [NAME, "pfstrace"])
 
     def test_words(self) -> None:
+        input_said = f"{self.capture}: it is the input {self.capture}, which no output may replace"
         for words, why in (
             (("--inside", "192.0.2.300"), "--inside: '192.0.2.300' is no prefix"),
             (("--outsid", "192.0.2.0/24"), "'--outsid': no such word; is --outside meant? (pfplan trace --help)"),
             (("--if", "any"), "--if/--interface: 'any' is no name of an interface"),
-            (("--out", self.capture), f"{self.capture}: it is the input {self.capture}, which no output may replace"),
-            (("--told", self.capture), f"{self.capture}: it is the input {self.capture}, which no output may replace"),
+            (("--out", self.capture), input_said), (("--answers", self.capture), input_said),
         ):
             done = pfplan("trace", self.capture, *words)
             self.assertEqual((done.status, done.out, done.err), (2, "", f"pfplan trace: {why}\n"))

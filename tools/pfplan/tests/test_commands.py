@@ -17,9 +17,10 @@ class Commands(FolderCase):
         whole = pfplan("--help")
         self.assertEqual((whole.status, whole.err), (0, ""))
         for name, _ in COMMANDS:
-            done = pfplan(name, "--help")
+            done = pfplan(name, "--help", env={"COLUMNS": "80"})
             self.assertEqual((done.status, done.err), (0, ""))
             self.assertTrue(done.out.startswith(f"usage: pfplan {name} "), done.out[:80])
+            self.assertLess(max(map(len, done.out.splitlines())), 80, name)
 
     def test_slips(self) -> None:
         for words, line in (

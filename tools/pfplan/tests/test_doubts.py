@@ -69,7 +69,7 @@ class Pages(FolderCase):
             "s.toml",
             'seconds = 3\nserver = "192.0.2.1:80"\n[group.a]\nkind = "visits"\nfrom = "198.51.100.0/24"\nhosts = 2\n',
         )
-        self.check("vio0", "play", scenario, rules, text="summary.txt")
+        self.check("vio0", "play", rules, scenario, text="summary.txt")
 
     def test_entries_that_are_missing(self) -> None:
         rules = self.write("pf.conf", "pass in on em0 from any to (egress)\npass in on em0\n")
@@ -100,7 +100,7 @@ class Plays(FolderCase):
         bots = '[group.bots]\nkind = "hold"\nfrom = "203.0.113.0/24"\nhosts = 20\nrate = 60\n'
         users = '[group.office]\nkind = "visits"\nfrom = "198.51.100.0/24"\nhosts = 9\npatience = 2\nretries = 1\n'
         scenario = self.write("s.toml", f'seconds = 9\nserver = "192.0.2.1:80"\n{users}begin = 3\n{bots}')
-        done = pfplan("play", scenario, rules, "--into", self.folder / "played")
+        done = pfplan("play", rules, scenario, "--into", self.folder / "played")
         self.assertEqual(done.status, 0, done.err)
         self.assertRegex(done.out, r"^A  pf: shut out: office \([0-8] of 9 served\); [^;]* served without waiting, ")
         text = (self.folder / "played/summary.txt").read_text("utf-8")

@@ -105,7 +105,7 @@ class Drawing:
         return self.random.choice(
             [
                 ["rules", rules, "--out", out], ["scenario", "--out", out], ["trace", capture, *INSIDE, "--out", out],
-                ["trace", "log", "--out", out, "--told", str(self.place())], ["trace", "s.toml", "--out", out],
+                ["trace", "log", "--out", out, "--answers", str(self.place())], ["trace", "s.toml", "--out", out],
                 ["summary", report, "--trace", trace, "--out", out], ["measure", rules, trace],
                 ["explain", report, "--trace", trace, "--rules", rules, "--row", "1", "--out", out],
                 ["compare", rules, "other.conf", trace, "--out", out, *page],
@@ -113,7 +113,7 @@ class Drawing:
                 ["size", rules, "t.csv", "--vary", "states=1..5", "--runs", "2", *USERS, "--out", out, *page],
                 ["run", rules, trace, "--into", into, "--held", "0"], ["run", rules, "t.csv", "--into", into, *USERS],
                 ["run", rules, capture, *INSIDE, "--into", into, "--held", "2"],
-                ["play", "s.toml", rules, "other.conf", "--into", into, "--jobs", "1"],
+                ["play", rules, "other.conf", "s.toml", "--into", into, "--jobs", "1"],
                 ["agree", "log.conf", "log", "--into", into],
                 ["watch", rules, "other.conf", *INSIDE, "--into", into],
             ]
@@ -181,7 +181,7 @@ class DrawnOutputs(FolderCase):
 
     def inputs_of(self, words: list[str]) -> list[str]:
         """The words that are no outputs and no options."""
-        outputs = ("--out", "--page", "--into", "--told")
+        outputs = ("--out", "--page", "--into", "--answers")
         return [it for before, it in zip(words, words[1:]) if before not in outputs and not it.startswith("-")]
 
     def run_it(self, drawing: Drawing, words: list[str]) -> int:

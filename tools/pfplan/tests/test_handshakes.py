@@ -3,9 +3,9 @@
 import unittest
 from collections.abc import Callable, Mapping
 
+from pfplan.plays.counts import Tally
+from pfplan.plays.worlds import SLOTS
 from pfplan.tests.playing import ONE, Scripted, lets_in, played, scenario
-from pfplan.traces.scenarios.counts import Tally
-from pfplan.traces.scenarios.worlds import SLOTS
 
 OPEN = ["in S!", "in A!", "out SA!"]
 REST = [*(["in PA", "out PA", "in A"]), *(["in FA", "out FA", "in A"])]

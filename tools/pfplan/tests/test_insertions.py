@@ -16,7 +16,7 @@ from pfplan.common.inputs import HEADER
 from pfplan.common.repository import program
 from pfplan.replays.runs import stream_blocks
 from pfplan.tests.support import FolderCase, pfplan
-from pfplan.traces.insertions import Held, asking
+from pfplan.traces.insertions import HeldCounts, asking
 from pfplan.traces.rows import Rows
 
 RULES = """set profile openbsd-7.4
@@ -126,7 +126,7 @@ class Questions(FolderCase):
             [int(drawn_records(1, 50)[-1].split(",")[0])],
         )
         self.assertEqual(
-            held_at(rules, self.trace(["5,in,em0,udp,198.51.100.1,1,192.0.2.1,53,"]), 9), [Held(5, 1, 1, 1)]
+            held_at(rules, self.trace(["5,in,em0,udp,198.51.100.1,1,192.0.2.1,53,"]), 9), [HeldCounts(5, 1, 1, 1)]
         )
         self.assertEqual(held_at(rules, self.trace([]), 9), [])
 

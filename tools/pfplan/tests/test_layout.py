@@ -103,7 +103,7 @@ class Layout(FolderCase):
             (*size, "--vary", "states=20..400", "--vary", "tcp.first=5..120", "--page", self.folder / "map.html"),
             ("margins", confs[0], trace, *USERS, "--page", self.folder / "margins.html"),
             ("agree", confs[0], log, "--into", self.folder / "agree"),
-            ("play", scenario, *confs, "--into", self.folder / "play"),
+            ("play", *confs, scenario, "--into", self.folder / "play"),
         ):
             done = pfplan(*words)
             self.assertEqual(done.status, 0, done.err)

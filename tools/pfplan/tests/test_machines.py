@@ -15,7 +15,7 @@ from unittest import mock
 from pfplan.common.errors import Trouble
 from pfplan.common.repository import TOP
 from pfplan.replays import machines
-from pfplan.replays.machines import Machines, Runs
+from pfplan.replays.machines import Machines, Run, Runs
 from pfplan.tests.support import STAND_IN, FolderCase, heed_interrupts, pfplan
 
 ENV = {"PFSRC": str(STAND_IN)}
@@ -32,7 +32,7 @@ class CommandLines(FolderCase):
         with mock.patch.dict(os.environ, {"PFSRC": "/x y;z"}), Runs(
             where, self.trace(RECORDS), ["--users=198.51.100.0/24", "--held=0"]
         ) as runs:
-            *command, last = runs._parallel()
+            *command, last = runs._parallel(())
             folder = runs._folder.name
         self.assertIn("--jobs=3", command)
         self.assertIn("--sshlogin=user@host", command)
@@ -44,6 +44,14 @@ class CommandLines(FolderCase):
             ["env", "PFSRC=/x y;z", path, "measure", "--named", "{}", "trace", "--users=198.51.100.0/24", "--held=0"],
         )
         self.assertRegex(folder, r"^pfplan-[a-z0-9_]+$")
+
+    def test_what_stands_beside_rules_goes_with_them(self) -> None:
+        with Runs(Machines(1, (":",)), self.trace(RECORDS), []) as runs:
+            self.assertEqual(runs._write(Run(b"pass\n", {".play": "{}"})), "rules-0")
+            beside = (runs._folder / "rules-0.play").read_text("utf-8")
+            command = runs._parallel((".play",))
+        self.assertEqual(beside, "{}")
+        self.assertEqual([it for it in command if it.startswith("./{}")], ["./{}", "./{}.play"])
 
     def test_package_is_named_where_it_is_missing(self) -> None:
         with mock.patch("shutil.which", return_value=None), self.assertRaisesRegex(Trouble, "Debian package parallel"):

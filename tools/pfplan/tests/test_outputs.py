@@ -138,7 +138,7 @@ class Folders(Calling):
         scenario = self.write("s.toml", 'seconds = 2\nserver = "192.0.2.1:80"\n[group.a]\nkind = "hold"\n'
                               'from = "198.51.100.0/24"\nhosts = 2\nrate = 1\nusers = true\n')  # fmt: skip
         other = self.write("other.conf", "block all\n")
-        words = ("play", scenario, self.rules, other, "--into", self.folder / "played")
+        words = ("play", self.rules, other, scenario, "--into", self.folder / "played")
         self.assertEqual(pfplan(*words).status, 0)
         before = self.whole()
         self.rules.write_text("set limit states 60\npass in proto tcp all keep state\n", "utf-8")
@@ -174,7 +174,7 @@ class Files(Calling):
             ("compare", rules, rules, trace, "--out", rules), ("compare", rules, rules, trace, "--page", trace),
             ("margins", rules, trace, "--out", rules), ("margins", rules, trace, "--page", rules),
             ("size", rules, trace, "--vary", "states=1..5", *USERS, "--page", trace),
-            ("trace", LOG, "--out", "log"), ("trace", LOG, "--told", "log"),
+            ("trace", LOG, "--out", "log"), ("trace", LOG, "--answers", "log"),
         ]  # fmt: skip
         (self.folder / "log").symlink_to(LOG)
         for words in calls:

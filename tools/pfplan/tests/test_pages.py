@@ -23,7 +23,7 @@ from pfplan.pages import frames, markup, pictures, report_page, timeline_picture
 from pfplan.pages.summary_texts import text_of
 from pfplan.pf.origins import Origins
 from pfplan.traces.accounts import Frames
-from pfplan.traces.insertions import Held
+from pfplan.traces.insertions import HeldCounts
 from pfplan.traces.records import End
 
 # names as somebody could choose them: elements, attributes, SVG, gnuplot's commands, and characters that nobody sees
@@ -102,7 +102,7 @@ def summary(name: str = "pass all", served: int = 199, connections: int = 200) -
         {"added": 2}, End(12, 4, 3, 2), 100, 101, 1, steps,
         Users("198.51.100.0/24", connections, outcomes, {"drop:states": connections - served}, 1),
         Tops([Source(name, 6)], [], [Source(name, 5)], [Source(name, 11)]), [name, name], {0: name}, [1],
-        Interfaces([name], [name]), [Held(100, 2, 1, 0), Held(101, 4, 3, 2)],
+        Interfaces([name], [name]), [HeldCounts(100, 2, 1, 0), HeldCounts(101, 4, 3, 2)],
     )  # fmt: skip
 
 

@@ -10,8 +10,9 @@ from unittest import mock
 from pfplan.__main__ import main
 from pfplan.pages import pictures
 from pfplan.pf.profiles import Profile
+from pfplan.plays.options import PlayOptions, options_beside
+from pfplan.plays.returning import words_of
 from pfplan.tests.support import FolderCase, pfplan
-from pfplan.traces.scenarios.returning import words_of
 
 SCENARIO = """seconds = 12
 server = "192.0.2.1:80"
@@ -51,7 +52,7 @@ class PlayedCommands(FolderCase):
         """Connections of users, and those served without waiting, in a single play."""
         scenario = self.write("single.toml", SCENARIO.replace("rate = 8", f"rate = {rate}"))
         rules = self.write("single", RULES.replace("max-src-states 50", f"max-src-states {most}"))
-        self.output("play", scenario, rules, "--into", self.folder / "single-play")
+        self.output("play", rules, scenario, "--into", self.folder / "single-play")
         group = json.loads((self.folder / "single-play/single/summary.json").read_text("utf-8"))["groups"][0]
         return group["connections"], group["served_without_waiting"]
 
@@ -62,6 +63,21 @@ class PlayedCommands(FolderCase):
         self.assertLessEqual(
             {"rules", "left-out.txt", "trace.csv", "report", "summary.txt", "summary.json", "report.html"}, made
         )
+
+    def test_options_beside_rules(self) -> None:
+        """Without a file of them they are what the text says; another file is refused."""
+        rules = self.write("blocking", "block return-rst\npass\n")
+        self.assertEqual(options_beside(rules, rules), PlayOptions({0: "return-rst"}))
+        options = PlayOptions({2: "return"}, {"holder.rate": 9, "seconds": 8}, 70_000)
+        plain = json.loads(self.output("measure", rules, self.scenario))["records"]
+        beside = self.write("blocking.play", options.to_json())
+        self.assertEqual(options_beside(rules, rules), options)
+        self.assertLess(json.loads(self.output("measure", rules, self.scenario))["records"], plain)
+        for text in ("", "[]", "{}", '{"returning": {"a": 1}, "numbers": {}, "most": 1}'):
+            self.write("blocking.play", text)
+            done = pfplan("measure", rules, self.scenario)
+            self.assertEqual((done.status, done.out), (1, ""))
+            self.assertEqual(done.err, f"pfplan measure: {beside}: no options of a play: {text!r}\n")
 
     def test_gnuplot_that_fails_or_hangs(self) -> None:
         """The plays are kept, and the page says why it has no pictures."""
@@ -79,7 +95,7 @@ class PlayedCommands(FolderCase):
             with path, mock.patch.object(pictures, "SECONDS_FOR_A_PICTURE", 1), contextlib.redirect_stdout(
                 io.StringIO()
             ):
-                played = main(["play", str(self.scenario), str(self.rules), "--into", str(into)])
+                played = main(["play", str(self.rules), str(self.scenario), "--into", str(into)])
                 words = [self.rules, self.open, self.scenario, "--page", page, "--out", self.folder / "told"]
                 compared = main(["compare", *map(str, words)])
             self.assertEqual((played, compared), (0, 0))

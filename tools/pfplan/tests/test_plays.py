@@ -4,10 +4,10 @@ import random
 import unittest
 from collections.abc import Callable, Sequence
 
+from pfplan.plays.counts import Count
+from pfplan.plays.returning import Answer
+from pfplan.plays.worlds import SLOTS
 from pfplan.tests.playing import ONE, Scripted, blocks, lets_in, played, scenario
-from pfplan.traces.scenarios.counts import Count
-from pfplan.traces.scenarios.returning import Answer
-from pfplan.traces.scenarios.worlds import SLOTS
 
 OPEN = ["in S", "out SA", "in A"]
 REQUEST = ["in PA", "out PA", "in A"]

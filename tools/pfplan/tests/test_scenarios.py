@@ -12,13 +12,13 @@ import tomllib
 
 from pfplan.common.errors import Trouble
 from pfplan.common.repository import TOP, program
+from pfplan.plays.model import KINDS, Visits
+from pfplan.plays.playing import Task, play
+from pfplan.plays.reading import OF_KIND, numbers_of, read_scenario, value_of
+from pfplan.plays.returning import answers_of, words_of
 from pfplan.tests.playing import scenario
 from pfplan.tests.support import FolderCase, pfplan
 from pfplan.tests.test_plays import drawn
-from pfplan.traces.scenarios.model import KINDS, Visits
-from pfplan.traces.scenarios.playing import Task, play
-from pfplan.traces.scenarios.reading import OF_KIND, numbers_of, read_scenario, value_of
-from pfplan.traces.scenarios.returning import answers_of, words_of
 
 HEAD = 'seconds = 10\nserver = { web = ["192.0.2.1:80", "192.0.2.1:443"], six = "[2001:db8::1]:80" }\n'
 HOMES = '[group.homes]\nkind = "visits"\nfrom = "198.51.100.0/24"\nhosts = 3\n'
@@ -165,7 +165,7 @@ class Reading(FolderCase):
             self.assertEqual((caught.exception.status, "\n" in message), (1, False))
 
     def test_no_file(self) -> None:
-        done = pfplan("play", self.folder / "none.toml", self.write("rules", RULES), "--into", self.folder / "out")
+        done = pfplan("play", self.write("rules", RULES), self.folder / "none.toml", "--into", self.folder / "out")
         self.assertEqual((done.status, done.err), (4, f"pfplan play: {self.folder}/none.toml: no such file\n"))
 
     def test_defaults(self) -> None:
@@ -210,7 +210,7 @@ class Reading(FolderCase):
 
 class Command(FolderCase):
     def play(self, text: str, *rules: Path, name: str = "scenario.toml") -> tuple[int, str]:
-        done = pfplan("play", self.write(name, text), *rules, "--into", self.folder / "out")
+        done = pfplan("play", *rules, self.write(name, text), "--into", self.folder / "out")
         return done.status, done.err
 
     def test_the_trace_that_came_of_a_play_gives_its_report(self) -> None:
@@ -231,10 +231,26 @@ class Command(FolderCase):
             it: (self.folder / "out" / it).read_bytes()
             for it in ("summary.txt", "rules/trace.csv", "other/summary.json", "report.html")
         }
-        done = pfplan("play", self.folder / "scenario.toml", *rules, "--into", self.folder / "out", "--jobs", 1)
+        done = pfplan("play", *rules, self.folder / "scenario.toml", "--into", self.folder / "out", "--jobs", 1)
         self.assertEqual(done.status, 0)
         for name, was in before.items():
             self.assertEqual((self.folder / "out" / name).read_bytes(), was, name)
+
+    def test_the_scenario_may_stand_first(self) -> None:
+        """The order of before, in each place of the options, makes the same files."""
+        scenario = self.write("s.toml", HEAD + HOMES)
+        one, other = self.write("one.conf", RULES), self.write("other.conf", "pass\n")
+        for name, words in (
+            ("new", (one, other, scenario, "--into")), ("apart", (one, "--jobs", 1, other, scenario, "--into")),
+            ("old", (scenario, one, other, "--into")), ("old-apart", (scenario, "--jobs", 1, one, other, "--into")),
+        ):  # fmt: skip
+            done = pfplan("play", *words, self.folder / name)
+            self.assertEqual((done.status, done.err), (0, ""), name)
+        for name in ("apart", "old", "old-apart"):
+            for it in ("summary.txt", "report.html", "one/trace.csv", "other/report"):
+                self.assertEqual((self.folder / name / it).read_bytes(), (self.folder / "new" / it).read_bytes(), name)
+        alone = pfplan("play", scenario, "--into", self.folder / "alone")
+        self.assertEqual(alone.err, "pfplan play: the following arguments are required: [RULES ...] SCENARIO\n")
 
     def test_drawn_plays_give_their_reports_again(self) -> None:
         """Drawn groups against drawn rules: the trace that came of each gives the same report."""
@@ -325,13 +341,13 @@ class Command(FolderCase):
     def test_seeds(self) -> None:
         """Each seed is played; the first is the scenario's own, whose files are kept."""
         scenario_text = HEAD + HOMES.replace("hosts = 3", "hosts = 40\nstay = 2") + BOTS
-        words = self.write("s.toml", scenario_text), self.write("rules", "set limit states 30\npass\n")
+        words = self.write("rules", "set limit states 30\npass\n"), self.write("s.toml", scenario_text)
         done = pfplan("play", *words, "--into", self.folder / "many", "--seeds", 3)
         self.assertEqual((done.status, done.err), (0, ""))
         many = json.loads((self.folder / "many/rules/summary.json").read_text("utf-8"))
         self.assertEqual([many["seed"], *(it["seed"] for it in many["other_seeds"])], [1, 2, 3])
         second = self.write("s2.toml", "seed = 2\n" + scenario_text)
-        self.assertEqual(pfplan("play", second, words[1], "--into", self.folder / "one").status, 0)
+        self.assertEqual(pfplan("play", words[0], second, "--into", self.folder / "one").status, 0)
         one = json.loads((self.folder / "one/rules/summary.json").read_text("utf-8"))
         keys = ("name", "connections", "served", "served_without_waiting", "gave_up")
         self.assertEqual(many["other_seeds"][0]["groups"], [{it: group[it] for it in keys} for group in one["groups"]])
@@ -350,7 +366,7 @@ class Command(FolderCase):
         self.assertFalse((self.folder / "out").exists())
         small = self.write("small.toml", HEAD + HOMES)
         for words in (
-            ("play", small, rules, "--into", self.folder / "out"),
+            ("play", rules, small, "--into", self.folder / "out"),
             ("compare", rules, rules, small),
             ("size", rules, small, "--vary", "homes.people=3..9"),
         ):
@@ -387,7 +403,7 @@ class Command(FolderCase):
         )
         script.chmod(0o755)
         rules = self.write("rules", RULES)
-        words = "play", self.write("scenario.toml", HEAD + HOMES), rules, "--into", self.folder / "out"
+        words = "play", rules, self.write("scenario.toml", HEAD + HOMES), "--into", self.folder / "out"
         done = pfplan(*words, env={"PFSRC": str(script)})
         self.assertEqual((done.status, done.out), (4, ""))
         self.assertEqual(done.err, f"pfplan play: {script}: no memory (rules {self.folder}/out/rules/rules)\n")
@@ -431,7 +447,7 @@ class Command(FolderCase):
         self.assertEqual(sorted(documented), sorted(it.stem for it in folder.glob("*.toml")))
         for name in ("backlog", "crawler", "dns", "office"):
             rules = [folder / f"{name}-{it}.conf" for it in ("first", "better")]
-            done = pfplan("play", folder / f"{name}.toml", *rules, "--into", self.folder / "out")
+            done = pfplan("play", *rules, folder / f"{name}.toml", "--into", self.folder / "out")
             shares = [re.findall(r"(\S+ %) of the users", it)[0] for it in done.out.splitlines()[:2]]
             self.assertEqual(shares, documented[name], name)
 

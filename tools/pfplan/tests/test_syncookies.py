@@ -184,7 +184,7 @@ class Scenarios(FolderCase):
         wanted |= {"backlog-always": (120, 120, 120, 2), "backlog-adaptive": (31, 119, 771, 128)}
         for name, (at_once, served, held, half_open) in wanted.items():
             scenario, into = SCENARIOS / f"{name.partition('-')[0]}.toml", self.folder / f"play-{name}"
-            done = pfplan("play", scenario, SCENARIOS / f"{name}.conf", "--into", into)
+            done = pfplan("play", SCENARIOS / f"{name}.conf", scenario, "--into", into)
             self.assertEqual(done.status, 0, done.err)
             found = json.loads((into / name / "summary.json").read_text("utf-8"))
             homes, backlog = found["groups"][0], found["backlog"]

@@ -25,7 +25,7 @@ _BLOCK = 1 << 20
 
 
 @dataclass(frozen=True, slots=True)
-class Held:
+class HeldCounts:
     """What is held at a moment."""
 
     moment: int
@@ -35,7 +35,7 @@ class Held:
 
 
 @dataclass(slots=True)
-class Place:
+class Insertion:
     """Records that are put behind the first `behind` records of a trace, which take `offset` bytes with its header."""
 
     behind: int
@@ -46,7 +46,7 @@ class Place:
 class Insertions:
     """A trace, and the records that are put into it."""
 
-    def __init__(self, trace: Path, places: Sequence[Place]) -> None:
+    def __init__(self, trace: Path, places: Sequence[Insertion]) -> None:
         self.trace = trace
         self.rows = Rows([(it.behind, len(it.lines)) for it in places])
         self._places = places
@@ -73,7 +73,7 @@ class Heard:
 
     rules: Path
     moments: Sequence[int]
-    held: list[Held] = field(default_factory=list)
+    held: list[HeldCounts] = field(default_factory=list)
 
     def take(self, lines: Sequence[str]) -> None:
         """Reads lines of the report, those of records that were put in. Trouble with status 3 where a table does not
@@ -91,7 +91,7 @@ class Heard:
             # a line that is cut is the last: the program then says what is wrong
             with contextlib.suppress(ValueError):
                 found = read_held(line)
-                self.held.append(Held(self.moments[len(self.held)], found.states, found.nodes, found.entries))
+                self.held.append(HeldCounts(self.moments[len(self.held)], found.states, found.nodes, found.entries))
 
     def finish(self) -> None:
         """The report is over, and the program said that it is whole. Trouble where it did not answer."""
@@ -141,13 +141,13 @@ def asking(
         yield NOTHING
         return
     with contextlib.ExitStack() as stack:
-        places = _places_before(trace, before) if before else _places(trace, wanted)
+        places = _insertions_before(trace, before) if before else _insertions_at(trace, wanted)
         if places is None:
             trace = stack.enter_context(_plain(trace))
-            places = (_places_before(trace, before) if before else _places(trace, wanted)) or []
+            places = (_insertions_before(trace, before) if before else _insertions_at(trace, wanted)) or []
         if entries:
             if not places or places[0].behind:
-                places.insert(0, Place(0, len(HEADER) + 1))
+                places.insert(0, Insertion(0, len(HEADER) + 1))
             places[0].lines[:0] = records_at(entries, first_moment_of(trace) or 0)
         yield Asking(Insertions(trace, places), tuple(wanted))
 
@@ -160,12 +160,12 @@ def moments_of(trace: Path, count: int) -> list[int]:
     return sorted({first + (it * (last - first) // (count - 1) if count > 1 else last - first) for it in range(count)})
 
 
-def _places(trace: Path, wanted: Sequence[int]) -> list[Place] | None:
+def _insertions_at(trace: Path, wanted: Sequence[int]) -> list[Insertion] | None:
     """For each moment the place behind the last record that is not after it; None where the lines of the trace are
     not plain.
     """
     left = list(wanted)
-    places: list[Place] = []
+    places: list[Insertion] = []
     with open(trace, "rb") as file:
         if file.readline(LONGEST) != f"{HEADER}\n".encode():
             return None
@@ -175,20 +175,20 @@ def _places(trace: Path, wanted: Sequence[int]) -> list[Place] | None:
             if _is_odd(block):
                 return None
             if _moment_of(block[block.rfind(b"\n", 0, -1) + 1 :]) > left[0]:
-                _place_in(block.splitlines(keepends=True), left, records, offset, places)
+                _insert_in(block.splitlines(keepends=True), left, records, offset, places)
             records += block.count(b"\n") + (not block.endswith(b"\n"))
             offset += len(block)
     for moment in left:
-        _put(places, Place(records, offset, [_question(moment)]))
+        _put(places, Insertion(records, offset, [_question(moment)]))
     return places
 
 
-def _places_before(trace: Path, records: Mapping[int, Sequence[str]]) -> list[Place] | None:
+def _insertions_before(trace: Path, records: Mapping[int, Sequence[str]]) -> list[Insertion] | None:
     """The places before some rows, with the records that are put there; None where the lines of the trace are not
     plain.
     """
     left = sorted(records, reverse=True)
-    places: list[Place] = []
+    places: list[Insertion] = []
     with open(trace, "rb") as file:
         if file.readline(LONGEST) != f"{HEADER}\n".encode():
             return None
@@ -201,7 +201,7 @@ def _places_before(trace: Path, records: Mapping[int, Sequence[str]]) -> list[Pl
             begins = list(accumulate(map(len, lines), initial=0))
             while left and left[-1] <= behind + len(lines):
                 row = left.pop()
-                places.append(Place(row - 1, offset + begins[row - 1 - behind], list(records[row])))
+                places.append(Insertion(row - 1, offset + begins[row - 1 - behind], list(records[row])))
             behind, offset = behind + len(lines), offset + len(block)
     return places
 
@@ -211,7 +211,7 @@ def _is_odd(block: bytes) -> bool:
     return b'"' in block or b"\r" in block or block.rfind(b"\n\n") >= 0 or block.startswith(b"\n")
 
 
-def _place_in(lines: Sequence[bytes], left: list[int], records: int, offset: int, places: list[Place]) -> None:
+def _insert_in(lines: Sequence[bytes], left: list[int], records: int, offset: int, places: list[Insertion]) -> None:
     """The places in a block of lines, of which the last is after the first moment that is left."""
     at, last = 0, _moment_of(lines[-1])
     while left and left[0] < last:
@@ -219,10 +219,10 @@ def _place_in(lines: Sequence[bytes], left: list[int], records: int, offset: int
         behind = bisect.bisect(lines, moment, key=_moment_of)
         offset += sum(map(len, lines[at:behind]))
         at = max(at, behind)
-        _put(places, Place(records + at, offset, [_question(moment)]))
+        _put(places, Insertion(records + at, offset, [_question(moment)]))
 
 
-def _put(places: list[Place], place: Place) -> None:
+def _put(places: list[Insertion], place: Insertion) -> None:
     if places and places[-1].behind == place.behind:
         places[-1].lines.extend(place.lines)
     else:

@@ -8,12 +8,12 @@ from fractions import Fraction
 from random import Random
 from socket import inet_ntoa
 
-from pfplan.traces.scenarios.askers import Question
-from pfplan.traces.scenarios.clients import Client, Crew, Phase
-from pfplan.traces.scenarios.counts import Count
-from pfplan.traces.scenarios.hosts import FIRST_PORT, PORTS, Addresses, Host, Hosts, Way
-from pfplan.traces.scenarios.servers import Backlog
-from pfplan.traces.scenarios.worlds import SLOTS, Fate, World
+from pfplan.plays.askers import Question
+from pfplan.plays.clients import Client, Crew, Phase
+from pfplan.plays.counts import Count
+from pfplan.plays.hosts import FIRST_PORT, PORTS, Addresses, Host, Hosts, Way
+from pfplan.plays.servers import Backlog
+from pfplan.plays.worlds import SLOTS, Fate, World
 
 # How many forged packets are made at a time.
 MADE = 1024

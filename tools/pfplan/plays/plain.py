@@ -4,11 +4,11 @@ from pathlib import Path
 
 from pfplan.common.outputs import whole_file
 from pfplan.common.progress import Progress
-from pfplan.traces.scenarios.expecting import MOST, check_expected
-from pfplan.traces.scenarios.firewalls import Open
-from pfplan.traces.scenarios.playing import seldom_collected
-from pfplan.traces.scenarios.plays import Play, traces_of
-from pfplan.traces.scenarios.reading import read_scenario
+from pfplan.plays.expecting import MOST, check_expected
+from pfplan.plays.firewalls import Open
+from pfplan.plays.playing import seldom_collected
+from pfplan.plays.reading import read_scenario
+from pfplan.plays.staging import Play, traces_of
 
 
 def write_plain(scenario: Path, out: Path | None) -> None:

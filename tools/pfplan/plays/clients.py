@@ -12,10 +12,10 @@ from dataclasses import dataclass
 from enum import Enum
 from random import Random
 
-from pfplan.traces.scenarios.counts import Count
-from pfplan.traces.scenarios.flows import SHUT, WINDOW, Flow, Packet
-from pfplan.traces.scenarios.hosts import Host, Way
-from pfplan.traces.scenarios.worlds import SLOTS, World
+from pfplan.plays.counts import Count
+from pfplan.plays.flows import SHUT, WINDOW, Flow, Packet
+from pfplan.plays.hosts import Host, Way
+from pfplan.plays.worlds import SLOTS, World
 
 LONGEST = 64 * SLOTS  # from one repetition to the next (RFC 6298, 2.5: at least 60 seconds)
 AFTER_SYN = 3 * SLOTS

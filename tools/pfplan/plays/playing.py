@@ -18,12 +18,12 @@ from types import TracebackType
 from pfplan.common.errors import Status, Trouble
 from pfplan.common.outputs import part_file
 from pfplan.common.progress import Progress
+from pfplan.plays.counts import Tally
+from pfplan.plays.firewalls import Kept, Pfsrc, Writer
+from pfplan.plays.model import Scenario
+from pfplan.plays.returning import Answer
+from pfplan.plays.staging import Play, traces_of
 from pfplan.traces.records import End
-from pfplan.traces.scenarios.counts import Tally
-from pfplan.traces.scenarios.firewalls import Kept, Pfsrc, Writer
-from pfplan.traces.scenarios.model import Scenario
-from pfplan.traces.scenarios.plays import Play, traces_of
-from pfplan.traces.scenarios.returning import Answer
 
 # Seconds in which a play that is told to end does so, before it is killed.
 GRACE = 5

@@ -5,10 +5,10 @@ from collections import Counter
 from collections.abc import Sequence
 from dataclasses import dataclass, field
 
+from pfplan.plays.listeners import Listener
+from pfplan.plays.model import Group
+from pfplan.plays.worlds import SLOTS, Fate
 from pfplan.traces.records import read_held
-from pfplan.traces.scenarios.listeners import Listener
-from pfplan.traces.scenarios.model import Group
-from pfplan.traces.scenarios.worlds import SLOTS, Fate
 
 
 @dataclass(slots=True)

@@ -3,9 +3,9 @@
 import ipaddress
 
 from pfplan.common.networks import Network
-from pfplan.traces.scenarios.listeners import Listener
-from pfplan.traces.scenarios.model import Endpoint, Forward
-from pfplan.traces.scenarios.reading import room
+from pfplan.plays.listeners import Listener
+from pfplan.plays.model import Endpoint, Forward
+from pfplan.plays.reading import room
 
 FIRST_PORT, PORTS = 1024, 64512
 

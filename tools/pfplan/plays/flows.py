@@ -4,10 +4,10 @@ from __future__ import annotations
 
 from typing import Protocol
 
-from pfplan.traces.scenarios.counts import Count
-from pfplan.traces.scenarios.hosts import Way
-from pfplan.traces.scenarios.servers import Server
-from pfplan.traces.scenarios.worlds import Fate, World
+from pfplan.plays.counts import Count
+from pfplan.plays.hosts import Way
+from pfplan.plays.servers import Server
+from pfplan.plays.worlds import Fate, World
 
 # the flow, the flags, and the number of the request or the answer (below 0 for what keeps a connection)
 Packet = tuple["Flow", str, int]

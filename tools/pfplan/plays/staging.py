@@ -11,21 +11,21 @@ from random import Random
 
 from pfplan.common.inputs import Kind, check_readable, kind_of
 from pfplan.common.outputs import part_file
+from pfplan.plays.askers import Manner, Question
+from pfplan.plays.clients import Client, Crew, Habit, Visitor
+from pfplan.plays.counts import Count, Tally
+from pfplan.plays.firewalls import Firewall, check_records
+from pfplan.plays.flooders import Flooder, Forger, Forgery, Openers, Pace
+from pfplan.plays.hosts import Addresses, Host, Hosts, Way
+from pfplan.plays.laid import Layer
+from pfplan.plays.listeners import Listener
+from pfplan.plays.model import Askers, Crowd, Forgers, Group, Holders, Laid, Scenario, Visits
+from pfplan.plays.returning import Answer
+from pfplan.plays.servers import Backlog
+from pfplan.plays.worlds import SLOTS, Asking, Emitter, World, slots_of
 from pfplan.traces.captures import Seen, make_trace
 from pfplan.traces.moments import step_of
 from pfplan.traces.records import End
-from pfplan.traces.scenarios.askers import Manner, Question
-from pfplan.traces.scenarios.clients import Client, Crew, Habit, Visitor
-from pfplan.traces.scenarios.counts import Count, Tally
-from pfplan.traces.scenarios.firewalls import Firewall, check_records
-from pfplan.traces.scenarios.flooders import Flooder, Forger, Forgery, Openers, Pace
-from pfplan.traces.scenarios.hosts import Addresses, Host, Hosts, Way
-from pfplan.traces.scenarios.laid import Layer
-from pfplan.traces.scenarios.listeners import Listener
-from pfplan.traces.scenarios.model import Askers, Crowd, Forgers, Group, Holders, Laid, Scenario, Visits
-from pfplan.traces.scenarios.returning import Answer
-from pfplan.traces.scenarios.servers import Backlog
-from pfplan.traces.scenarios.worlds import SLOTS, Asking, Emitter, World, slots_of
 
 
 class Play:
@@ -73,26 +73,26 @@ class Play:
         """
         self._world.put(entries)
         for count in self.tally.counts:
-            self._place(count)
+            self._begin(count)
         asking = None if self._is_plain else Asking(self.tally.step, self.tally.hear_held)
         end = self._world.run(self._emitters, hear, asking)
         for it in self._layers:
             it.end()
         return end
 
-    def _place(self, count: Count) -> None:
+    def _begin(self, count: Count) -> None:
         """Has a group begin what it does."""
         group = count.group
         if isinstance(group, Visits):
-            self._place_visits(group, count)
+            self._begin_visits(group, count)
         elif isinstance(group, Holders):
             every = group.every * SLOTS
             crew = self._crew(group, count, "tcp", group.retries, group.patience)
             self._open(group, crew, lambda host: Flooder(crew, host, every))
         elif isinstance(group, Askers):
-            self._place_askers(group, count)
+            self._begin_askers(group, count)
         elif isinstance(group, Forgers):
-            self._place_forgers(group, count)
+            self._begin_forgers(group, count)
         elif isinstance(group, Laid):
             self._layers.append(Layer(self._world, count, self._traces[group.name], str(group.file)))
             self._emitters.append(self._layers[-1])
@@ -128,7 +128,7 @@ class Play:
             return min(group.end or self._scenario.seconds, self._scenario.seconds) * SLOTS
         return None if group.end is None else group.end * SLOTS
 
-    def _place_visits(self, group: Visits, count: Count) -> None:
+    def _begin_visits(self, group: Visits, count: Count) -> None:
         crew = self._crew(group, count, "tcp", group.retries, group.patience)
         gap = group.stay * SLOTS // max(1, group.requests)
         habits = [Habit(group.requests, gap, group.reloads, it) for it in (False, True)]
@@ -149,7 +149,7 @@ class Play:
         pace = Pace(group.rate, group.begin * SLOTS, self._last(group))
         self._emitters.append(Openers(crew, pace, self._hosts, Addresses(group.origin, group.hosts), make))
 
-    def _place_askers(self, group: Askers, count: Count) -> None:
+    def _begin_askers(self, group: Askers, count: Count) -> None:
         crew = self._crew(group, count, "udp", group.retries, 0)
         manner = Manner(group.again * SLOTS, group.retries, group.users)
 
@@ -160,7 +160,7 @@ class Play:
 
         self._open(group, crew, make)
 
-    def _place_forgers(self, group: Forgers, count: Count) -> None:
+    def _begin_forgers(self, group: Forgers, count: Count) -> None:
         pace = Pace(group.rate, group.begin * SLOTS, self._last(group))
         is_tcp = group.kind == "syn"
         ways = self._ways(group, "tcp" if is_tcp else "udp")

@@ -10,8 +10,8 @@ from pfplan.common.errors import Status, Trouble, reason_of
 from pfplan.common.inputs import Kind, kind_of
 from pfplan.common.networks import Network
 from pfplan.common.visible import visible
-from pfplan.traces.scenarios import fields
-from pfplan.traces.scenarios.fields import (
+from pfplan.plays import fields
+from pfplan.plays.fields import (
     Field,
     Wanted,
     flag,
@@ -24,7 +24,7 @@ from pfplan.traces.scenarios.fields import (
     text,
     whole,
 )
-from pfplan.traces.scenarios.model import (
+from pfplan.plays.model import (
     KINDS,
     Askers,
     Endpoint,

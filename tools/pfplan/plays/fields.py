@@ -9,7 +9,7 @@ from fractions import Fraction
 from typing import Any
 
 from pfplan.common.networks import Network, interface_name
-from pfplan.traces.scenarios.model import Endpoint
+from pfplan.plays.model import Endpoint
 
 REQUIRED = object()
 SECONDS = 1_000_000

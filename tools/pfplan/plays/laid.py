@@ -10,9 +10,9 @@ from itertools import groupby
 from pathlib import Path
 
 from pfplan.common.errors import Status, Trouble
+from pfplan.plays.counts import Count
+from pfplan.plays.worlds import SLOTS, Fate, World
 from pfplan.traces.records import ORDERS, Traces
-from pfplan.traces.scenarios.counts import Count
-from pfplan.traces.scenarios.worlds import SLOTS, Fate, World
 
 
 class Layer:

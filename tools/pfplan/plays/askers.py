@@ -7,9 +7,9 @@ from __future__ import annotations
 
 from dataclasses import dataclass
 
-from pfplan.traces.scenarios.clients import Crew
-from pfplan.traces.scenarios.hosts import Host
-from pfplan.traces.scenarios.worlds import Fate
+from pfplan.plays.clients import Crew
+from pfplan.plays.hosts import Host
+from pfplan.plays.worlds import Fate
 
 
 @dataclass(frozen=True)

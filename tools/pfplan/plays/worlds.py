@@ -13,9 +13,9 @@ from operator import itemgetter
 from typing import Any, Protocol
 
 from pfplan.common.errors import Status, Trouble
+from pfplan.plays.firewalls import Firewall
+from pfplan.plays.returning import DROP, Answer
 from pfplan.traces.records import End
-from pfplan.traces.scenarios.firewalls import Firewall
-from pfplan.traces.scenarios.returning import DROP, Answer
 
 SLOTS = 100  # in a second
 # Fates that are remembered by their texts.

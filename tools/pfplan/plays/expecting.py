@@ -3,7 +3,7 @@
 from collections.abc import Mapping
 
 from pfplan.common.errors import Trouble
-from pfplan.traces.scenarios.model import Askers, Crowd, Forgers, Group, Holders, Laid, Scenario, Visits
+from pfplan.plays.model import Askers, Crowd, Forgers, Group, Holders, Laid, Scenario, Visits
 
 MOST = 50_000_000
 # records of a connection that is opened and closed, of a request with its answer, and of a forged SYN with its answers

@@ -5,10 +5,10 @@ from __future__ import annotations
 from collections.abc import Sequence
 from typing import Protocol
 
-from pfplan.traces.scenarios.counts import Count
-from pfplan.traces.scenarios.hosts import Way
-from pfplan.traces.scenarios.listeners import Listener
-from pfplan.traces.scenarios.worlds import SLOTS, Fate, World
+from pfplan.plays.counts import Count
+from pfplan.plays.hosts import Way
+from pfplan.plays.listeners import Listener
+from pfplan.plays.worlds import SLOTS, Fate, World
 
 # How often a server repeats what is not acknowledged, each time after twice as long (tcp_synack_retries of Linux).
 REPEATS = 5
