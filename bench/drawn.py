@@ -10,8 +10,9 @@ from typing import List
 HEADER = "time,dir,if,proto,src,sport,dst,dport,flags\n"
 SOURCES = ["198.51.100.1", "198.51.100.2", "198.51.100.3", "2001:db8::1", "2001:db8::2"]
 ENTRIES = [*SOURCES, "198.51.100.0/24", "198.51.100.77/24", "198.51.100.2/31", "0.0.0.0/0", "2001:DB8::/32", "2001:db8::1/127", "::/0", "203.0.113.9"]
+ENDS = [*SOURCES, "192.0.2.1", "198.51.100.0/24", "192.0.2.0/24", "0.0.0.0/0", "2001:db8::/127", "::/0"]
 TABLES = ["bad", "bad", "bad", "good"]
-ODD = ["", "bad", "kept", "worse", "held", "add", "delete", "in", "7", "4294967296", "198.51.100.1", "!198.51.100.1", "! 198.51.100.1", "10.0.0.0/08", "S", "x"]
+ODD = ["", "bad", "kept", "worse", "held", "kill", "add", "delete", "in", "7", "4294967296", "198.51.100.1", "!198.51.100.1", "! 198.51.100.1", "10.0.0.0/08", "S", "x"]
 LIMITS = ["states", "src-nodes", "table-entries"]
 TIMEOUTS = [
     "tcp.first", "tcp.opening", "tcp.established", "tcp.closing", "tcp.finwait", "tcp.closed",
@@ -96,6 +97,32 @@ def with_synproxy(draw: random.Random, rules: str) -> str:
     return "\n".join(lines) + "\n"
 
 
+def with_routes(draw: random.Random, rules: str) -> str:
+    """The rules with routes, of which some are asked at one of the two interfaces alone, and with some for packets that leave."""
+    lines = rules.splitlines()
+    for place, line in enumerate(lines):
+        if line.startswith("pass in ") and draw.random() < 0.4:
+            lines[place] = line.replace("pass in ", f"pass in on {draw.choice(['em0', 'em0', 'em1'])} ", 1)
+    for _ in range(draw.randint(1, 2)):
+        state = draw.choice(["", " no state", " keep state (max 2)", drawn_options(draw, False, 0.5)])
+        lines.append(draw.choice(["pass out on em1", "pass out on em0", "pass out", "block out on em1"]) + state)
+    lines = [line.split(" keep state")[0].removesuffix(" no state") if line.startswith("block") else line for line in lines]
+    servers = draw.choice(["192.0.2.0/24", "192.0.2.1", "192.0.0.0/8"])
+    routes = ["0.0.0.0/0 em0", f"{servers} em1", f"2001:db8::53 {draw.choice(['em1', 'lo0'])}", "::/0 em0", f"{draw.choice(SOURCES)} {draw.choice(['em2', 'lo0'])}"]
+    draw.shuffle(routes)
+    lines.append("set route { " + ", ".join(routes[: draw.randint(2, 5)]) + " }")
+    return "\n".join(lines) + "\n"
+
+
+def seen_inside(draw: random.Random, trace: str) -> str:
+    """The trace, of whose packets some are seen at the inner interface."""
+    lines = trace.splitlines()
+    for place, line in enumerate(lines):
+        if draw.random() < 0.4:
+            lines[place] = line.replace(",in,em0,", ",out,em1,") if ",in,em0," in line else line.replace(",out,em0,", ",in,em1,")
+    return "\n".join(lines) + "\n"
+
+
 def drawn_step(draw: random.Random) -> int:
     """How many seconds pass: mostly none or few, sometimes many."""
     kind = draw.random()
@@ -121,9 +148,11 @@ def drawn_order(draw: random.Random, time: int) -> str:
     kind, table = draw.random(), draw.choice(TABLES)
     if kind < 0.25:
         return f"{time},held,,,,,,,"
-    if kind < 0.4:
+    if kind < 0.35:
+        return f"{time},kill,,,{draw.choice(ENDS)},,{draw.choice(['', '', *ENDS])},,"
+    if kind < 0.5:
         return f"{time},expire,{table},,,{draw.choice([0, 1, 5, 60, 1000])},,,"
-    what = "add" if kind < 0.75 else "delete"
+    what = "add" if kind < 0.8 else "delete"
     return f"{time},{what},{table},,{draw.choice(['', '', '!'])}{draw.choice(ENTRIES)},,,,"
 
 

@@ -3,11 +3,13 @@ import re
 from typing import Counter
 
 OUTCOMES = [
-    "new", "state", "proxy", "cookie", "pass", "block", "skip", "expire", "add", "delete", "held", "drop:cookie",
+    "new", "state", "proxy", "cookie", "pass", "block", "skip", "expire", "add", "delete", "held", "kill", "drop:cookie",
     "drop:max", "drop:max-src-nodes", "drop:src-nodes", "drop:max-src-states", "drop:states",
     "kill:max-src-conn", "kill:max-src-conn-rate", "kill:max-src-conn+max-src-conn-rate", "overload=added", "overload=held", "overload=full",
     "overload=none",
 ]
+# Where the packet leaves, behind what came of it first.
+SECOND = ["> new", "> state", "> pass", "> block", "> drop:max", "> drop:states", "> proxy"]
 
 
 def count(report: str, counts: Counter[str]) -> None:
@@ -15,11 +17,12 @@ def count(report: str, counts: Counter[str]) -> None:
     for line in report.splitlines()[:-1]:
         words = line.split(" ")
         counts[words[1]] += 1
-        counts.update(re.findall(r"overload=\w+", line))
+        counts.update(re.findall(r"overload=\w+|> [a-z:-]+", line))
 
 
-def tell(counts: Counter[str]) -> int:
-    """Prints how often each outcome came; how many never did."""
-    for name in OUTCOMES:
+def tell(counts: Counter[str], second: bool = False) -> int:
+    """Prints how often each outcome came, at a second interface too where that is asked for; how many never did."""
+    names = OUTCOMES + SECOND if second else OUTCOMES
+    for name in names:
         print(f"{counts[name]:8} {name}")
-    return sum(counts[name] == 0 for name in OUTCOMES)
+    return sum(counts[name] == 0 for name in names)

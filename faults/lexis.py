@@ -14,7 +14,7 @@ RULE_KINDS = {
 }
 TEXT_KINDS = {"AdaptivePair", "TooManyTables", "NeedsProfile", "TooManyEntries"}
 # What an administrator does, and the columns that say with what; the others are empty.
-COMMANDS = {b"expire": (3, 6), b"add": (3, 5), b"delete": (3, 5), b"held": ()}
+COMMANDS = {b"expire": (3, 6), b"add": (3, 5), b"delete": (3, 5), b"kill": (5, 7), b"held": ()}
 
 
 @dataclass(frozen=True)
@@ -137,12 +137,17 @@ def family(field: bytes) -> Optional[int]:
     return 4 if is_quad(field) else 6 if is_groups(field) else None
 
 
-def is_entry(field: bytes) -> bool:
-    """A prefix, directly behind a `!` where it is negated."""
-    address, slash, length = field.removeprefix(b"!").partition(b"/")
+def is_prefix(field: bytes) -> bool:
+    """An address, or one with a length behind a slash."""
+    address, slash, length = field.partition(b"/")
     most = {4: 32, 6: 128}.get(family(address) or 0, -1)
     is_length = re.fullmatch(rb"0|[1-9][0-9]{0,2}", length) is not None and int(length) <= most
     return most > 0 and (is_length if slash else True)
+
+
+def is_entry(field: bytes) -> bool:
+    """A prefix, directly behind a `!` where it is negated."""
+    return is_prefix(field.removeprefix(b"!"))
 
 
 def protocol(field: bytes) -> Optional[int]:
@@ -160,8 +165,9 @@ def accepted_of_command(record: List[bytes]) -> List[bool]:
     """Of each field of an administrator's record, whether it is accepted."""
     fits = {
         3: re.fullmatch(rb"[A-Za-z0-9_.-]{1,31}", record[2]) is not None,
-        5: is_entry(record[4]),
+        5: is_prefix(record[4]) if record[1] == b"kill" else is_entry(record[4]),
         6: is_number(record[5], 4294967295),
+        7: record[6] == b"" or is_prefix(record[6]),
     }
     asked = COMMANDS[record[1]]
     return [is_number(record[0], 4294967295), True] + [fits[it] if it in asked else record[it - 1] == b"" for it in range(3, 10)]
@@ -201,7 +207,7 @@ def read_trace(trace: bytes, tables: AbstractSet[bytes] = frozenset()) -> Tuple[
             return good, f"trace: row {row}: field {bad_field(record)}"
         if good and int(record[0]) < int(good[-1][0]):
             return good, f"trace: row {row}: time falls"
-        if COMMANDS.get(record[1]) and record[2] not in tables:
+        if 3 in COMMANDS.get(record[1], ()) and record[2] not in tables:
             return good, f"trace: row {row}: table"
         good.append(record)
     return good, ""

@@ -339,6 +339,16 @@ impl<'a> Machine<'a> {
         Outcome::Kill { rule, conn, rate, overload, killed: leaving.len() }
     }
 
+    /// Takes out the states that were made by these hosts, for those or for any, and answers how many.
+    pub fn kill_from_to(&mut self, from: Prefix, to: Option<Prefix>) -> usize {
+        let goes = |it: &State| from.covers(it.source) && to.map_or(true, |to| to.covers(it.key.end(!it.is_in)));
+        let leaving: Vec<usize> = self.by_number.values().copied().filter(|it| goes(&self.states[*it])).collect();
+        for place in &leaving {
+            self.remove(*place, self.last);
+        }
+        leaving.len()
+    }
+
     /// Takes old entries out of a table, and answers how many. None where no table of this name may change.
     pub fn expire(&mut self, table: &str, age: u32) -> Option<usize> {
         let table = self.config.changing_table(table)?;

@@ -30,6 +30,7 @@ pub enum Event<'a> {
     Packet(Packet<'a>),
     Expire { table: &'a str, age: u32 },
     Held,
+    Kill { from: Prefix, to: Option<Prefix> },
     Add { table: &'a str, entry: (Prefix, bool) },
     Delete { table: &'a str, entry: (Prefix, bool) },
 }
@@ -58,6 +59,13 @@ impl Hash for Source {
 pub struct Key {
     proto: u8,
     ends: [(IpAddr, u16); 2],
+}
+
+impl Key {
+    /// The address of the first end, or of the second.
+    pub fn end(&self, is_first: bool) -> IpAddr {
+        self.ends[usize::from(!is_first)].0
+    }
 }
 
 impl Hash for Key {
@@ -118,6 +126,16 @@ fn table_and_entry(record: &ByteRecord) -> Result<(&str, (Prefix, bool)), Fault>
     Ok((table, entry))
 }
 
+/// The hosts from which states go that are taken out, and those to which they go.
+fn hosts(record: &ByteRecord) -> Result<Event<'_>, Fault> {
+    empty(record, 3..=4)?;
+    let from = field(record, 5, prefix)?;
+    empty(record, [6])?;
+    let to = field(record, 7, |it| if it.is_empty() { Some(None) } else { prefix(it).map(Some) })?;
+    empty(record, 8..=9)?;
+    Ok(Event::Kill { from, to })
+}
+
 fn expiry(record: &ByteRecord) -> Result<Event<'_>, Fault> {
     let table = field(record, 3, table_name)?;
     empty(record, 4..=5)?;
@@ -155,6 +173,7 @@ pub fn read(record: &ByteRecord) -> Result<(u32, Event<'_>), Fault> {
     let moment = field(record, 1, seconds)?;
     let event = match &record[1] {
         b"expire" => expiry(record)?,
+        b"kill" => hosts(record)?,
         b"held" => {
             empty(record, 3..=9)?;
             Event::Held

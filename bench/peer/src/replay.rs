@@ -114,6 +114,7 @@ fn write_row(out: &mut impl Write, row: u64, machine: &mut Machine, event: Event
             write!(out, "{row} held -")?;
             write_counts(out, machine)?;
         }
+        Event::Kill { from, to } => writeln!(out, "{row} kill - killed={}", machine.kill_from_to(from, to))?,
         Event::Expire { table, age } => {
             let removed = machine.expire(table, age).ok_or(Stop::Table(row))?;
             writeln!(out, "{row} expire - removed={removed}")?;

@@ -64,6 +64,10 @@ impl Prefix {
         u128::MAX.checked_shl(128 - u32::from(bits)).unwrap_or(0)
     }
 
+    pub fn covers(&self, addr: IpAddr) -> bool {
+        self.addr.is_ipv4() == addr.is_ipv4() && Prefix::network(addr, self.bits) == *self
+    }
+
     pub fn host(addr: IpAddr) -> Self {
         Prefix { addr, bits: if addr.is_ipv4() { 32 } else { 128 } }
     }

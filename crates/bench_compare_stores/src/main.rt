@@ -1,4 +1,4 @@
-//! Replays a trace over both kinds of store side by side: the words name the rules and the trace, each outcome and the counts of
+//! Replays a trace over both kinds of store side by side: the words name the rules and the trace, what came of each record and the counts of
 //! what is held are compared after each record, and the report is written as far as they are one.
 
 #![tactic(auto)]
@@ -8,10 +8,10 @@ ghost use Rattle.std.specs.Option.{ForSome};
 ghost use Rattle.pfs_engine_machine.specs.Runs.{MayCome, MayChange};
 
 use csv::{ByteRecord, Reader, ReaderBuilder};
-use pfs_addr_values::RUN_LIMIT;
-use pfs_cli_formats::{EndLine, push_end, push_outcome};
+use pfs_addr_values::{ROW_LIMIT, RUN_LIMIT};
+use pfs_cli_formats::{EndLine, push_end, push_way};
 use pfs_conf::{Config, LoadFault, TableNo, load};
-use pfs_engine::{Arrival, Engine, Event, Outcome};
+use pfs_engine::{Arrival, Engine, Event, Way};
 use pfs_store::{IndexStore, PlainStore, Store};
 use pfs_trace::{TraceFault, has_columns, read_event};
 use std::alloc::Global;
@@ -35,8 +35,8 @@ enum Stop {
     Trace(TraceFault),
     /// An event that an engine does not take.
     Event,
-    /// At this row the outcomes differ: that over lists, and that over indexes.
-    Outcomes(u64, Outcome, Outcome),
+    /// At this row what came of the record differs: that over lists, and that over indexes.
+    Ways(u64, Way, Way),
     /// At this row what is held differs: states, source nodes, entries and packets over lists, and those over indexes.
     Held(u64, (u64, u64, u64, u64), (u64, u64, u64, u64)),
 }
@@ -159,7 +159,7 @@ fn go_through<R: Read, S: Store, T: Store, W: Write>(
     if !next(reader, &mut fields)? || !has_columns(&fields) {
         return Err(Stop::Trace(TraceFault::Columns(0)));
     }
-    for rows in 0..RUN_LIMIT {
+    for rows in 0..ROW_LIMIT {
         line.clear();
         if !next(reader, &mut fields)? {
             push_end(&mut line, &end_line(rows, plain)).map_err(|_| Stop::Memory)?;
@@ -168,8 +168,8 @@ fn go_through<R: Read, S: Store, T: Store, W: Write>(
         let event = read_event(rows + 1, plain.last(), plain.config(), &fields).map_err(
             |fault| Stop::Trace(fault),
         )?;
-        let outcome = take_both(rows + 1, &event, plain, indexed)?;
-        push_outcome(&mut line, rows + 1, &outcome).map_err(|_| Stop::Memory)?;
+        let way = take_both(rows + 1, &event, plain, indexed)?;
+        push_way(&mut line, rows + 1, &way).map_err(|_| Stop::Memory)?;
         out.write_all(&line).map_err(|_| Stop::File)?;
     }
     Err(Stop::Trace(TraceFault::TooManyRows))
@@ -179,17 +179,17 @@ fn next<R: Read>(reader: &mut Reader<R>, fields: &mut ByteRecord) -> Result<bool
     reader.read_byte_record(fields).map_err(|_| Stop::File)
 }
 
-/// Both engines take the event, and answer and hold the same.
+/// Both engines take the record, and answer and hold the same.
 fn take_both<S: Store, T: Store>(
     row: u64,
     event: &Event,
     plain: &mut Engine<S>,
     indexed: &mut Engine<T>,
-) -> Result<Outcome, Stop> {
+) -> Result<Way, Stop> {
     let listed = take(plain, event)?;
     let found = take(indexed, event)?;
     if found != listed {
-        return Err(Stop::Outcomes(row, listed, found));
+        return Err(Stop::Ways(row, listed, found));
     }
     if held(indexed) != held(plain) {
         return Err(Stop::Held(row, held(plain), held(indexed)));
@@ -197,14 +197,14 @@ fn take_both<S: Store, T: Store>(
     Ok(listed)
 }
 
-fn take<S: Store>(engine: &mut Engine<S>, event: &Event) -> Result<Outcome, Stop> {
-    if !is_in_time(engine.last(), event.time) || engine.taken() >= RUN_LIMIT {
+fn take<S: Store>(engine: &mut Engine<S>, event: &Event) -> Result<Way, Stop> {
+    if !is_in_time(engine.last(), event.time) || engine.taken() >= RUN_LIMIT - 1 {
         return Err(Stop::Event);
     }
     if !may_come(engine.config(), &event.what) {
         return Err(Stop::Event);
     }
-    engine.step(event).map_err(|_| Stop::Memory)
+    engine.way(event).map_err(|_| Stop::Memory)
 }
 
 /// How many states, source nodes and entries are held, and how many packets were taken.

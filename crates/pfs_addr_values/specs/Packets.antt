@@ -5,9 +5,13 @@ use Rattle.pfs_addr_values.specs.declared.protocols.Proto.{Proto}
 use Rattle.pfs_addr_values.specs.declared.flag_sets.Flags.{Flags}
 use Rattle.pfs_addr_values.specs.declared.packets.Dir.{Dir}
 use Rattle.pfs_addr_values.specs.declared.packets.Endpoint.{Endpoint}
-use Rattle.pfs_addr_values.specs.declared.packets.TheConstants.{RUN_LIMIT}
+use Rattle.pfs_addr_values.specs.declared.packets.TheConstants.{ROW_LIMIT, RUN_LIMIT}
 
--- a run has at most 1,000,000,000 packets (own)
+-- a trace has at most 1,000,000,000 records (own)
+abbrev pub row_limit : ℕ
+row_limit = ROW_LIMIT
+
+-- a run has at most 2,000,000,000 packets: two for each record (own)
 abbrev pub run_limit : ℕ
 run_limit = RUN_LIMIT
 

@@ -11,9 +11,12 @@ use crate::names::IfName;
 use crate::protocols::Proto;
 use std::marker::Model;
 
-/// The most packets of a run. So a run makes at most that many states, and its trace has at most that many records.
-/// (own to this profile)
-pub const RUN_LIMIT: u64 = 1_000_000_000;
+/// The most records of a trace. (own to this profile)
+pub const ROW_LIMIT: u64 = 1_000_000_000;
+
+/// The most packets of a run: two for each record, since a packet that is forwarded is asked at two interfaces. So a run makes at
+/// most that many states. (own to this profile)
+pub const RUN_LIMIT: u64 = 2_000_000_000;
 
 /// The way of a packet through an interface. (pf.conf(5), PARAMETERS, "in" and "out")
 #[derive(Debug, Clone, Copy, PartialEq, Eq, Hash)]
@@ -162,6 +165,25 @@ impl Packet {
     {
         self.flags
     }
+
+    /// The packet at another interface, on its way in or out there. It takes no memory.
+    pub fn through(&self, dir: Dir, ifname: IfName) -> Packet
+        ensures { result ≡ record self.now { dir = dir; ifname = ifname } }
+    {
+        Packet {
+            dir,
+            ifname,
+            ..*self
+        }
+    }
+
+    /// The packet with these flags in place of its own. It takes no memory.
+    pub fn with_flags(&self, flags: Flags) -> Packet
+        ensures { result ≡ record self.now { flags = flags } }
+    {
+        Packet { flags, ..*self }
+    }
+
     /// The address that sends the packet.
     pub fn src(&self) -> Addr
         ensures { result ≡ self.now.source.addr }

@@ -7,7 +7,7 @@ use Rattle.pfs_capture_files.specs.declared.faults.FileFault.{FileFault}
 use Rattle.pfs_capture_files.specs.declared.forms.Form.{Form}
 use Rattle.pfs_capture_files.specs.declared.frames.Frame.{Frame}
 use Rattle.pfs_capture_files.proofs.StartLaws.{start_within}
-use Rattle.pfs_capture.specs.Aheads.{Ahead, Aheads, AllBegin, AreAsked, BreaksOff, HaveBegun, HasBegun, earliest, frame_of, is_asked, nearer, waiting_at, rest_ahead, with_next}
+use Rattle.pfs_capture.specs.Aheads.{Ahead, Aheads, AllBegin, AreAsked, BreaksOff, HaveBegun, HasBegun, earliest, is_asked, nearer, waiting_at, rest_ahead, with_next}
 use Rattle.pfs_capture.specs.Captures.{frames_from, most_items, seen_of}
 use Rattle.pfs_capture.specs.Instants.{is_earlier, start_instant}
 use Rattle.pfs_capture.specs.Merging.{Coming, Comes, Stops, Ends, Given, behind_frame, behind_run, begun_run, capture_run, fault_or, first_fault, coming_of}
@@ -90,7 +90,7 @@ ended-behind points held last next.Ended rest r rs k behind was none e = (none, 
 ended-behind points held last (next.Waits frame) rest r rs k None was none e = absurd (cc none)
 ended-behind points held last (next.Waits frame) rest r rs k (Some q) was none e = go (is_earlier q.instant last) none
   where
-    go : (b : Bool) → (if b then Some q else Some (record { index = k; instant = last })) ≡ None → (Some q ≡ None) × (behind_run r Ends rs ≡ Ends)
+    go : (b : Bool) → (if b then Some q else Some (record { index = k; instant = last; frame = frame })) ≡ None → (Some q ≡ None) × (behind_run r Ends rs ≡ Ends)
     go true f = absurd (cc f)
     go false f = absurd (cc f)
 
@@ -113,14 +113,14 @@ pub record IsChosen {R : Type 0} (remaining : FeedView R → Option (List ℕ)) 
   pub within : nth < length cs
   pub which : slice_get cs nth ≡ Some capture
   pub instant : p.instant ≡ capture.last
-  pub comes : coming_of rs ≡ Comes (judged_at capture.points.items (seen_of (frame_of capture.next) capture.held.items) capture.last) rest
+  pub comes : coming_of rs ≡ Comes (judged_at capture.points.items (seen_of p.frame capture.held.items) capture.last) rest
   pub left : Aheads remaining (set cs nth (record capture { next = next.Unasked })) rest
 
 -- it is behind the capture in front
 chosen-behind : {R : Type 0} (remaining : FeedView R → Option (List ℕ)) (x : Capture R) (xs : List (Capture R)) (r : Run) (rs : List Run) (k : ℕ) (p : Place)
     → Ahead remaining x r → (h : IsChosen remaining xs rs (k + 1) p)
-    → behind_run r (Comes (judged_at h.capture.points.items (seen_of (frame_of h.capture.next) h.capture.held.items) h.capture.last) h.rest) rs
-    ≡ Comes (judged_at h.capture.points.items (seen_of (frame_of h.capture.next) h.capture.held.items) h.capture.last) (r ∷ h.rest)
+    → behind_run r (Comes (judged_at h.capture.points.items (seen_of p.frame h.capture.held.items) h.capture.last) h.rest) rs
+    ≡ Comes (judged_at h.capture.points.items (seen_of p.frame h.capture.held.items) h.capture.last) (r ∷ h.rest)
     → IsChosen remaining (x ∷ xs) (r ∷ rs) k p
 chosen-behind remaining x xs r rs k p front h comes = record {
   nth = suc h.nth;
@@ -136,10 +136,10 @@ chosen-behind remaining x xs r rs k p front h comes = record {
 
 -- it is that of the capture in front
 chosen-front : {R : Type 0} (remaining : FeedView R → Option (List ℕ)) (x : Capture R) (xs : List (Capture R)) (rs : List Run) (r : Run) (k : ℕ) (frame : Frame) (left : List ℕ) (p : Place)
-    → record { index = k; instant = x.last } ≡ p → x.next ≡ next.Waits frame → remaining x.reader ≡ Some left → Aheads remaining xs rs
+    → record { index = k; instant = x.last; frame = frame } ≡ p → remaining x.reader ≡ Some left → Aheads remaining xs rs
     → behind_run r (coming_of rs) rs ≡ Comes (judged_at x.points.items (seen_of frame x.held.items) x.last) (rest_ahead x.points.items x.last x.items x.form left ∷ rs)
     → IsChosen remaining (x ∷ xs) (r ∷ rs) k p
-chosen-front remaining x xs rs r k frame left p e waits source behind comes = subst (λ (q : Place). IsChosen remaining (x ∷ xs) (r ∷ rs) k q) e (record {
+chosen-front remaining x xs rs r k frame left p e source behind comes = subst (λ (q : Place). IsChosen remaining (x ∷ xs) (r ∷ rs) k q) e (record {
   nth = 0;
   capture = x;
   rest = rest_ahead x.points.items x.last x.items x.form left ∷ rs;
@@ -147,8 +147,7 @@ chosen-front remaining x xs rs r k frame left p e waits source behind comes = su
   within = omega arith;
   which = refl;
   instant = refl;
-  comes = subst (λ (f : Frame). behind_run r (coming_of rs) rs ≡ Comes (judged_at x.points.items (seen_of f x.held.items) x.last) (rest_ahead x.points.items x.last x.items x.form left ∷ rs))
-      (sym (ap frame_of waits)) comes;
+  comes = comes;
   left = ((left, source, refl), behind);
 })
 
@@ -158,7 +157,7 @@ chosen remaining [] rs k p known e h = absurd (cc e)
 chosen remaining (x ∷ xs) [] k p known e h = absurd h
 chosen {R} remaining (x ∷ xs) (r ∷ rs) k p known e h =
     let (left, source, is) = h.0 in
-    by x.next refl left known.0 source is e (λ q. chosen remaining xs rs (k + 1) q known.1) (none-comes remaining xs rs (k + 1) known.1)
+    by x.next left known.0 source is e (λ q. chosen remaining xs rs (k + 1) q known.1) (none-comes remaining xs rs (k + 1) known.1)
   where
     rest : List ℕ → Run
     rest left = rest_ahead x.points.items x.last x.items x.form left
@@ -166,23 +165,23 @@ chosen {R} remaining (x ∷ xs) (r ∷ rs) k p known e h =
     first : Frame → Judged
     first frame = judged_at x.points.items (seen_of frame x.held.items) x.last
 
-    waits : (frame : Frame) (left : List ℕ) → x.next ≡ next.Waits frame → remaining x.reader ≡ Some left → r ≡ frame_then (first frame) (rest left) → (behind : Option Place) → earliest (k + 1) xs ≡ behind
-        → nearer (Some (record { index = k; instant = x.last })) behind ≡ Some p
+    waits : (frame : Frame) (left : List ℕ) → remaining x.reader ≡ Some left → r ≡ frame_then (first frame) (rest left) → (behind : Option Place) → earliest (k + 1) xs ≡ behind
+        → nearer (Some (record { index = k; instant = x.last; frame = frame })) behind ≡ Some p
         → ((q : Place) → earliest (k + 1) xs ≡ Some q → Aheads remaining xs rs → IsChosen remaining xs rs (k + 1) q)
         → (earliest (k + 1) xs ≡ None → Aheads remaining xs rs → coming_of rs ≡ Ends)
         → IsChosen remaining (x ∷ xs) (r ∷ rs) k p
-    waits frame left here source is None t f more none =
-        chosen-front remaining x xs rs r k frame left p (cc f) here source h.1
+    waits frame left source is None t f more none =
+        chosen-front remaining x xs rs r k frame left p (cc f) source h.1
         (ap (λ (z : Run). behind_run z (coming_of rs) rs) is ∙ ap (λ (z : Coming). behind_frame (first frame) (rest left) z rs) (none t h.1))
-    waits frame left here source is (Some q) t f more none = test (is_earlier q.instant x.last) refl f
+    waits frame left source is (Some q) t f more none = test (is_earlier q.instant x.last) refl f
       where
         behind : IsChosen remaining xs rs (k + 1) q
         behind = more q t h.1
 
-        test : (b : Bool) → is_earlier q.instant x.last ≡ b → (if b then Some q else Some (record { index = k; instant = x.last })) ≡ Some p → IsChosen remaining (x ∷ xs) (r ∷ rs) k p
+        test : (b : Bool) → is_earlier q.instant x.last ≡ b → (if b then Some q else Some (record { index = k; instant = x.last; frame = frame })) ≡ Some p → IsChosen remaining (x ∷ xs) (r ∷ rs) k p
         test true earlier g =
             let own : is_earlier behind.capture.last x.last ≡ true = ap (λ (z : Instant). is_earlier z x.last) (sym behind.instant) ∙ earlier in
-            let j : Judged = judged_at behind.capture.points.items (seen_of (frame_of behind.capture.next) behind.capture.held.items) behind.capture.last in
+            let j : Judged = judged_at behind.capture.points.items (seen_of q.frame behind.capture.held.items) behind.capture.last in
             let same : q ≡ p = cc g in
             subst (λ (z : Place). IsChosen remaining (x ∷ xs) (r ∷ rs) k z) same
             (chosen-behind remaining x xs r rs k q h.0 behind
@@ -191,23 +190,23 @@ chosen {R} remaining (x ∷ xs) (r ∷ rs) k p known e h =
             ∙ ap (λ (z : Run). Comes j (z ∷ behind.rest)) (sym is))))
         test false earlier g =
             let own : is_earlier behind.capture.last x.last ≡ false = ap (λ (z : Instant). is_earlier z x.last) (sym behind.instant) ∙ earlier in
-            let j : Judged = judged_at behind.capture.points.items (seen_of (frame_of behind.capture.next) behind.capture.held.items) behind.capture.last in
-            chosen-front remaining x xs rs r k frame left p (cc g) here source h.1
+            let j : Judged = judged_at behind.capture.points.items (seen_of q.frame behind.capture.held.items) behind.capture.last in
+            chosen-front remaining x xs rs r k frame left p (cc g) source h.1
             (ap (λ (z : Run). behind_run z (coming_of rs) rs) is
             ∙ (ap (λ (z : Coming). behind_frame (first frame) (rest left) z rs) behind.comes
             ∙ ap (λ (b : Bool). if b then Comes j (frame_then (first frame) (rest left) ∷ behind.rest) else Comes (first frame) (rest left ∷ rs)) own))
 
-    by : (known : Next) → x.next ≡ known → (left : List ℕ) → is_asked known ≡ true → remaining x.reader ≡ Some left → r ≡ with_next x.points.items x.held.items x.last known (rest left)
+    by : (known : Next) (left : List ℕ) → is_asked known ≡ true → remaining x.reader ≡ Some left → r ≡ with_next x.points.items x.held.items x.last known (rest left)
         → nearer (waiting_at k x.last known) (earliest (k + 1) xs) ≡ Some p
         → ((q : Place) → earliest (k + 1) xs ≡ Some q → Aheads remaining xs rs → IsChosen remaining xs rs (k + 1) q)
         → (earliest (k + 1) xs ≡ None → Aheads remaining xs rs → coming_of rs ≡ Ends)
         → IsChosen remaining (x ∷ xs) (r ∷ rs) k p
-    by next.Unasked here left was source is f more none = absurd (cc was)
-    by next.Ended here left was source is f more none =
+    by next.Unasked left was source is f more none = absurd (cc was)
+    by next.Ended left was source is f more none =
         let behind = more p f h.1 in
-        let j : Judged = judged_at behind.capture.points.items (seen_of (frame_of behind.capture.next) behind.capture.held.items) behind.capture.last in
+        let j : Judged = judged_at behind.capture.points.items (seen_of p.frame behind.capture.held.items) behind.capture.last in
         chosen-behind remaining x xs r rs k p h.0 behind (ap (λ (z : Run). behind_run z (Comes j behind.rest) rs) is ∙ ap (λ (z : Run). Comes j (z ∷ behind.rest)) (sym is))
-    by (next.Waits frame) here left was source is f more none = waits frame left here source is (earliest (k + 1) xs) refl f more none
+    by (next.Waits frame) left was source is f more none = waits frame left source is (earliest (k + 1) xs) refl f more none
 
 -- its index among all captures is that of its place
 pub chosen-here : {R : Type 0} (remaining : FeedView R → Option (List ℕ)) (cs : List (Capture R)) (rs : List Run) (p : Place) → (h : IsChosen remaining cs rs 0 p)

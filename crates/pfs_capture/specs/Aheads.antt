@@ -5,8 +5,6 @@ use Rattle.pfs_capture_files.specs.Faults.{is_outside}
 use Rattle.pfs_capture_files.specs.Forms.{IsWithinStart, start_of}
 use Rattle.pfs_capture_files.specs.declared.faults.FileFault.{FileFault}
 use Rattle.pfs_capture_files.specs.declared.forms.Form.{Form}
-use Rattle.pfs_capture_files.specs.declared.frames.Frame.{Frame}
-use Rattle.pfs_capture_files.specs.declared.frames.Moment.TheVariants.{Untold}
 use Rattle.pfs_capture.specs.Captures.{frames_from, most_items, seen_of}
 use Rattle.pfs_capture.specs.Instants.{is_earlier, start_instant}
 use Rattle.pfs_capture.specs.Merging.{Given, Stops, capture_run, first_fault, coming_of}
@@ -122,15 +120,9 @@ AllBegin remaining (Err f) cs gs = EndsAtStart (first_fault gs) (Err f) × AreWi
 
 -- ---- the earliest
 
--- the frame of a capture that waits, or one without bytes
-abbrev pub frame_of : Next → Frame
-frame_of (next.Waits frame) = frame
-frame_of next.Ended = record { link = 0; name = None; moment = Untold; from = 0; count = 0 }
-frame_of next.Unasked = record { link = 0; name = None; moment = Untold; from = 0; count = 0 }
-
 -- the place of the next frame of a capture among captures
 abbrev pub waiting_at : ℕ → Instant → Next → Option Place
-waiting_at index instant (next.Waits frame) = Some (record { index = index; instant = instant })
+waiting_at index instant (next.Waits frame) = Some (record { index = index; instant = instant; frame = frame })
 waiting_at index instant next.Ended = None
 waiting_at index instant next.Unasked = None
 

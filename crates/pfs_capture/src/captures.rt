@@ -3,7 +3,7 @@
 ghost use Rattle.std.specs.Prelude.{◌≡◌, ◌⊎◌, ◌<◌, Err, IfErr, List, OnOk, true, ℕ};
 ghost use Rattle.pfs_capture_files.specs.declared.faults.FileFault.TheVariants as fault;
 ghost use Rattle.pfs_streams.specs.Feeds.{HasFailed, read_failures, unread};
-ghost use Rattle.pfs_capture.specs.Aheads.{Ahead, BeginsAs, StaysAhead, frame_of, is_asked, is_of_reading, turns_left};
+ghost use Rattle.pfs_capture.specs.Aheads.{Ahead, BeginsAs, StaysAhead, is_asked, is_of_reading, turns_left};
 ghost use Rattle.pfs_capture.specs.Merging.{Given};
 ghost use Rattle.pfs_capture.specs.Readers.{IsGiven, IsUnread};
 ghost use Rattle.pfs_capture.specs.Runs.{Run};
@@ -11,7 +11,7 @@ ghost use Rattle.pfs_capture.specs.Runs.{Run};
 use crate::faults::TraceStop;
 use crate::instants::Instant;
 use crate::points::CapturePoint;
-use pfs_capture_files::{Form, Frame, Item, Moment, read_item, read_start};
+use pfs_capture_files::{Form, Frame, Item, read_item, read_start};
 use pfs_streams::Feed;
 use std::alloc::Global;
 use std::io::Read;
@@ -28,24 +28,6 @@ pub enum Next {
     Ended,
     /// It is this one, and its bytes are in what was read last.
     Waits(Frame),
-}
-
-impl Next {
-    /// The frame that waits, or one without bytes where none does.
-    pub fn frame(self) -> Frame
-        ensures { result ≡ frame_of self }
-    {
-        match self {
-            Next::Waits(frame) => frame,
-            Next::Ended | Next::Unasked => Frame {
-                link: 0,
-                name: None,
-                moment: Moment::Untold,
-                from: 0,
-                count: 0,
-            },
-        }
-    }
 }
 
 /// A capture: the interfaces at which it was taken, and its reader.

@@ -11,14 +11,16 @@ ghost use Rattle.pfs_capture.specs.Runs.{Run};
 use crate::captures::{Capture, Next};
 use crate::faults::TraceStop;
 use crate::instants::Instant;
+use pfs_capture_files::Frame;
 use std::alloc::Global;
 use std::io::Read;
 
-/// Which of the captures a next frame is of, and its moment.
+/// A next frame, which of the captures it is of, and its moment.
 #[derive(Clone, Copy)]
 pub struct Place {
     pub index: usize,
     pub instant: Instant,
+    pub frame: Frame,
 }
 
 /// Reads how each capture begins.
@@ -72,9 +74,10 @@ fn waiting_at<R>(capture: &Capture<R>, index: usize) -> Option<Place>
     ensures { result ≡ waiting_at index capture.now.last capture.now.next }
 {
     match capture.next {
-        Next::Waits(_) => Some(Place {
+        Next::Waits(frame) => Some(Place {
             index,
             instant: capture.last,
+            frame,
         }),
         Next::Ended | Next::Unasked => None,
     }

@@ -2,13 +2,13 @@
 
 ghost use Rattle.std.specs.Prelude.{◌≡◌, IfOk, IfSome, true};
 ghost use Rattle.pfs_addr_values.specs.Names.{is_name};
-ghost use Rattle.pfs_capture.specs.Sorting.{IsFound, by_link, by_mac, contradicts, found_in_frame, heading_from, logged_way, networks_dir, way_at, way_between, way_of};
+ghost use Rattle.pfs_capture.specs.Sorting.{IsFound, by_link, by_mac, by_own_macs, contradicts, found_in_frame, found_on_link, heading_from, logged_way, networks_dir, way_at, way_between, way_of};
 
 use crate::points::{CapturePoint, point_of};
 use pfs_addr_values::{Dir, IfName};
 use pfs_capture_packets::{
-    Answer, IpPacket, Reason, is_log, read_answer, read_cooked_dir, read_ethernet_dir, read_log,
-    read_packet,
+    Answer, IpPacket, Link, Mac, Reason, is_log, read_answer, read_cooked_dir, read_ethernet_dir,
+    read_log, read_packet,
 };
 
 /// By what a packet's direction was found.
@@ -80,40 +80,52 @@ pub fn sort(
     ensures is { result ≡ found_in_frame points.now name link_type frame.now }
     ensures row { IfOk result IsFound }
 {
-    let packet = read_packet(link_type, frame)?;
-    let way = way_of(points, name, link_type, frame, &packet).ok_or(Reason::NeitherWay)?;
+    match Link::from_type(link_type) {
+        Some(link) => sort_on_link(points, name, link, frame),
+        None => Err(Reason::LinkType),
+    }
+}
+
+fn sort_on_link(
+    points: &[CapturePoint],
+    name: Option<IfName>,
+    link: Link,
+    frame: &[u8],
+) -> Result<Found, Reason>
+    ensures is { result ≡ found_on_link points.now name link frame.now }
+    ensures row { IfOk result IsFound }
+{
+    let packet = read_packet(link, frame)?;
+    let way = way_of(points, name, link, frame, &packet).ok_or(Reason::NeitherWay)?;
     Ok(Found {
         way,
         packet,
-        answer: read_answer(link_type, frame),
+        answer: read_answer(link, frame),
     })
 }
 
 fn way_of(
     points: &[CapturePoint],
     name: Option<IfName>,
-    link_type: u16,
+    link: Link,
     frame: &[u8],
     packet: &IpPacket,
 ) -> Option<Way>
-    ensures is { result ≡ way_of points.now name link_type frame.now packet.now }
+    ensures is { result ≡ way_of points.now name link frame.now packet.now }
     ensures name { IfSome result (λ w. is_name 15 w.ifname ≡ true) }
 {
-    if is_log(link_type) {
+    if is_log(link) {
         return logged_way(frame);
     }
-    way_at(point_of(points, name)?, link_type, frame, packet)
+    way_at(point_of(points, name)?, link, frame, packet)
 }
 
 /// The way of a packet at an interface.
-fn way_at(point: &CapturePoint, link_type: u16, frame: &[u8], packet: &IpPacket) -> Option<Way>
-    ensures is { result ≡ way_at point.now link_type frame.now packet.now }
+fn way_at(point: &CapturePoint, link: Link, frame: &[u8], packet: &IpPacket) -> Option<Way>
+    ensures is { result ≡ way_at point.now link frame.now packet.now }
     ensures name { IfSome result (λ w. is_name 15 w.ifname ≡ true) }
 {
-    let heading = heading_from(
-        by_link(point, link_type, frame),
-        networks_dir(point, packet),
-    )?;
+    let heading = heading_from(by_link(point, link, frame), networks_dir(point, packet))?;
     Some(Way {
         heading,
         ifname: point.ifname(),
@@ -137,21 +149,29 @@ fn logged_way(frame: &[u8]) -> Option<Way>
 }
 
 /// What the header of a frame's link says.
-fn by_link(point: &CapturePoint, link_type: u16, frame: &[u8]) -> LinkWay
-    ensures { result ≡ by_link point.now link_type frame.now }
+fn by_link(point: &CapturePoint, link: Link, frame: &[u8]) -> LinkWay
+    ensures { result ≡ by_link point.now link frame.now }
 {
-    match read_cooked_dir(link_type, frame) {
+    match read_cooked_dir(link, frame) {
         Some(dir) => LinkWay::Says(dir, Evidence::Cooked),
-        None => by_mac(point, link_type, frame),
+        None => by_mac(point, link, frame),
     }
 }
 
 /// What the addresses of an Ethernet frame say, where those of the interface are given.
-fn by_mac(point: &CapturePoint, link_type: u16, frame: &[u8]) -> LinkWay
-    ensures { result ≡ by_mac point.now link_type frame.now }
+fn by_mac(point: &CapturePoint, link: Link, frame: &[u8]) -> LinkWay
+    ensures { result ≡ by_mac point.now link frame.now }
 {
-    let own = point.macs();
-    if link_type != 1 || own.is_empty() {
+    match link {
+        Link::Ethernet => by_own_macs(point.macs(), frame),
+        _ => LinkWay::Silent,
+    }
+}
+
+fn by_own_macs(own: &[Mac], frame: &[u8]) -> LinkWay
+    ensures { result ≡ by_own_macs own.now frame.now }
+{
+    if own.is_empty() {
         return LinkWay::Silent;
     }
     match read_ethernet_dir(own, frame) {

@@ -6,7 +6,6 @@ ghost use Rattle.pfs_capture_files.specs.declared.faults.FileFault.TheVariants a
 ghost use Rattle.pfs_streams.specs.Feeds.{unread};
 ghost use Rattle.pfs_streams.specs.Sinks.{NotFlushed, bytes_held, write_failures};
 ghost use Rattle.pfs_capture.specs.Accounts.{AddsUp};
-ghost use Rattle.pfs_capture.specs.Aheads.{frame_of};
 ghost use Rattle.pfs_capture.specs.Captures.{frame_bytes, seen_of};
 ghost use Rattle.pfs_capture.specs.Merging.{Given};
 ghost use Rattle.pfs_capture.specs.Readers.{AreGiven, SomeFailed, failures_of, lefts_of};
@@ -20,7 +19,7 @@ use crate::accounts::Account;
 use crate::captures::{Capture, MOST_ITEMS, Next};
 use crate::faults::TraceStop;
 use crate::instants::is_before;
-use crate::merging::{ask_all, begin_all, earliest};
+use crate::merging::{Place, ask_all, begin_all, earliest};
 use crate::points::CapturePoint;
 use crate::sorting::{Found, sort};
 use pfs_capture_answers::{ANSWER_HEADER, push_answer};
@@ -88,7 +87,7 @@ pub fn write_trace<R: Read, W: Write, T: Write>(
             Some(place) => place,
             None => return Ok(()),
         };
-        take_next(captures, place.index, account, &mut lines)?;
+        take_next(captures, place, account, &mut lines)?;
         send(out, answers, &lines.row, &lines.answer)?;
     }
     Err(TraceStop::TooMany)
@@ -130,30 +129,29 @@ fn send<W: Write, T: Write>(
     }
 }
 
-/// Counts the next frame of the capture of this index, which is then asked for another. The frame's texts are then in the lines.
+/// Counts the frame in this place. Its capture is then asked for another, and its texts are in the lines.
 fn take_next<R>(
     captures: &mut [Capture<R>],
-    index: usize,
+    place: Place,
     account: &mut Account,
     lines: &mut Lines,
 ) -> Result<(), TraceStop>
     requires few { account.old.frames < 2 ^ 63 }
     requires sum { AddsUp account.old }
-    requires within { index < length captures.old }
-    ensures takes { (c : Capture R) → slice_get captures.old index ≡ Some c →
-        TakesFrame (frame_taken account.old (judged_at c.points.items (seen_of (frame_of c.next) c.held.items) c.last)) result account.new lines.new.row.items lines.new.answer.items }
-    ensures asks { (c : Capture R) → slice_get captures.old index ≡ Some c →
-        captures.new ≡ slice_set captures.old index (record c { next = Next.Unasked }) }
+    requires within { place.index < length captures.old }
+    ensures takes { (c : Capture R) → slice_get captures.old place.index ≡ Some c →
+        TakesFrame (frame_taken account.old (judged_at c.points.items (seen_of place.frame c.held.items) c.last)) result account.new lines.new.row.items lines.new.answer.items }
+    ensures asks { (c : Capture R) → slice_get captures.old place.index ≡ Some c →
+        captures.new ≡ slice_set captures.old place.index (record c { next = Next.Unasked }) }
     ensures same { failures_of captures.new ≡ failures_of captures.old }
     ensures sum { AddsUp account.new }
     ensures one { OnOk result (account.new.frames ≡ account.old.frames + 1) }
     ensures kept { OnErr result (account.new ≡ account.old) }
     ensures fails { IfErr result (λ f. f ≡ TraceStop.Memory) }
 {
-    let capture = &mut captures[index];
-    let frame = capture.next.frame();
+    let capture = &mut captures[place.index];
     capture.next = Next::Unasked;
-    take_frame(capture, frame, account, lines)
+    take_frame(capture, place.frame, account, lines)
 }
 
 /// Counts one frame more of a capture. Its texts are then in the lines.

@@ -6,7 +6,7 @@ use Rattle.pfs_capture_packets.specs.declared.walks.Place.{Place}
 use Rattle.pfs_capture_packets.specs.declared.packets.Reason.{Reason}
 use Rattle.pfs_capture_packets.specs.declared.packets.Reason.TheVariants as reason
 use Rattle.pfs_capture_packets.specs.Bytes.{u16_at}
-use Rattle.pfs_capture_packets.specs.Logs.{is_log, log_header}
+use Rattle.pfs_capture_packets.specs.Logs.{log_header}
 use Rattle.pfs_capture_packets.specs.Labels.{kind_of_ppp, kind_of_version}
 
 -- the link of a type: Ethernet, BSD's loopback, raw IP, enc(4), PPP, PPP over Ethernet, Linux cooked of both versions, pflog. Files of
@@ -20,9 +20,9 @@ link_of n =
     else (if (n == 13) || (n == 109) then Some link.Encapsulated
     else (if (n == 9) || (n == 50) then Some link.Ppp
     else (if n == 51 then Some link.PppOverEthernet
-    else (if n == 113 then Some link.Cooked
-    else (if n == 276 then Some link.CookedAgain
-    else (if is_log n then Some link.Log else None)))))))))
+    else (if n == 113 then Some link.LinuxSll
+    else (if n == 276 then Some link.LinuxSll2
+    else (if n == 117 then Some link.Log else None)))))))))
 
 -- the EtherType of packets of an address family, as the systems of BSD number them: IPv4 is 2, IPv6 24, 28 or 30; 0 for any other
 abbrev pub kind_of_family : ℕ → ℕ
@@ -87,8 +87,8 @@ log_place frame =
 -- the EtherType 0x8864
 abbrev pub first_place : Link → List ℕ → Result Place Reason
 first_place link.Ethernet frame = place_behind_header frame 14 12
-first_place link.Cooked frame = place_behind_header frame 16 14
-first_place link.CookedAgain frame = place_behind_header frame 20 0
+first_place link.LinuxSll frame = place_behind_header frame 16 14
+first_place link.LinuxSll2 frame = place_behind_header frame 20 0
 first_place link.Loopback frame = loopback_place frame
 first_place link.Raw frame = raw_place frame
 first_place link.RawOrLoopback frame = raw_or_loopback_place frame

@@ -1,17 +1,20 @@
 -- What the header of pflog(4) says of its packet: `struct pfloghdr` of OpenBSD's net/if_pflog.h, which other systems have up to its
 -- direction.
-use Rattle.std.specs.Prelude.{ℕ, ◌+◌, ◌==◌, ◌&&◌, not, Bool, List, length, take, nat_le, Option, Some, None, if◌then◌else◌, slice_index, position, unwrap_or}
+use Rattle.std.specs.Prelude.{ℕ, ◌+◌, ◌==◌, ◌&&◌, not, Bool, true, false, List, length, take, nat_le, Option, Some, None, if◌then◌else◌, slice_index, position, unwrap_or}
 use Rattle.pfs_addr_values.specs.Names.{name_of}
 use Rattle.pfs_addr_values.specs.declared.packets.Dir.{Dir}
 use Rattle.pfs_addr_values.specs.declared.packets.Dir.TheVariants.{In, Out}
-use Rattle.pfs_capture_packets.specs.declared.logs.TheConstants.{LOG_HEADER, LOG_LINK}
+use Rattle.pfs_capture_packets.specs.declared.links.Link.{Link}
+use Rattle.pfs_capture_packets.specs.declared.links.Link.TheVariants as link
+use Rattle.pfs_capture_packets.specs.declared.logs.TheConstants.{LOG_HEADER}
 use Rattle.pfs_capture_packets.specs.declared.logs.Answer.{Answer}
 use Rattle.pfs_capture_packets.specs.declared.logs.Logged.{Logged}
 use Rattle.pfs_capture_packets.specs.Bytes.{octets_at, u32_at}
 
--- whether the frames of a link of this type are those of a log: LINKTYPE_PFLOG, 117
-abbrev pub is_log : ℕ → Bool
-is_log link_type = link_type == LOG_LINK
+-- whether the frames of a link are those of a log
+abbrev pub is_log : Link → Bool
+is_log link.Log = true
+is_log other = false
 
 -- a log's header has 61 bytes at least, with those that fill it up to a word 64
 abbrev pub log_header : ℕ
@@ -62,9 +65,9 @@ logged_answer frame =
     })
     else None
 
--- what pf answered for a frame of this link type: only a log has it
-abbrev pub answer_in : ℕ → List ℕ → Option Answer
-answer_in link_type frame = if is_log link_type then logged_answer frame else None
+-- what pf answered for a frame of a link: only a log has it
+abbrev pub answer_in : Link → List ℕ → Option Answer
+answer_in link frame = if is_log link then logged_answer frame else None
 
 -- the name of the anchor whose rule it is
 abbrev pub anchor_name : Answer → List ℕ

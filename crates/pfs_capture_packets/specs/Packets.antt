@@ -1,6 +1,5 @@
 -- The outermost IP packet of a frame: RFC 791, RFC 8200, and of what it carries the ports and the flags (RFC 9293, RFC 3168, RFC 768).
 use Rattle.std.specs.Prelude.{ℕ, ◌≢◌, ◌<◌, ◌≤◌, ◌+◌, ◌*◌, ◌/◌, ◌%◌, ◌==◌, ◌||◌, not, List, length, take, drop, nat_le, nat_lt, min, Option, Some, None, Bool, false, Result, Ok, Err, if◌then◌else◌, slice_index}
-use Rattle.std.specs.Option.{option_map_or}
 use Rattle.pfs_addr_values.specs.Protocols.{proto_of}
 use Rattle.pfs_addr_values.specs.declared.protocols.Proto.{Proto}
 use Rattle.pfs_addr_values.specs.declared.protocols.Proto.TheVariants as proto
@@ -17,7 +16,7 @@ use Rattle.pfs_capture_packets.specs.declared.packets.Carried.{Carried}
 use Rattle.pfs_capture_packets.specs.declared.packets.Carried.TheVariants.{Tcp, Udp, Other}
 use Rattle.pfs_capture_packets.specs.declared.packets.IpPacket.{IpPacket}
 use Rattle.pfs_capture_packets.specs.Bytes.{u16_at, octets_at}
-use Rattle.pfs_capture_packets.specs.Links.{first_place, link_of}
+use Rattle.pfs_capture_packets.specs.Links.{first_place}
 use Rattle.pfs_capture_packets.specs.Walks.{walk_from}
 
 -- what follows from a part of a frame that is read, or else the reason why it is none
@@ -126,10 +125,6 @@ framed_packet_at frame place =
     then (if place.kind == 0x0800 then ipv4_in (drop place.at frame) else (if place.kind == 0x86dd then ipv6_in (drop place.at frame) else Err reason.NotIp))
     else Err reason.Cut
 
--- the packet in a frame of a link, after the link's header and all tags and labels
-abbrev pub packet_in : Link → List ℕ → Result IpPacket Reason
-packet_in link frame = then_read (first_place link frame) (λ first. then_read (walk_from (length frame) layer.Link frame first) (λ place. framed_packet_at frame place))
-
--- the outermost IP packet of a frame of this link type, or the one reason why there is none
-abbrev pub packet_of : ℕ → List ℕ → Result IpPacket Reason
-packet_of link_type frame = option_map_or (λ link. packet_in link frame) (link_of link_type) (Err reason.LinkType)
+-- the outermost IP packet in a frame of a link, after the link's header and all tags and labels, or the one reason why there is none
+abbrev pub packet_of : Link → List ℕ → Result IpPacket Reason
+packet_of link frame = then_read (first_place link frame) (λ first. then_read (walk_from (length frame) layer.Link frame first) (λ place. framed_packet_at frame place))

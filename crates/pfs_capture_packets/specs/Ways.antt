@@ -4,6 +4,8 @@ use Rattle.std.specs.List.{list_any}
 use Rattle.std.specs.Str.{bytes_eq}
 use Rattle.pfs_addr_values.specs.declared.packets.Dir.{Dir}
 use Rattle.pfs_addr_values.specs.declared.packets.Dir.TheVariants.{In, Out}
+use Rattle.pfs_capture_packets.specs.declared.links.Link.{Link}
+use Rattle.pfs_capture_packets.specs.declared.links.Link.TheVariants as link
 use Rattle.pfs_capture_packets.specs.declared.ways.Mac.{Mac}
 use Rattle.pfs_capture_packets.specs.Bytes.{octets_at, u16_at}
 use Rattle.pfs_capture_packets.specs.Logs.{if_some}
@@ -40,19 +42,19 @@ mac_of text =
 
 -- ---- Linux cooked captures
 
--- the type of a cooked packet: LINKTYPE_LINUX_SLL (113) has it in the first two bytes, LINKTYPE_LINUX_SLL2 (276) in the eleventh
-abbrev pub cooked_type : ℕ → List ℕ → Option ℕ
-cooked_type link_type frame =
-    if (link_type == 113) && nat_le (0 + 16) (length frame) then Some (u16_at frame 0)
-    else (if (link_type == 276) && nat_le (0 + 20) (length frame) then Some (slice_index frame 10) else None)
+-- the type of a cooked packet: LINKTYPE_LINUX_SLL has it in the first two bytes, LINKTYPE_LINUX_SLL2 in the eleventh
+abbrev pub cooked_type : Link → List ℕ → Option ℕ
+cooked_type link.LinuxSll frame = if nat_le (0 + 16) (length frame) then Some (u16_at frame 0) else None
+cooked_type link.LinuxSll2 frame = if nat_le (0 + 20) (length frame) then Some (slice_index frame 10) else None
+cooked_type other frame = None
 
 -- to us (0), to all (1) or to a group (2) comes in, from us (4) goes out; 3 is to another host (packet(7), sll_pkttype)
 abbrev pub dir_of_type : ℕ → Option Dir
 dir_of_type number = if nat_le number 2 then Some In else (if number == 4 then Some Out else None)
 
 -- the direction that a cooked packet's header says
-abbrev pub cooked_dir : ℕ → List ℕ → Option Dir
-cooked_dir link_type frame = if_some (cooked_type link_type frame) dir_of_type
+abbrev pub cooked_dir : Link → List ℕ → Option Dir
+cooked_dir link frame = if_some (cooked_type link frame) dir_of_type
 
 -- ---- Ethernet
 

@@ -5,7 +5,7 @@ ghost use Rattle.pfs_capture_packets.specs.Links.{either_order, encapsulated_pla
 
 use crate::bytes::{holds, read_u16};
 use crate::labels::{kind_of_ppp, kind_of_version};
-use crate::logs::{LOG_HEADER, LOG_LINK};
+use crate::logs::LOG_HEADER;
 use crate::packets::Reason;
 use crate::walks::Place;
 
@@ -27,9 +27,9 @@ pub enum Link {
     /// The header of a session of PPP over Ethernet.
     PppOverEthernet,
     /// The header of a Linux cooked capture.
-    Cooked,
+    LinuxSll,
     /// The header of a Linux cooked capture, version 2.
-    CookedAgain,
+    LinuxSll2,
     /// The header of pflog(4).
     Log,
 }
@@ -47,9 +47,9 @@ impl Link {
             13 | 109 => Some(Link::Encapsulated),
             9 | 50 => Some(Link::Ppp),
             51 => Some(Link::PppOverEthernet),
-            113 => Some(Link::Cooked),
-            276 => Some(Link::CookedAgain),
-            LOG_LINK => Some(Link::Log),
+            113 => Some(Link::LinuxSll),
+            276 => Some(Link::LinuxSll2),
+            117 => Some(Link::Log),
             _ => None,
         }
     }
@@ -61,8 +61,8 @@ pub fn first_place(link: Link, frame: &[u8]) -> Result<Place, Reason>
 {
     match link {
         Link::Ethernet => framed(frame, 14, 12),
-        Link::Cooked => framed(frame, 16, 14),
-        Link::CookedAgain => framed(frame, 20, 0),
+        Link::LinuxSll => framed(frame, 16, 14),
+        Link::LinuxSll2 => framed(frame, 20, 0),
         Link::Loopback => loopback_place(frame),
         Link::Raw => raw_place(frame),
         Link::RawOrLoopback => raw_or_loopback_place(frame),

@@ -5,10 +5,8 @@ ghost use Rattle.pfs_addr_values.specs.Names.{is_name};
 ghost use Rattle.pfs_capture_packets.specs.Logs.{anchor_name, answer_in, is_log, logged_answer, logged_dir_at, logged_of, name_at, rewritten_in, text_length};
 
 use crate::bytes::{holds, read_u32};
+use crate::links::Link;
 use pfs_addr_values::{Dir, IfName, parse_ifname};
-
-/// The type of the link of a log: LINKTYPE_PFLOG.
-pub const LOG_LINK: u16 = 117;
 
 /// The least bytes of a log's header, up to the direction. What fills them up to a word is not counted.
 pub const LOG_HEADER: usize = 61;
@@ -48,11 +46,11 @@ impl Answer {
     }
 }
 
-/// Whether the frames of a link of this type are those of a log of pflog(4).
-pub fn is_log(link_type: u16) -> bool
-    ensures { result ≡ is_log link_type }
+/// Whether the frames of a link are those of a log of pflog(4).
+pub fn is_log(link: Link) -> bool
+    ensures { result ≡ is_log link }
 {
-    link_type == LOG_LINK
+    matches!(link, Link::Log)
 }
 
 /// What the header of pflog(4) says of its packet, or `None` where the frame ends within it, where its direction is neither
@@ -69,12 +67,12 @@ pub fn read_log(frame: &[u8]) -> Option<Logged>
     Some(Logged { dir, ifname })
 }
 
-/// What pf answered for the packet of a frame of this link type, or `None` where the link is no log of pflog(4) and where the frame
-/// ends within the header of one.
-pub fn read_answer(link_type: u16, frame: &[u8]) -> Option<Answer>
-    ensures { result ≡ answer_in link_type frame.now }
+/// What pf answered for the packet of a frame of this link, or `None` where the link is no log of pflog(4) and where the frame ends
+/// within the header of one.
+pub fn read_answer(link: Link, frame: &[u8]) -> Option<Answer>
+    ensures { result ≡ answer_in link frame.now }
 {
-    if !is_log(link_type) {
+    if !is_log(link) {
         return None;
     }
     logged_answer(frame)

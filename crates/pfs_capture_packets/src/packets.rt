@@ -4,7 +4,7 @@ ghost use Rattle.std.specs.Prelude.{◌≡◌, ◌+◌, ◌≤◌, IfOk, length,
 ghost use Rattle.pfs_addr_values.specs.Addresses.{same_family};
 ghost use Rattle.pfs_addr_values.specs.Protocols.{has_ports};
 ghost use Rattle.pfs_capture_packets.specs.Sent.{flags_of_carried, from_port, on_way, proto_of_carried, to_port};
-ghost use Rattle.pfs_capture_packets.specs.Packets.{IsCarried, carried_at, ends_past, flags_in, found_at, ipv4_in, ipv6_in, kept_length, own_end, packet_in, packet_of, tcp_at, udp_at, v4_at, v6_at};
+ghost use Rattle.pfs_capture_packets.specs.Packets.{IsCarried, carried_at, ends_past, flags_in, found_at, ipv4_in, ipv6_in, kept_length, own_end, packet_of, tcp_at, udp_at, v4_at, v6_at};
 
 use crate::bytes::{holds, read_u16};
 use crate::links::{Link, first_place};
@@ -108,24 +108,13 @@ fn flags_of(carried: &Carried) -> Flags
     }
 }
 
-/// The outermost IP packet of a frame of this link type, or the reason for which the frame is no record.
+/// The outermost IP packet of a frame of this link, or the reason for which the frame is no record.
 ///
-/// Nothing in a payload, a tunnel or an error of ICMP is looked at. It returns each reason but `Reason::NeitherWay`
-/// where the definition gives it; an IP header whose length is too small to be one is `Reason::NotIp`. (RFC 791, section
+/// Nothing in a payload, a tunnel or an error of ICMP is looked at. It returns each reason but `Reason::LinkType` and
+/// `Reason::NeitherWay` where the definition gives it; an IP header whose length is too small to be one is `Reason::NotIp`. (RFC 791, section
 /// 3.1; RFC 8200, sections 3 and 4; RFC 9293, section 3.1; RFC 768)
-pub fn read_packet(link_type: u16, frame: &[u8]) -> Result<IpPacket, Reason>
-    ensures is { result ≡ packet_of link_type frame.now }
-    ensures family { IfOk result (λ p. same_family p.source p.destination ≡ true) }
-    ensures carried { IfOk result (λ p. IsCarried p.carried) }
-{
-    match Link::from_type(link_type) {
-        Some(link) => packet_in(link, frame),
-        None => Err(Reason::LinkType),
-    }
-}
-
-fn packet_in(link: Link, frame: &[u8]) -> Result<IpPacket, Reason>
-    ensures is { result ≡ packet_in link frame.now }
+pub fn read_packet(link: Link, frame: &[u8]) -> Result<IpPacket, Reason>
+    ensures is { result ≡ packet_of link frame.now }
     ensures family { IfOk result (λ p. same_family p.source p.destination ≡ true) }
     ensures carried { IfOk result (λ p. IsCarried p.carried) }
 {

@@ -5,6 +5,7 @@ ghost use Rattle.std.specs.Str.{bytes_eq};
 ghost use Rattle.pfs_capture_packets.specs.Ways.{cooked_dir, cooked_type, dir_of_type, ethernet_dir, hex_pair, hex_value, is_colon, is_own, mac_of, way_across};
 
 use crate::bytes::{holds, read_u16};
+use crate::links::Link;
 use pfs_addr_values::Dir;
 
 /// The address of an interface on its link, of six bytes as Ethernet has it. (IEEE 802, clause 8.2)
@@ -72,18 +73,18 @@ fn hex_value(digit: u8) -> Option<u8>
 
 /// Which way the header of a Linux cooked capture says that its frame goes. `None` for frames of other links, and where it
 /// says neither way: what is sent to another host is neither in nor out. (packet(7), sll_pkttype)
-pub fn read_cooked_dir(link_type: u16, frame: &[u8]) -> Option<Dir>
-    ensures { result ≡ cooked_dir link_type frame.now }
+pub fn read_cooked_dir(link: Link, frame: &[u8]) -> Option<Dir>
+    ensures { result ≡ cooked_dir link frame.now }
 {
-    dir_of_type(cooked_type(link_type, frame)?)
+    dir_of_type(cooked_type(link, frame)?)
 }
 
-fn cooked_type(link_type: u16, frame: &[u8]) -> Option<u16>
-    ensures { result ≡ cooked_type link_type frame.now }
+fn cooked_type(link: Link, frame: &[u8]) -> Option<u16>
+    ensures { result ≡ cooked_type link frame.now }
 {
-    match link_type {
-        113 if holds(frame, 0, 16) => Some(read_u16(frame, 0)),
-        276 if holds(frame, 0, 20) => Some(u16::from(frame[10])),
+    match link {
+        Link::LinuxSll if holds(frame, 0, 16) => Some(read_u16(frame, 0)),
+        Link::LinuxSll2 if holds(frame, 0, 20) => Some(u16::from(frame[10])),
         _ => None,
     }
 }

@@ -15,7 +15,7 @@ use Rattle.pfs_addr_values.specs.declared.protocols.Proto.TheVariants as proto
 use Rattle.pfs_capture_packets.specs.Bytes.{octets_at, u16_at}
 use Rattle.pfs_capture_packets.specs.Links.{first_place, link_of}
 use Rattle.pfs_capture_packets.specs.Logs.{answer_in, if_some, is_log, log_header, logged_dir_at, logged_of, name_at, text_length}
-use Rattle.pfs_capture_packets.specs.Packets.{IsCarried, carried_at, carried_by, ends_past, found_at, framed_packet_at, ipv4_in, ipv6_in, own_end, packet_in, packet_of, tcp_at, then_read, udp_at, v4_at, v6_at}
+use Rattle.pfs_capture_packets.specs.Packets.{IsCarried, carried_at, carried_by, ends_past, found_at, framed_packet_at, ipv4_in, ipv6_in, own_end, packet_of, tcp_at, then_read, udp_at, v4_at, v6_at}
 use Rattle.pfs_capture_packets.specs.Sent.{flags_of_carried, from_port, proto_of_carried, to_port}
 use Rattle.pfs_capture_packets.specs.Walks.{walk_from}
 use Rattle.pfs_capture_packets.specs.declared.links.Link.{Link}
@@ -29,7 +29,7 @@ use Rattle.pfs_capture.specs.declared.sorting.Evidence.TheVariants as evidence
 use Rattle.pfs_capture_packets.specs.declared.walks.Layer.{Layer}
 use Rattle.pfs_capture_packets.specs.declared.walks.Place.{Place}
 use Rattle.pfs_capture.specs.Points.{Point, point_named, point_of}
-use Rattle.pfs_capture.specs.Sorting.{by_link, found_in_frame, heading_from, logged_way, networks_dir, way_at, way_of}
+use Rattle.pfs_capture.specs.Sorting.{by_link, found_in_frame, found_on_link, heading_from, logged_way, networks_dir, way_at, way_of}
 use Rattle.pfs_capture.specs.Traces.{row_from}
 use Rattle.pfs_capture.specs.declared.sorting.Found.{Found}
 use Rattle.pfs_capture.specs.declared.sorting.Heading.{Heading}
@@ -136,14 +136,10 @@ framed-whole frame place p h e = when (nat_le (place.at + 0) (length frame)) _ _
     by false true f = ipv6-whole (drop place.at frame) p (bytes-drop place.at frame h) f
     by false false f = cc
 
-packet-whole : (link_type : ℕ) (frame : List ℕ) (p : IpPacket) → AreBytes frame → packet_of link_type frame ≡ Ok p → IsWhole p
-packet-whole link_type frame p h e = by (link_of link_type) e
-  where
-    by : (o : Option Link) → option_map_or (λ link. packet_in link frame) o (Err reason.LinkType) ≡ Ok p → IsWhole p
-    by None f = cc
-    by (Some link) f =
-        read-of (first_place link frame) _ p (λ first a g.
-        read-of _ (λ place. framed_packet_at frame place) p (λ place b k. framed-whole frame place p h k) g) f
+packet-whole : (link : Link) (frame : List ℕ) (p : IpPacket) → AreBytes frame → packet_of link frame ≡ Ok p → IsWhole p
+packet-whole link frame p h e =
+    read-of (first_place link frame) _ p (λ first a g.
+    read-of _ (λ place. framed_packet_at frame place) p (λ place b k. framed-whole frame place p h k) g) e
 
 -- columns can say what it carries
 carried-said : (c : Carried) → IsCarried c → CanSay (proto_of_carried c) (from_port c) (to_port c) (flags_of_carried c)
@@ -199,9 +195,9 @@ point-of-named [] name p names e = named-of [] name p names e
 point-of-named (q ∷ []) name p names e = let same : q ≡ p = cc e in subst (λ (x : Point). is_name 15 x.ifname ≡ true) same names.0
 point-of-named (q ∷ r ∷ rs) name p names e = named-of (q ∷ r ∷ rs) name p names e
 
-way-named : (points : List Point) (name : Option (List ℕ)) (link_type : ℕ) (frame : List ℕ) (p : IpPacket) (w : Way) → AreNamed points → way_of points name link_type frame p ≡ Some w
+way-named : (points : List Point) (name : Option (List ℕ)) (link : Link) (frame : List ℕ) (p : IpPacket) (w : Way) → AreNamed points → way_of points name link frame p ≡ Some w
     → is_name 15 w.ifname ≡ true
-way-named points name link_type frame p w names e = by (is_log link_type) e
+way-named points name link frame p w names e = by (is_log link) e
   where
     log : (o : Option Logged) → logged_of frame ≡ o → option_map (λ l. let way : Way = record { heading = record { dir = l.dir; by = evidence.Log; is_contradicted = false }; ifname = l.ifname } in way) o ≡ Some w
         → is_name 15 w.ifname ≡ true
@@ -216,33 +212,41 @@ way-named points name link_type frame p w names e = by (is_log link_type) e
         let same : record { heading = heading; ifname = point.ifname } ≡ w = cc in
         subst (λ (x : Way). is_name 15 x.ifname ≡ true) same own
 
-    at-point : (o : Option Point) → point_of points name ≡ o → option_and_then (λ point. way_at point link_type frame p) o ≡ Some w → is_name 15 w.ifname ≡ true
+    at-point : (o : Option Point) → point_of points name ≡ o → option_and_then (λ point. way_at point link frame p) o ≡ Some w → is_name 15 w.ifname ≡ true
     at-point None t f = cc
-    at-point (Some point) t f = point-way point (heading_from (by_link point link_type frame) (networks_dir point p)) (point-of-named points name point names t) f
+    at-point (Some point) t f = point-way point (heading_from (by_link point link frame) (networks_dir point p)) (point-of-named points name point names t) f
 
-    by : (b : Bool) → (if b then logged_way frame else option_and_then (λ point. way_at point link_type frame p) (point_of points name)) ≡ Some w → is_name 15 w.ifname ≡ true
+    by : (b : Bool) → (if b then logged_way frame else option_and_then (λ point. way_at point link frame p) (point_of points name)) ≡ Some w → is_name 15 w.ifname ≡ true
     by true f = log (logged_of frame) refl f
     by false f = at-point (point_of points name) refl f
 
 -- ---- so the row can be read
 
-pub found-readable : (points : List Point) (name : Option (List ℕ)) (link_type : ℕ) (frame : List ℕ) (second : ℕ) (f : Found) → AreNamed points → AreBytes frame → second ≤ 4294967295
-    → found_in_frame points name link_type frame ≡ Ok f → IsReadable (row_from second f)
-found-readable points name link_type frame second f names h late e =
-    read-of (packet_of link_type frame) _ f (λ packet is g. way packet is (way_of points name link_type frame packet) refl g) e
+on-link-readable : (points : List Point) (name : Option (List ℕ)) (link : Link) (frame : List ℕ) (second : ℕ) (f : Found) → AreNamed points → AreBytes frame → second ≤ 4294967295
+    → found_on_link points name link frame ≡ Ok f → IsReadable (row_from second f)
+on-link-readable points name link frame second f names h late e =
+    read-of (packet_of link frame) _ f (λ packet is g. way packet is (way_of points name link frame packet) refl g) e
   where
-    way : (packet : IpPacket) → packet_of link_type frame ≡ Ok packet → (o : Option Way) → way_of points name link_type frame packet ≡ o
-        → then_read (ok_or o reason.NeitherWay) (λ w. let found : Found = record { way = w; packet = packet; answer = answer_in link_type frame } in Ok found) ≡ Ok f
+    way : (packet : IpPacket) → packet_of link frame ≡ Ok packet → (o : Option Way) → way_of points name link frame packet ≡ o
+        → then_read (ok_or o reason.NeitherWay) (λ w. let found : Found = record { way = w; packet = packet; answer = answer_in link frame } in Ok found) ≡ Ok f
         → IsReadable (row_from second f)
     way packet is None t g = cc
     way packet is (Some w) t g =
-        let whole = packet-whole link_type frame packet h is in
-        let same : record { way = w; packet = packet; answer = answer_in link_type frame } ≡ f = cc in
+        let whole = packet-whole link frame packet h is in
+        let same : record { way = w; packet = packet; answer = answer_in link frame } ≡ f = cc in
         subst (λ (x : Found). IsReadable (row_from second x)) same (record {
           family = whole.family;
           second = late;
-          name = way-named points name link_type frame packet w names t;
+          name = way-named points name link frame packet w names t;
           said = carried-said packet.carried whole.carried;
           source = whole.source;
           destination = whole.destination;
         })
+
+pub found-readable : (points : List Point) (name : Option (List ℕ)) (link_type : ℕ) (frame : List ℕ) (second : ℕ) (f : Found) → AreNamed points → AreBytes frame → second ≤ 4294967295
+    → found_in_frame points name link_type frame ≡ Ok f → IsReadable (row_from second f)
+found-readable points name link_type frame second f names h late e = by (link_of link_type) e
+  where
+    by : (o : Option Link) → option_map_or (λ link. found_on_link points name link frame) o (Err reason.LinkType) ≡ Ok f → IsReadable (row_from second f)
+    by None g = cc
+    by (Some link) g = on-link-readable points name link frame second f names h late g

@@ -9,7 +9,7 @@ use Rattle.csv.specs.Reading.{default_config, records, strip_bom}
 use Rattle.csv.specs.declared.parser.State.TheVariants as st
 use Rattle.pfs_addr_values.specs.Addresses.{IsAddr, same_family}
 use Rattle.pfs_addr_values.specs.Names.{is_name}
-use Rattle.pfs_addr_values.specs.Packets.{run_limit}
+use Rattle.pfs_addr_values.specs.Packets.{row_limit}
 use Rattle.pfs_addr.proofs.PieceLaws.{addr_of_addr_text}
 use Rattle.pfs_conf_values.specs.Configs.{Conf}
 use Rattle.pfs_engine_machine.specs.declared.events.Event.{Event}
@@ -53,17 +53,17 @@ AreRising last [] = Unit {0}
 AreRising last (r ∷ rs) = (falls last r.second ≡ false) × AreRising (Some r.second) rs
 
 -- their columns are read as their packets
-events-read : (conf : Conf) (n : ℕ) (last : Option ℕ) (rows : List Row) → AllByRecursion IsReadable rows → AreRising last rows → n + length rows ≤ run_limit
+events-read : (conf : Conf) (n : ℕ) (last : Option ℕ) (rows : List Row) → AllByRecursion IsReadable rows → AreRising last rows → n + length rows ≤ row_limit
     → events_from conf n last (map row_fields rows) ≡ (map event_of rows, None)
 unfolding events_from
 events-read conf n last [] all rising few = refl
 events-read conf n last (r ∷ rs) all rising few =
-    let within : n < run_limit = omega (arith, few) in
-    let test : nat_lt n run_limit ≡ true = grind (arith, nat_tests) in
+    let within : n < row_limit = omega (arith, few) in
+    let test : nat_lt n row_limit ≡ true = grind (arith, nat_tests) in
     let one = row_again r all.0.family all.0.second all.0.name all.0.said (addr_of_addr_text r.packet.source.addr all.0.source) (addr_of_addr_text r.packet.destination.addr all.0.destination)
     conf (n + 1) last rising.0 in
     let more = events-read conf (n + 1) (Some r.second) rs all.1 rising.1 (omega (arith, few)) in
-    ap (λ (e : Result Event TraceFault). ahead_of e (λ d. events_from conf (n + 1) (Some d.time) (map row_fields rs))) (cond-true (nat_lt n run_limit) _ _ test ∙ one)
+    ap (λ (e : Result Event TraceFault). ahead_of e (λ d. events_from conf (n + 1) (Some d.time) (map row_fields rs))) (cond-true (nat_lt n row_limit) _ _ test ∙ one)
     ∙ ap (λ (t : Trace). (event_of r ∷ t.0, t.1)) more
 
 no-mark : (rest : List ℕ) → strip_bom (header_text ++ rest) ≡ header_text ++ rest
@@ -74,7 +74,7 @@ headed : (conf : Conf) (fs : List (List (List ℕ))) → events_of conf (column_
 unfolding events_of
 headed conf fs = refl
 
-pub rows-again : (conf : Conf) (rows : List Row) → AllByRecursion IsReadable rows → AreRising None rows → length rows ≤ run_limit
+pub rows-again : (conf : Conf) (rows : List Row) → AllByRecursion IsReadable rows → AreRising None rows → length rows ≤ row_limit
     → trace_of conf (header_text ++ flat_map packet_row rows) ≡ (map event_of rows, None)
 rows-again conf rows all rising few =
     let rest = flat_map packet_row rows in

@@ -2,9 +2,10 @@
 use Rattle.std.specs.Prelude.{◌≡◌, ◌≤◌, ◌<◌, ◌++◌, ℕ, true, All, List, [], ◌∷◌, flat_map, length, map, None, Result, Ok, Err}
 use Rattle.std.specs.List.{AllByRecursion}
 use Rattle.pfs_addr_values.specs.Names.{is_name}
-use Rattle.pfs_addr_values.specs.Packets.{run_limit}
+use Rattle.pfs_addr_values.specs.Packets.{row_limit}
 use Rattle.pfs_conf_values.specs.Configs.{Conf}
-use Rattle.pfs_engine_machine.specs.Machine.{machine_after, start}
+use Rattle.pfs_engine_machine.specs.Machine.{start}
+use Rattle.pfs_engine_machine.specs.Ways.{machine_after_ways}
 use Rattle.pfs_engine_machine.specs.declared.events.Event.{Event}
 use Rattle.pfs_cli_formats.specs.Reports.{end_line_of, lines_of, report_of}
 use Rattle.pfs_trace.specs.Traces.{trace_of}
@@ -46,7 +47,7 @@ pub record IsCapture (g : Given) : Type 0 where
 -- captures, and as many records as a trace may have
 pub record AreCaptures (captures : List Given) : Type 0 where
   pub each : AllByRecursion IsCapture captures
-  pub few : length (rows_of (frames_in captures)) ≤ run_limit
+  pub few : length (rows_of (frames_in captures)) ≤ row_limit
 
 -- the trace of captures is read as their packets, without a fault
 abbrev pub TraceIsRead : Conf → Type 0
@@ -54,7 +55,7 @@ TraceIsRead conf = (captures : List Given) → AreCaptures captures → trace_of
 
 -- the report of a run of these events
 abbrev pub run_report : Conf → List Event → List ℕ
-run_report conf es = lines_of conf es ++ end_line_of (length es) (machine_after conf (start conf) es)
+run_report conf es = lines_of conf es ++ end_line_of (length es) (machine_after_ways conf (start conf) es)
 
 -- the report of its trace is that of a run of its packets
 abbrev pub CaptureIsReported : Conf → Type 0

@@ -5,10 +5,11 @@ use Rattle.std.proofs.lemmas.List.{append-nil}
 use Rattle.std.specs.Io.KnownBytes.{Appends}
 use Rattle.csv.specs.Reading.{ReadRecord, default_config}
 use Rattle.csv.specs.declared.reader.Reader.{Reader}
-use Rattle.pfs_addr_values.specs.Packets.{run_limit}
+use Rattle.pfs_addr_values.specs.Packets.{row_limit}
 use Rattle.pfs_conf_values.specs.Configs.{Conf}
 use Rattle.pfs_engine_machine.specs.declared.events.Event.{Event}
-use Rattle.pfs_engine_machine.specs.Machine.{Machine, machine_after, start, step}
+use Rattle.pfs_engine_machine.specs.Machine.{Machine, start}
+use Rattle.pfs_engine_machine.specs.Ways.{machine_after_ways, way}
 use Rattle.pfs_engine.specs.declared.works.Work.{Work}
 use Rattle.pfs_trace.specs.declared.faults.TraceFault.{TraceFault}
 use Rattle.pfs_trace.specs.declared.faults.TraceFault.TheVariants as fault
@@ -82,7 +83,7 @@ tallied-first counts rem conf trace before now rows m a tally (h, s) r left = (
     left = left _;
     written = report-own conf h.seen trace.1;
     each = s.each;
-    told = tallied-now counts conf (machine_after conf (start conf) h.seen) _ s.works tally s.told;
+    told = tallied-now counts conf (machine_after_ways conf (start conf) h.seen) _ s.works tally s.told;
   },
 )
 
@@ -98,7 +99,7 @@ tallied-end counts rem conf trace before now after rows m a b f result t tally (
     (ends-end rem conf trace before now after rows m a b f result t h config r grown how)
 
 pub tallied-limit : {S : Type 0} (counts : Bool) (rem : S → Option (List ℕ)) (conf : Conf) (trace : Trace) (before now : Option (List ℕ)) (rows : ℕ) (m : Machine) (a b : Reader S) (f : Fields) (tally : Tally)
-    → SoFar counts rem conf trace before now rows m a tally → a.config ≡ default_config → ReadRecord rem a b true f → run_limit ≤ rows
+    → SoFar counts rem conf trace before now rows m a tally → a.config ≡ default_config → ReadRecord rem a b true f → row_limit ≤ rows
     → EndsTallied counts conf trace before now (Err (stop.Fault fault.TooManyRows)) tally
 tallied-limit counts rem conf trace before now rows m a b f tally (h, s) config r many =
     tallied-all counts conf trace before now (Err (stop.Fault fault.TooManyRows)) h.seen (Some fault.TooManyRows) tally s (limit-all rem conf trace before now rows m a b f h config r many)
@@ -119,13 +120,13 @@ answered counts conf trace more before after seen e t tally r s all left grown b
     left = left more.0;
     written = begins;
     each = s.each;
-    told = tallied-now counts conf (machine_after conf (start conf) (seen ++ e ∷ [])) more.0 s.works tally s.told;
+    told = tallied-now counts conf (machine_after_ways conf (start conf) (seen ++ e ∷ [])) more.0 s.works tally s.told;
   },
 )
 
 -- and one whose event was refused memory
 refused : (counts : Bool) (conf : Conf) (trace more : Trace) (before after : Option (List ℕ)) (seen : List Event) (m : Machine) (e : Event) (w : Work) (was tally : Tally)
-    → TalliedSoFar counts conf seen was → m ≡ machine_after conf (start conf) seen → IsWorkOfRefused counts conf m e w → tally ≡ tally_with was w
+    → TalliedSoFar counts conf seen was → m ≡ machine_after_ways conf (start conf) seen → IsWorkOfRefused counts conf m e w → tally ≡ tally_with was w
     → trace ≡ (seen ++ (e ∷ more.0), more.1) → Appends before after (lines_of conf seen) → EndsTallied counts conf trace before after (Err stop.Memory) tally
 refused counts conf trace more before after seen m e w was tally s holds is added all grown = (
   lines_of conf seen,
@@ -143,7 +144,7 @@ refused counts conf trace more before after seen m e w was tally s holds is adde
 )
 
 pub tallied-record : {S : Type 0} (counts : Bool) (rem : S → Option (List ℕ)) (conf : Conf) (trace : Trace) (before now after : Option (List ℕ)) (rows : ℕ) (m v : Machine) (a b : Reader S) (f : Fields) (stopped : Stop) (t : List ℕ) (was tally : Tally)
-    → SoFar counts rem conf trace before now rows m a was → a.config ≡ default_config → ReadRecord rem a b true f → rows < run_limit
+    → SoFar counts rem conf trace before now rows m a was → a.config ≡ default_config → ReadRecord rem a b true f → rows < row_limit
     → Appends now after t → TakesRecord conf (rows + 1) m f t (Err stopped) v → TalliesRecord counts conf (rows + 1) m f (Err stopped) was tally
     → EndsTallied counts conf trace before after (Err stopped) tally
 tallied-record counts rem conf trace before now after rows m v a b f (stop.Fault u) t was tally (h, s) config r few grown how same =
@@ -163,7 +164,7 @@ tallied-record counts rem conf trace before now after rows m v a b f stop.Memory
 tallied-record counts rem conf trace before now after rows m v a b f stop.Write t was tally (h, s) config r few grown (e, judged, ((k, cut), held)) tallies =
     let (more, all) = one-more rem conf trace before now rows m a b f e h config r few judged in
     let (w, is, added) = tallies e judged in
-    let line = row_text (rows + 1) (step conf m e).0 in
+    let line = row_text (rows + 1) (way conf m e).0 in
     let (rest, begins) = report-own conf (h.seen ++ e ∷ []) trace.1 in
     answered counts conf trace more before after h.seen e (lines_of conf h.seen ++ t) tally (Err stop.Write) (tallied-more counts conf h.seen m e w was tally s h.holds is added) all (λ others. tt)
     (Appends-more before now after (lines_of conf h.seen) t h.appended grown)
@@ -179,7 +180,7 @@ tallied-nothing counts conf trace tally r none left = record {
   left = left;
   written = (report conf ([], trace.1), refl);
   each = tt;
-  told = tallied-now counts conf (machine_after conf (start conf) []) trace.0 [] tally none;
+  told = tallied-now counts conf (machine_after_ways conf (start conf) []) trace.0 [] tally none;
 }
 
 -- the tally of a run under a configuration that is this one

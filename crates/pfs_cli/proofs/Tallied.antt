@@ -5,8 +5,9 @@ use Rattle.std.specs.List.{sum_by}
 use Rattle.std.proofs.lemmas.List.Sums.{sum_by-append}
 use Rattle.pfs_conf_values.specs.Configs.{Conf}
 use Rattle.pfs_engine_machine.specs.declared.events.Event.{Event}
-use Rattle.pfs_engine_machine.specs.declared.events.Outcome.{Outcome}
-use Rattle.pfs_engine_machine.specs.Machine.{Machine, machine_after, start, step}
+use Rattle.pfs_engine_machine.specs.declared.events.Way.{Way}
+use Rattle.pfs_engine_machine.specs.Machine.{Machine, start}
+use Rattle.pfs_engine_machine.specs.Ways.{machine_after_ways, way}
 use Rattle.pfs_engine.specs.declared.works.Work.{Work}
 use Rattle.pfs_cli.specs.Tallies.{AreWorks, IsTallyOfWorks, IsWorkOf, IsWorkWith, most_of, tally_of, total_of}
 use Rattle.pfs_cli.specs.Tallying.{IsWorkOfTurn, TalliesEvent, TalliesRecord, tally_with}
@@ -48,12 +49,12 @@ tally-more works w = sym (rw (
 
 -- the work of each event, and of one more
 works-more : (counts : Bool) (conf : Conf) (m : Machine) (es : List Event) (ws : List Work) (e : Event) (w : Work)
-    → AreWorks counts conf m es ws → IsWorkOf counts conf (machine_after conf m es) e w → AreWorks counts conf m (es ++ e ∷ []) (ws ++ w ∷ [])
-unfolding machine_after
+    → AreWorks counts conf m es ws → IsWorkOf counts conf (machine_after_ways conf m es) e w → AreWorks counts conf m (es ++ e ∷ []) (ws ++ w ∷ [])
+unfolding machine_after_ways
 works-more counts conf m [] [] e w each is = (is, tt)
 works-more counts conf m [] (v ∷ ws) e w each is = absurd each
 works-more counts conf m (d ∷ es) [] e w each is = absurd each
-works-more counts conf m (d ∷ es) (v ∷ ws) e w each is = (each.0, works-more counts conf (step conf m d).1 es ws e w each.1 is)
+works-more counts conf m (d ∷ es) (v ∷ ws) e w each is = (each.0, works-more counts conf (way conf m d).1 es ws e w each.1 is)
 
 -- the tally of these events, which are the first of a run
 pub record TalliedSoFar (counts : Bool) (conf : Conf) (seen : List Event) (tally : Tally) : Type 0 where
@@ -65,7 +66,7 @@ pub tallied-none : (counts : Bool) (conf : Conf) (tally : Tally) → tally ≡ t
 tallied-none counts conf tally none = record { works = []; each = tt; told = none }
 
 pub tallied-more : (counts : Bool) (conf : Conf) (seen : List Event) (m : Machine) (e : Event) (w : Work) (before after : Tally) → TalliedSoFar counts conf seen before
-    → m ≡ machine_after conf (start conf) seen → IsWorkOf counts conf m e w → after ≡ tally_with before w → TalliedSoFar counts conf (seen ++ e ∷ []) after
+    → m ≡ machine_after_ways conf (start conf) seen → IsWorkOf counts conf m e w → after ≡ tally_with before w → TalliedSoFar counts conf (seen ++ e ∷ []) after
 tallied-more counts conf seen m e w before after s holds is added = record {
   works = s.works ++ w ∷ [];
   each = works-more counts conf (start conf) seen s.works e w s.each (subst (λ (x : Machine). IsWorkOf counts conf x e w) holds is);
@@ -101,9 +102,9 @@ turn-answered counts conf m e (Err stop.Memory) w is = inl is
 turn-answered counts conf m e (Err stop.Write) w is = is
 
 -- the work of an event with this answer, which is the machine's
-pub work-answered : (counts : Bool) (conf : Conf) (m v : Machine) (e : Event) (o : Outcome) (w : Work) → (o, v) ≡ step conf m e → IsWorkWith counts conf m e (Ok o) w → IsWorkOf counts conf m e w
+pub work-answered : (counts : Bool) (conf : Conf) (m v : Machine) (e : Event) (o : Way) (w : Work) → (o, v) ≡ way conf m e → IsWorkWith counts conf m e (Ok o) w → IsWorkOf counts conf m e w
 work-answered counts conf m v e o w same is =
-    subst (λ (x : Outcome). IsWorkWith counts conf m e (Ok x) w) (ap (λ (q : Outcome × Machine). q.0) same) is
+    subst (λ (x : Way). IsWorkWith counts conf m e (Ok x) w) (ap (λ (q : Way × Machine). q.0) same) is
 
 -- a turn under rules that are these
 pub TalliesRecord-rules : (counts : Bool) (conf d : Conf) (row : ℕ) (m : Machine) (f : Fields) (r : Result Unit Stop) (before after : Tally) → d ≡ conf

@@ -1,6 +1,6 @@
 -- What holds between two records of a run, and how a run ends.
 use borrow.Author.Tests.{clash}
-use Rattle.std.proofs.Common.{◌≡◌, ◌≤◌, ◌<◌, ◌+◌, ◌++◌, ◌∙◌, ℕ, List, [], ◌∷◌, length, take, drop, Option, Some, None, Bool, true, false, refl, sym, ap, arith, subst, append_assoc, length-append, inl, inr}
+use Rattle.std.proofs.Common.{◌≡◌, ◌≤◌, ◌<◌, ◌+◌, ◌*◌, ◌++◌, ◌∙◌, ℕ, List, [], ◌∷◌, length, take, drop, Option, Some, None, Bool, true, false, refl, sym, ap, arith, subst, append_assoc, length-append, inl, inr}
 use Rattle.std.specs.Prelude.{◌⊎◌, Result, Ok, Err, nat_lt, option_map}
 use Rattle.std.proofs.lemmas.List.{append-nil, take-append-drop}
 use Rattle.std.proofs.Math.Seq.{take-append_seam}
@@ -15,10 +15,11 @@ use Rattle.csv.specs.declared.parser.State.TheVariants as state
 use Rattle.csv.specs.declared.reader.Reader.{Reader}
 use Rattle.csv.specs.declared.reader.Trim.TheVariants as trim
 use Rattle.csv.proofs.ReadFacts.{rows-more, rows-end}
-use Rattle.pfs_addr_values.specs.Packets.{run_limit}
+use Rattle.pfs_addr_values.specs.Packets.{row_limit}
 use Rattle.pfs_conf_values.specs.Configs.{Conf}
 use Rattle.pfs_engine_machine.specs.declared.events.Event.{Event}
-use Rattle.pfs_engine_machine.specs.Machine.{Machine, start, step, outcomes_of, machine_after}
+use Rattle.pfs_engine_machine.specs.Machine.{Machine, start}
+use Rattle.pfs_engine_machine.specs.Ways.{machine_after_ways, way, ways_of}
 use Rattle.pfs_engine.specs.Views.{View}
 use Rattle.pfs_streams.specs.Sinks.{SinkView, NotFlushed, OwesNoFlush}
 use Rattle.pfs_trace.specs.declared.faults.TraceFault.{TraceFault}
@@ -38,8 +39,8 @@ use Rattle.pfs_cli.specs.declared.tallies.Tally.{Tally}
 use Rattle.pfs_cli.proofs.Tallied.{TalliedSoFar, tallied-more, tallied-none}
 use Rattle.pfs_cli.specs.Turns.{Tells, TellsRows, WantsMemory, WritesLine, TakesEvent, TakesRecord}
 use Rattle.pfs_trace.proofs.Rest.{records_left-more, records_left-end}
-use Rattle.pfs_cli_formats.proofs.Runs.{machine_after-more, lines_of-more, lines_of-none, outcomes-front, lines_from-front}
-use Rattle.pfs_trace.proofs.Stepping.{last-step}
+use Rattle.pfs_cli_formats.proofs.Runs.{machine_after_ways-more, lines_of-more, lines_of-none, outcomes-front, lines_from-front}
+use Rattle.pfs_trace.proofs.Stepping.{last-way}
 
 -- known bytes that did not grow
 pub Appends-nothing : (a : Option (List ℕ)) → Appends a a []
@@ -64,23 +65,23 @@ Appends-kept (Some xs) (Some ys) (Some zs) bs p q = q ∙ p
 abbrev pub behind : List Event → Trace → Trace
 behind es trace = (es ++ trace.0, trace.1)
 
-below-limit : (rows : ℕ) → rows < run_limit → nat_lt rows run_limit ≡ true
+below-limit : (rows : ℕ) → rows < row_limit → nat_lt rows row_limit ≡ true
 below-limit rows h = grind (arith, nat_tests)
 
-at-limit : (rows : ℕ) → run_limit ≤ rows → nat_lt rows run_limit ≡ false
+at-limit : (rows : ℕ) → row_limit ≤ rows → nat_lt rows row_limit ≡ false
 at-limit rows h = grind (arith, nat_tests)
 
-events_from-more : (conf : Conf) (rows : ℕ) (last : Option ℕ) (f : Fields) (fs : List Fields) (e : Event) → rows < run_limit → event_at conf (rows + 1) last f ≡ Ok e
+events_from-more : (conf : Conf) (rows : ℕ) (last : Option ℕ) (f : Fields) (fs : List Fields) (e : Event) → rows < row_limit → event_at conf (rows + 1) last f ≡ Ok e
     → events_from conf rows last (f ∷ fs) ≡ behind (e ∷ []) (events_from conf (rows + 1) (Some e.time) fs)
 unfolding events_from
 events_from-more conf rows last f fs e h q = rw (below-limit rows h, q) refl
 
-events_from-fault : (conf : Conf) (rows : ℕ) (last : Option ℕ) (f : Fields) (fs : List Fields) (m : TraceFault) → rows < run_limit → event_at conf (rows + 1) last f ≡ Err m
+events_from-fault : (conf : Conf) (rows : ℕ) (last : Option ℕ) (f : Fields) (fs : List Fields) (m : TraceFault) → rows < row_limit → event_at conf (rows + 1) last f ≡ Err m
     → events_from conf rows last (f ∷ fs) ≡ ([], Some m)
 unfolding events_from
 events_from-fault conf rows last f fs m h q = rw (below-limit rows h, q) refl
 
-events_from-limit : (conf : Conf) (rows : ℕ) (last : Option ℕ) (f : Fields) (fs : List Fields) → run_limit ≤ rows → events_from conf rows last (f ∷ fs) ≡ ([], Some fault.TooManyRows)
+events_from-limit : (conf : Conf) (rows : ℕ) (last : Option ℕ) (f : Fields) (fs : List Fields) → row_limit ≤ rows → events_from conf rows last (f ∷ fs) ≡ ([], Some fault.TooManyRows)
 unfolding events_from
 events_from-limit conf rows last f fs h = rw (at-limit rows h) refl
 
@@ -121,7 +122,7 @@ pub record ToldSoFar {S : Type 0} (rem : S → Option (List ℕ)) (conf : Conf) 
   pub source : source_of rem rdr ≡ Some left
   pub appended : Appends before now (lines_of conf seen)
   pub count : length seen ≡ rows
-  pub holds : m ≡ machine_after conf (start conf) seen
+  pub holds : m ≡ machine_after_ways conf (start conf) seen
   pub split : trace ≡ behind seen (events_from conf rows m.last (records_left default_config rdr.state left))
 
 -- and its tally
@@ -130,7 +131,7 @@ SoFar counts rem conf trace before now rows m rdr tally = (h : ToldSoFar rem con
 
 pub so_far-start : {S : Type 0} (counts : Bool) (rem : S → Option (List ℕ)) (conf : Conf) (before : Option (List ℕ)) (rdr : Reader S) (xs : List ℕ) (tally : Tally) → source_of rem rdr ≡ Some xs → tally ≡ tally_of []
     → SoFar counts rem conf (events_from conf 0 None (records_left default_config rdr.state xs)) before before 0 (start conf) rdr tally
-unfolding machine_after
+unfolding machine_after_ways
 so_far-start counts rem conf before rdr xs tally source none = (
   record {
     seen = [];
@@ -145,25 +146,25 @@ so_far-start counts rem conf before rdr xs tally source none = (
 )
 
 -- the text of events and a line more
-pub lines-more : (conf : Conf) (seen : List Event) (rows : ℕ) (m : Machine) (e : Event) → length seen ≡ rows → m ≡ machine_after conf (start conf) seen
-    → lines_of conf (seen ++ e ∷ []) ≡ lines_of conf seen ++ row_text (rows + 1) (step conf m e).0
+pub lines-more : (conf : Conf) (seen : List Event) (rows : ℕ) (m : Machine) (e : Event) → length seen ≡ rows → m ≡ machine_after_ways conf (start conf) seen
+    → lines_of conf (seen ++ e ∷ []) ≡ lines_of conf seen ++ row_text (rows + 1) (way conf m e).0
 lines-more conf seen rows m e n h = lines_of-more conf seen e ∙ rw (n, ← h) refl
 
 pub so_far-more : {S : Type 0} (counts : Bool) (rem : S → Option (List ℕ)) (conf : Conf) (trace : Trace) (before now after : Option (List ℕ)) (rows : ℕ) (m v : Machine) (a b : Reader S) (f : Fields) (e : Event) (t : List ℕ)
-    (was tally : Tally) → SoFar counts rem conf trace before now rows m a was → a.config ≡ default_config → rows < run_limit → ReadRecord rem a b true f
+    (was tally : Tally) → SoFar counts rem conf trace before now rows m a was → a.config ≡ default_config → rows < row_limit → ReadRecord rem a b true f
     → event_at conf (rows + 1) m.last f ≡ Ok e → Appends now after t → TakesEvent conf (rows + 1) m e t (Ok tt) v → TalliesEvent counts conf m e (Ok tt) was tally
     → SoFar counts rem conf trace before after (rows + 1) v b tally
 so_far-more counts rem conf trace before now after rows m v a b f e t was tally (h, s) config few r judged grown (text, held) (w, is, added) =
     let (z, at_z, next) = read-more rem a b f h.left config h.source r in
-    let new : v ≡ (step conf m e).1 = held refl in (
+    let new : v ≡ (way conf m e).1 = held refl in (
       record {
         seen = h.seen ++ e ∷ [];
         left = z;
         source = at_z;
         appended = rw (lines-more conf h.seen rows m e h.count h.holds, ← text) (Appends-more before now after (lines_of conf h.seen) t h.appended grown);
         count = simp length-append (omega (arith, h.count));
-        holds = new ∙ (ap (λ (u : Machine). (step conf u e).1) h.holds ∙ sym (machine_after-more conf (start conf) h.seen e));
-        split = h.split ∙ rw (next, events_from-more conf rows m.last f (records_left default_config b.state z) e few judged, new, last-step conf m e)
+        holds = new ∙ (ap (λ (u : Machine). (way conf u e).1) h.holds ∙ sym (machine_after_ways-more conf (start conf) h.seen e));
+        split = h.split ∙ rw (next, events_from-more conf rows m.last f (records_left default_config b.state z) e few judged, new, last-way conf m e)
             (ap (λ (es : List Event). (es, (events_from conf (rows + 1) (Some e.time) (records_left default_config b.state z)).1))
             (sym (append_assoc h.seen (e ∷ []) (events_from conf (rows + 1) (Some e.time) (records_left default_config b.state z)).0)));
       },
@@ -208,10 +209,10 @@ told-all rem conf trace before now rows m a b f h config r =
 
 -- the last line of a report whose records are these events
 abbrev end_line : Conf → List Event → List ℕ
-end_line conf es = end_line_of (length es) (machine_after conf (start conf) es)
+end_line conf es = end_line_of (length es) (machine_after_ways conf (start conf) es)
 
 -- the last line, where these are all events
-last-line : (conf : Conf) (seen : List Event) (rows : ℕ) (m : Machine) → length seen ≡ rows → m ≡ machine_after conf (start conf) seen → end_line_of rows m ≡ end_line conf seen
+last-line : (conf : Conf) (seen : List Event) (rows : ℕ) (m : Machine) → length seen ≡ rows → m ≡ machine_after_ways conf (start conf) seen → end_line_of rows m ≡ end_line conf seen
 last-line conf seen rows m n h = rw (n, ← h) refl
 
 cut-end : (text t line : List ℕ) (k : ℕ) → t ≡ take k line → text ++ line ≡ (text ++ t) ++ drop k line
@@ -246,13 +247,13 @@ ends-end rem conf trace before now after rows m a b f (Err stop.Write) t h confi
 
 -- the events, where there is one record more than there may be
 pub limit-all : {S : Type 0} (rem : S → Option (List ℕ)) (conf : Conf) (trace : Trace) (before now : Option (List ℕ)) (rows : ℕ) (m : Machine) (a b : Reader S) (f : Fields) (h : ToldSoFar rem conf trace before now rows m a)
-    → a.config ≡ default_config → ReadRecord rem a b true f → run_limit ≤ rows → trace ≡ (h.seen, Some fault.TooManyRows)
+    → a.config ≡ default_config → ReadRecord rem a b true f → row_limit ≤ rows → trace ≡ (h.seen, Some fault.TooManyRows)
 limit-all rem conf trace before now rows m a b f h config r many =
     let (z, at_z, next) = read-more rem a b f h.left config h.source r in
     h.split ∙ rw (next, events_from-limit conf rows m.last f (records_left default_config b.state z) many) (ap (λ (es : List Event). (es, Some fault.TooManyRows)) (append-nil h.seen))
 
 pub ends-limit : {S : Type 0} (rem : S → Option (List ℕ)) (conf : Conf) (trace : Trace) (before now : Option (List ℕ)) (rows : ℕ) (m : Machine) (a b : Reader S) (f : Fields) → ToldSoFar rem conf trace before now rows m a
-    → a.config ≡ default_config → ReadRecord rem a b true f → run_limit ≤ rows → EndsRows conf trace before now (Err (stop.Fault fault.TooManyRows))
+    → a.config ≡ default_config → ReadRecord rem a b true f → row_limit ≤ rows → EndsRows conf trace before now (Err (stop.Fault fault.TooManyRows))
 ends-limit rem conf trace before now rows m a b f h config r many =
     let all = limit-all rem conf trace before now rows m a b f h config r many in
     (lines_of conf h.seen, h.appended, (ap (λ (q : Trace). q.1) all, rw all refl))
@@ -261,7 +262,7 @@ ends-limit rem conf trace before now rows m a b f h config r many =
 lines-front : (conf : Conf) (es fs : List Event) → (rest : List ℕ) × (lines_of conf (es ++ fs) ≡ lines_of conf es ++ rest)
 lines-front conf es fs =
     let (rest, e) = outcomes-front conf (start conf) es fs in
-    let (more, begins) = lines_from-front 1 (outcomes_of conf (start conf) es) rest in
+    let (more, begins) = lines_from-front 1 (ways_of conf (start conf) es) rest in
     (more, ap (lines_from 1) e ∙ begins)
 
 -- and the report
@@ -296,7 +297,7 @@ cut-line text t line more k e =
 
 -- a trace that has an event after these
 pub one-more : {S : Type 0} (rem : S → Option (List ℕ)) (conf : Conf) (trace : Trace) (before now : Option (List ℕ)) (rows : ℕ) (m : Machine) (a b : Reader S) (f : Fields) (e : Event) (h : ToldSoFar rem conf trace before now rows m a)
-    → a.config ≡ default_config → ReadRecord rem a b true f → rows < run_limit → event_at conf (rows + 1) m.last f ≡ Ok e
+    → a.config ≡ default_config → ReadRecord rem a b true f → rows < row_limit → event_at conf (rows + 1) m.last f ≡ Ok e
     → (more : Trace) × (trace ≡ (h.seen ++ (e ∷ more.0), more.1))
 one-more rem conf trace before now rows m a b f e h config r few judged =
     let (z, at_z, next) = read-more rem a b f h.left config h.source r in (
@@ -309,14 +310,14 @@ more-events seen e trace more all = let same : length trace.0 ≡ length (seen +
 
 -- the events, where the next record is faulty
 pub fault-all : {S : Type 0} (rem : S → Option (List ℕ)) (conf : Conf) (trace : Trace) (before now : Option (List ℕ)) (rows : ℕ) (m : Machine) (a b : Reader S) (f : Fields) (u : TraceFault) (h : ToldSoFar rem conf trace before now rows m a)
-    → a.config ≡ default_config → ReadRecord rem a b true f → rows < run_limit → event_at conf (rows + 1) m.last f ≡ Err u → trace ≡ (h.seen, Some u)
+    → a.config ≡ default_config → ReadRecord rem a b true f → rows < row_limit → event_at conf (rows + 1) m.last f ≡ Err u → trace ≡ (h.seen, Some u)
 fault-all rem conf trace before now rows m a b f u h config r few judged =
     let (z, at_z, next) = read-more rem a b f h.left config h.source r in
     h.split ∙ rw (next, events_from-fault conf rows m.last f (records_left default_config b.state z) u few judged) (ap (λ (es : List Event). (es, Some u)) (append-nil h.seen))
 
 -- the turn of a record that does not come to its end
 pub ends-record : {S : Type 0} (rem : S → Option (List ℕ)) (conf : Conf) (trace : Trace) (before now after : Option (List ℕ)) (rows : ℕ) (m v : Machine) (a b : Reader S) (f : Fields) (stopped : Stop) (t : List ℕ)
-    → ToldSoFar rem conf trace before now rows m a → a.config ≡ default_config → ReadRecord rem a b true f → rows < run_limit
+    → ToldSoFar rem conf trace before now rows m a → a.config ≡ default_config → ReadRecord rem a b true f → rows < row_limit
     → Appends now after t → TakesRecord conf (rows + 1) m f t (Err stopped) v → EndsRows conf trace before after (Err stopped)
 ends-record rem conf trace before now after rows m v a b f (stop.Fault u) t h config r few grown how =
     let all = fault-all rem conf trace before now rows m a b f u h config r few how.0 in
@@ -330,7 +331,7 @@ ends-record rem conf trace before now after rows m v a b f stop.Memory t h confi
     )
 ends-record rem conf trace before now after rows m v a b f stop.Write t h config r few grown (e, judged, ((k, cut), held)) =
     let (z, at_z, next) = read-more rem a b f h.left config h.source r in
-    let line = row_text (rows + 1) (step conf m e).0 in
+    let line = row_text (rows + 1) (way conf m e).0 in
     let more : Trace = events_from conf (rows + 1) (Some e.time) (records_left default_config b.state z) in
     let all : trace ≡ (h.seen ++ (e ∷ more.0), more.1) =
     h.split ∙ rw (next, events_from-more conf rows m.last f (records_left default_config b.state z) e few judged) refl in
@@ -349,8 +350,8 @@ pub record Running {S W : Type 0} (counts : Bool) (rem : S → Option (List ℕ)
   pub passed_on : OwesNoFlush out
   pub at_once : NotFlushed held out
   pub rules : v.config ≡ first.config
-  pub within : rows ≤ run_limit
-  pub taken : v.taken ≤ rows
+  pub within : rows ≤ row_limit
+  pub taken : v.taken ≤ 2 * rows
   pub so_far : (xs : List ℕ) → source_of rem begun ≡ Some xs
       → SoFar counts rem first.config (events_from first.config 0 None (records_left default_config begun.state xs)) before now rows v.machine rdr tally
 

@@ -5,9 +5,10 @@ use Rattle.pfs_addr_values.specs.declared.memory.NoMemory.{NoMemory}
 use Rattle.pfs_conf_values.specs.Configs.{Conf}
 use Rattle.pfs_conf.specs.Reads.{Reads}
 use Rattle.pfs_engine_machine.specs.declared.events.Event.{Event}
-use Rattle.pfs_engine_machine.specs.declared.events.Outcome.{Outcome}
-use Rattle.pfs_engine_machine.specs.Machine.{Machine, machine_after, start, step}
-use Rattle.pfs_engine.specs.Calls.{IsWorkOfEvent}
+use Rattle.pfs_engine_machine.specs.declared.events.Way.{Way}
+use Rattle.pfs_engine_machine.specs.Machine.{Machine, start}
+use Rattle.pfs_engine_machine.specs.Ways.{machine_after_ways, way}
+use Rattle.pfs_engine.specs.Ways.{IsWorkOfWay}
 use Rattle.pfs_engine.specs.declared.works.Work.{Work}
 use Rattle.pfs_trace.specs.Traces.{Trace, trace_of}
 use Rattle.pfs_cli_formats.specs.Reports.{BeginsReport}
@@ -40,11 +41,11 @@ tally_of works = record {
 -- ---- the work that the machine allows
 
 -- of an event with this answer: of one that is answered, and of one to which memory was refused
-abbrev pub IsWorkWith : Bool → Conf → Machine → Event → Result Outcome NoMemory → Work → Type 0
-IsWorkWith counts conf m e answer work = IsWorkOfEvent counts conf m e answer work
+abbrev pub IsWorkWith : Bool → Conf → Machine → Event → Result Way NoMemory → Work → Type 0
+IsWorkWith counts conf m e answer work = IsWorkOfWay counts conf m e answer work
 
 abbrev pub IsWorkOf : Bool → Conf → Machine → Event → Work → Type 0
-IsWorkOf counts conf m e work = IsWorkWith counts conf m e (Ok (step conf m e).0) work
+IsWorkOf counts conf m e work = IsWorkWith counts conf m e (Ok (way conf m e).0) work
 
 abbrev pub IsWorkOfRefused : Bool → Conf → Machine → Event → Work → Type 0
 IsWorkOfRefused counts conf m e work = (refused : NoMemory) × IsWorkWith counts conf m e (Err refused) work
@@ -54,7 +55,7 @@ abbrev pub AreWorks : Bool → Conf → Machine → List Event → List Work →
 AreWorks counts conf m [] [] = Unit {0}
 AreWorks counts conf m [] (w ∷ works) = ⊥
 AreWorks counts conf m (e ∷ es) [] = ⊥
-AreWorks counts conf m (e ∷ es) (w ∷ works) = IsWorkOf counts conf m e w × AreWorks counts conf (step conf m e).1 es works
+AreWorks counts conf m (e ∷ es) (w ∷ works) = IsWorkOf counts conf m e w × AreWorks counts conf (way conf m e).1 es works
 
 -- ---- the tally of a run
 
@@ -73,7 +74,7 @@ pub record IsTallyOf (counts : Bool) (conf : Conf) (trace : Trace) (text : List 
   pub left : MayLeave others
   pub written : BeginsReport conf (taken, trace.1) text
   pub each : AreWorks counts conf (start conf) taken works
-  pub told : IsTallyOfWorks counts conf (machine_after conf (start conf) taken) others works tally
+  pub told : IsTallyOfWorks counts conf (machine_after_ways conf (start conf) taken) others works tally
 
 -- a run takes all events of its trace, unless it stops before a faulty record or the end
 abbrev pub LeavesOfRun : Result Unit Stop → List Event → Type 0

@@ -3,7 +3,8 @@ use Rattle.std.specs.Prelude.{◌≡◌, ◌<◌, ◌⊎◌, ℕ, List, [], leng
 use Rattle.pfs_streams.specs.Sinks.{SinkView, OwesNoFlush}
 use Rattle.pfs_conf_values.specs.Configs.{Conf}
 use Rattle.pfs_engine_machine.specs.declared.events.Event.{Event}
-use Rattle.pfs_engine_machine.specs.Machine.{Machine, step}
+use Rattle.pfs_engine_machine.specs.Machine.{Machine}
+use Rattle.pfs_engine_machine.specs.Ways.{way}
 use Rattle.pfs_cli.specs.declared.records.Stop.{Stop}
 use Rattle.pfs_cli.specs.declared.records.Stop.TheVariants as stop
 use Rattle.pfs_trace.specs.Events.{event_at}
@@ -22,7 +23,7 @@ WritesLine line text (Err stop.Write) = (k : ℕ) × (text ≡ take k line)
 -- the turn of a record whose event this is: the machine after it, and the text
 abbrev pub TakesEvent : Conf → ℕ → Machine → Event → List ℕ → Result Unit Stop → Machine → Type 0
 TakesEvent conf row m e text result after =
-    WritesLine (row_text row (step conf m e).0) text result × (result ≡ Ok tt → after ≡ (step conf m e).1)
+    WritesLine (row_text row (way conf m e).0) text result × (result ≡ Ok tt → after ≡ (way conf m e).1)
 
 -- the turn of a record, by what it is
 abbrev pub TakesRecord : Conf → ℕ → Machine → List (List ℕ) → List ℕ → Result Unit Stop → Machine → Type 0

@@ -5,11 +5,11 @@ ghost use Rattle.std.specs.Io.KnownBytes.{Appends};
 ghost use Rattle.csv.specs.Reading.{Ready, ReadRecord, source_of, reader_trim, reader_config, reader_state, default_config, is_flexible, has_failed};
 ghost use Rattle.csv.specs.declared.reader.Trim.TheVariants as trim;
 ghost use Rattle.csv.specs.Records.{fields_of};
-ghost use Rattle.pfs_addr_values.specs.Packets.{run_limit};
+ghost use Rattle.pfs_addr_values.specs.Packets.{row_limit, run_limit};
 ghost use Rattle.pfs_streams.specs.Sinks.{NotFlushed, OwesNoFlush, bytes_held, write_failures as failures_of};
 ghost use Rattle.pfs_cli_formats.specs.Lines.{row_text, end_text};
 ghost use Rattle.std.specs.Option.{ForSome};
-ghost use Rattle.pfs_engine_machine.specs.Machine.{start, step};
+ghost use Rattle.pfs_engine_machine.specs.Machine.{start};
 ghost use Rattle.pfs_engine_machine.specs.Runs.{MayCome};
 ghost use Rattle.pfs_cli_formats.specs.Reports.{end_line_of};
 ghost use Rattle.pfs_cli.specs.Headers.{ReadsHeader};
@@ -21,9 +21,9 @@ ghost use Rattle.pfs_trace.specs.Traces.{events_of, events_from};
 
 use crate::tallies::Tally;
 use csv::{ByteRecord, Reader, ReaderBuilder};
-use pfs_addr_values::RUN_LIMIT;
-use pfs_cli_formats::{EndLine, push_end, push_outcome};
-use pfs_engine::{Engine, Event, Outcome};
+use pfs_addr_values::ROW_LIMIT;
+use pfs_cli_formats::{EndLine, push_end, push_way};
+use pfs_engine::{Engine, Event, Way};
 use pfs_store_contract::Store;
 use pfs_streams::{Sink, write_whole};
 use pfs_trace::{TraceFault, has_columns, read_event};
@@ -56,21 +56,21 @@ fn send<W: Write>(line: &[u8], out: &mut Sink<W>) -> Result<(), Stop>
     }
 }
 
-/// Writes the line of one outcome. `line` is room that is used again.
+/// Writes the line of one record. `line` is room that is used again.
 fn write_row<W: Write>(
     row: u64,
-    outcome: &Outcome,
+    way: &Way,
     line: &mut Vec<u8>,
     out: &mut Sink<W>,
 ) -> Result<(), Stop>
     requires passed_on { OwesNoFlush out.old }
-    ensures writes { (t : List ℕ) × Appends (bytes_held W.contents out.old) (bytes_held W.contents out.new) t × WritesLine (row_text row outcome.now) t result }
+    ensures writes { (t : List ℕ) × Appends (bytes_held W.contents out.old) (bytes_held W.contents out.new) t × WritesLine (row_text row way.now) t result }
     ensures fails { result ≡ Err (Stop.Write) → 0 < failures_of out.new }
     ensures passed_on { PassedOn out.new result }
     ensures flushes { NotFlushed out.old out.new }
 {
     line.clear();
-    match push_outcome(line, row, outcome) {
+    match push_way(line, row, way) {
         Ok(()) => send(line.as_slice(), out),
         Err(_) => Err(Stop::Memory),
     }
@@ -102,7 +102,7 @@ fn write_end<W: Write>(end: EndLine, room: &mut Vec<u8>, out: &mut Sink<W>) -> R
     }
 }
 
-/// Lets the engine take one event, tallies its work, and writes its line.
+/// Lets the engine take one record, tallies its work, and writes its line.
 fn take_event<H: Store, W: Write>(
     row: u64,
     event: &Event,
@@ -114,10 +114,10 @@ fn take_event<H: Store, W: Write>(
     requires passed_on { OwesNoFlush out.old }
     requires order { ForSome engine.old.machine.last (λ m. m ≤ event.now.time) }
     requires moment { event.now.time < 2 ^ 32 }
-    requires room { engine.old.taken < run_limit }
+    requires room { engine.old.taken + 1 < run_limit }
     requires table { MayCome engine.old.config event.now.what }
     ensures config { engine.new.config ≡ engine.old.config }
-    ensures taken { engine.new.taken ≤ engine.old.taken + 1 }
+    ensures taken { engine.new.taken ≤ engine.old.taken + 2 }
     ensures takes { (t : List ℕ) × Appends (bytes_held W.contents out.old) (bytes_held W.contents out.new) t
         × TakesEvent engine.old.config row engine.old.machine event.now t result engine.new.machine }
     ensures tallies { TalliesEvent H.counts engine.old.config engine.old.machine event.now result tally.old tally.new }
@@ -125,10 +125,10 @@ fn take_event<H: Store, W: Write>(
     ensures passed_on { PassedOn out.new result }
     ensures flushes { NotFlushed out.old out.new }
 {
-    let answer = engine.step(event);
+    let answer = engine.way(event);
     tally.add(&engine.work());
     match answer {
-        Ok(outcome) => write_row(row, &outcome, line, out),
+        Ok(way) => write_row(row, &way, line, out),
         Err(_) => Err(Stop::Memory),
     }
 }
@@ -143,9 +143,9 @@ fn take_record<H: Store, W: Write>(
     out: &mut Sink<W>,
 ) -> Result<(), Stop>
     requires passed_on { OwesNoFlush out.old }
-    requires room { engine.old.taken < run_limit }
+    requires room { engine.old.taken + 1 < run_limit }
     ensures config { engine.new.config ≡ engine.old.config }
-    ensures taken { engine.new.taken ≤ engine.old.taken + 1 }
+    ensures taken { engine.new.taken ≤ engine.old.taken + 2 }
     ensures takes { (t : List ℕ) × Appends (bytes_held W.contents out.old) (bytes_held W.contents out.new) t
         × TakesRecord engine.old.config row engine.old.machine (fields_of fields.now) t result engine.new.machine }
     ensures tallies { TalliesRecord H.counts engine.old.config row engine.old.machine (fields_of fields.now) result tally.old tally.new }
@@ -242,13 +242,13 @@ fn tell_rows<H: Store, S: Read, W: Write>(
     ensures flushes { NotFlushed out.old out.new }
     ensures source { result ≡ Err (Stop.Source) → has_failed reader.new ≡ true }
 {
-    for rows in 0..=RUN_LIMIT {
+    for rows in 0..=ROW_LIMIT {
         match next_record(reader, fields, out) {
             Ok(true) => {}
             Ok(false) => return write_end(end_line(rows, engine), line, out),
             Err(stop) => return Err(stop),
         }
-        if rows == RUN_LIMIT {
+        if rows == ROW_LIMIT {
             return Err(Stop::Fault(TraceFault::TooManyRows));
         }
         match take_record(rows + 1, fields, engine, tally, line, out) {

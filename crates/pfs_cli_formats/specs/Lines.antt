@@ -1,5 +1,5 @@
--- The lines of a report: `ROW WORD @RULE`, and `end rows=R states=S nodes=N entries=E`. (own)
-use Rattle.std.specs.Prelude.{◌++◌, ℕ, List, codes, Option, Some, None}
+-- The lines of a report: `ROW WORD @RULE`, or `ROW WORD @RULE > WORD @RULE`, and `end rows=R states=S nodes=N entries=E`. (own)
+use Rattle.std.specs.Prelude.{◌++◌, ℕ, List, [], codes, Option, Some, None}
 use Rattle.std.specs.Fmt.{decimal}
 use Rattle.pfs_conf_values.specs.declared.items.RuleNo.{RuleNo}
 use Rattle.pfs_store_contract.specs.declared.records.Limit.{Limit}
@@ -11,6 +11,7 @@ use Rattle.pfs_engine_machine.specs.declared.events.Exceeded.{Exceeded}
 use Rattle.pfs_engine_machine.specs.declared.events.Exceeded.TheVariants as exceeded
 use Rattle.pfs_engine_machine.specs.declared.events.Outcome.{Outcome}
 use Rattle.pfs_engine_machine.specs.declared.events.Outcome.TheVariants as outcome
+use Rattle.pfs_engine_machine.specs.declared.events.Way.{Way}
 
 -- a refused state is reported by the limit that it met, in pf.conf(5)'s word for it
 abbrev pub limit_word : Limit → List ℕ
@@ -47,12 +48,13 @@ abbrev pub amounts_text : ℕ → ℕ → ℕ → List ℕ
 amounts_text states nodes entries = codes "states=" ++ (decimal states ++ (codes " nodes=" ++ (decimal nodes ++ (codes " entries=" ++ decimal entries))))
 
 -- what a line says: its word, and the rule by which it came, or `-`; of killed states also the overload and how many
--- were killed, of entries that were taken out how many left, of one that was to be added what became of it, and how much is held
+-- were killed, of states and entries that were taken out how many left, of one that was to be added what became of it, and how much is held
 abbrev pub outcome_text : Outcome → List ℕ
 outcome_text (outcome.State r) = codes "state " ++ mark_text (Some r)
 outcome_text (outcome.New r) = codes "new " ++ mark_text (Some r)
 outcome_text (outcome.Answered r) = codes "proxy " ++ mark_text (Some r)
 outcome_text (outcome.Taken r) = codes "proxy " ++ mark_text (Some r)
+outcome_text (outcome.Asking r) = codes "proxy " ++ mark_text (Some r)
 outcome_text (outcome.Pass r) = codes "pass " ++ mark_text r
 outcome_text outcome.Cookie = codes "cookie -"
 outcome_text (outcome.Stateless r) = codes "drop:cookie " ++ mark_text r
@@ -64,11 +66,17 @@ outcome_text outcome.Skip = codes "skip -"
 outcome_text (outcome.Expire removed) = codes "expire - removed=" ++ decimal removed
 outcome_text (outcome.Add became) = codes "add - " ++ entered_word became
 outcome_text (outcome.Delete removed) = codes "delete - removed=" ++ decimal removed
+outcome_text (outcome.Killed killed) = codes "kill - killed=" ++ decimal killed
 outcome_text (outcome.Held h) = codes "held - " ++ amounts_text h.states h.nodes h.entries
 
+-- what came of a packet where it leaves, behind what came of it first
+abbrev pub second_text : Option Outcome → List ℕ
+second_text None = []
+second_text (Some o) = codes " > " ++ outcome_text o
+
 -- the line of a record
-abbrev pub row_text : ℕ → Outcome → List ℕ
-row_text row o = decimal row ++ (codes " " ++ (outcome_text o ++ codes "\n"))
+abbrev pub row_text : ℕ → Way → List ℕ
+row_text row w = decimal row ++ (codes " " ++ (outcome_text w.first ++ (second_text w.second ++ codes "\n")))
 
 -- the last line: how many records there were, and the states, source nodes and table entries that are held after them
 abbrev pub end_text : ℕ → ℕ → ℕ → ℕ → List ℕ

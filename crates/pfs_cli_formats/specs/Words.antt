@@ -12,6 +12,7 @@ word_of (outcome.State r) = codes "state"
 word_of (outcome.New r) = codes "new"
 word_of (outcome.Answered r) = codes "proxy"
 word_of (outcome.Taken r) = codes "proxy"
+word_of (outcome.Asking r) = codes "proxy"
 word_of (outcome.Pass r) = codes "pass"
 word_of outcome.Cookie = codes "cookie"
 word_of (outcome.Stateless r) = codes "drop:cookie"
@@ -22,6 +23,7 @@ word_of outcome.Skip = codes "skip"
 word_of (outcome.Expire removed) = codes "expire"
 word_of (outcome.Add became) = codes "add"
 word_of (outcome.Delete removed) = codes "delete"
+word_of (outcome.Killed killed) = codes "kill"
 word_of (outcome.Held h) = codes "held"
 
 -- the rule by which it came: none for a record that is no packet, and for a packet that no rule matched or was asked for
@@ -30,6 +32,7 @@ rule_by (outcome.State r) = Some r
 rule_by (outcome.New r) = Some r
 rule_by (outcome.Answered r) = Some r
 rule_by (outcome.Taken r) = Some r
+rule_by (outcome.Asking r) = Some r
 rule_by (outcome.Pass r) = r
 rule_by outcome.Cookie = None
 rule_by (outcome.Stateless r) = r
@@ -40,6 +43,7 @@ rule_by outcome.Skip = None
 rule_by (outcome.Expire removed) = None
 rule_by (outcome.Add became) = None
 rule_by (outcome.Delete removed) = None
+rule_by (outcome.Killed killed) = None
 rule_by (outcome.Held h) = None
 
 -- a line of killed states continues with the overload and how many were killed, one of a command with what
@@ -49,6 +53,7 @@ note_text (outcome.Kill r limits overload killed) = codes " overload=" ++ (overl
 note_text (outcome.Expire removed) = codes " removed=" ++ decimal removed
 note_text (outcome.Add became) = codes " " ++ entered_word became
 note_text (outcome.Delete removed) = codes " removed=" ++ decimal removed
+note_text (outcome.Killed killed) = codes " killed=" ++ decimal killed
 note_text (outcome.Held h) = codes " " ++ amounts_text h.states h.nodes h.entries
 note_text _ = []
 

@@ -3,4 +3,4 @@
 
 mod lines;
 
-pub use lines::{EndLine, push_end, push_outcome};
+pub use lines::{EndLine, push_end, push_way};

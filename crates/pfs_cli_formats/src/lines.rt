@@ -1,11 +1,11 @@
 //! The lines of a report.
 
 ghost use Rattle.std.specs.Prelude.{◌≡◌, ◌++◌, OnOk, codes, decimal};
-ghost use Rattle.pfs_cli_formats.specs.Lines.{amounts_text, end_text, entered_word, overload_word, row_text};
+ghost use Rattle.pfs_cli_formats.specs.Lines.{amounts_text, end_text, entered_word, outcome_text, overload_word, row_text, second_text};
 ghost use Rattle.pfs_cli_formats.specs.Words.{lead_of, note_text, number_text, rule_by};
 
 use pfs_conf_values::RuleNo;
-use pfs_engine_machine::{Added, Amounts, Entered, Exceeded, Limit, Outcome};
+use pfs_engine_machine::{Added, Amounts, Entered, Exceeded, Limit, Outcome, Way};
 use pfs_numbers::push_number;
 use std::alloc::AllocError;
 
@@ -18,17 +18,39 @@ pub struct EndLine {
     pub held: Amounts,
 }
 
-/// Appends the line of a record: its row, what the machine did with it, and by which rule. It fails where memory was
-/// refused; a part of the line may have been appended then.
-#[tactic(auto, using(crate::proofs::Rows::parted))]
-pub fn push_outcome(out: &mut Vec<u8>, row: u64, outcome: &Outcome) -> Result<(), AllocError>
-    ensures { OnOk result (out.new.items ≡ out.old.items ++ row_text row outcome.now) }
+/// Appends the line of a record: its row, what the machine did with it, and by which rule; and behind a `>` what it did with the
+/// packet where that leaves, if it went so far. It fails where memory was refused; a part of the line may have been appended then.
+#[tactic(auto, using(crate::proofs::Rows::row_parted))]
+pub fn push_way(out: &mut Vec<u8>, row: u64, way: &Way) -> Result<(), AllocError>
+    ensures { OnOk result (out.new.items ≡ out.old.items ++ row_text row way.now) }
 {
     push_number(out, row)?;
+    push_outcome(out, &way.first)?;
+    push_second(out, &way.second)?;
+    out.extend_from_slice(b"\n")
+}
+
+/// Appends what came of a packet where it leaves, if it went so far.
+fn push_second(out: &mut Vec<u8>, second: &Option<Outcome>) -> Result<(), AllocError>
+    ensures { OnOk result (out.new.items ≡ out.old.items ++ second_text second.now) }
+{
+    match second {
+        Some(outcome) => {
+            out.extend_from_slice(b" >")?;
+            push_outcome(out, outcome)
+        }
+        None => Ok(()),
+    }
+}
+
+/// Appends a space, what the machine did, and by which rule.
+#[tactic(auto, using(crate::proofs::Rows::parted))]
+fn push_outcome(out: &mut Vec<u8>, outcome: &Outcome) -> Result<(), AllocError>
+    ensures { OnOk result (out.new.items ≡ out.old.items ++ (codes " " ++ outcome_text outcome.now)) }
+{
     out.extend_from_slice(lead(outcome).as_bytes())?;
     push_rule(out, rule(outcome))?;
-    push_note(out, outcome)?;
-    out.extend_from_slice(b"\n")
+    push_note(out, outcome)
 }
 
 /// Appends the last line. It fails where memory was refused; a part of the line may have been appended then.
@@ -87,6 +109,7 @@ fn push_note(out: &mut Vec<u8>, outcome: &Outcome) -> Result<(), AllocError>
             removed,
         ),
         Outcome::Add(became) => out.extend_from_slice(entered_name(became).as_bytes()),
+        Outcome::Killed(killed) => push_named(out, b" killed=", killed),
         Outcome::Held(held) => push_amounts(out, &held),
         _ => Ok(()),
     }
@@ -122,6 +145,7 @@ fn rule(outcome: &Outcome) -> Option<RuleNo>
         | Outcome::New(rule)
         | Outcome::Answered(rule)
         | Outcome::Taken(rule)
+        | Outcome::Asking(rule)
         | Outcome::Block(rule)
         | Outcome::Drop(rule, _)
         | Outcome::Kill { rule, .. } => Some(rule),
@@ -131,6 +155,7 @@ fn rule(outcome: &Outcome) -> Option<RuleNo>
         | Outcome::Expire(_)
         | Outcome::Add(_)
         | Outcome::Delete(_)
+        | Outcome::Killed(_)
         | Outcome::Held(_) => None,
     }
 }
@@ -142,7 +167,7 @@ fn lead(outcome: &Outcome) -> &'static str
     match *outcome {
         Outcome::State(_) => " state @",
         Outcome::New(_) => " new @",
-        Outcome::Answered(_) | Outcome::Taken(_) => " proxy @",
+        Outcome::Answered(_) | Outcome::Taken(_) | Outcome::Asking(_) => " proxy @",
         Outcome::Pass(Some(_)) => " pass @",
         Outcome::Pass(None) => " pass -",
         Outcome::Cookie => " cookie -",
@@ -170,6 +195,7 @@ fn lead(outcome: &Outcome) -> &'static str
         Outcome::Expire(_) => " expire -",
         Outcome::Add(_) => " add -",
         Outcome::Delete(_) => " delete -",
+        Outcome::Killed(_) => " kill -",
         Outcome::Held(_) => " held -",
     }
 }

@@ -1,9 +1,8 @@
 -- The jobs of a command line, by what clap finds in its words.
-use Rattle.std.specs.Prelude.{◌≡◌, ◌&&◌, List, codes, Bool, true, false, Option, Some, None, if◌then◌else◌}
-use Rattle.std.specs.Str.{bytes_eq}
-use Rattle.clap.specs.Words.{App, Row, Rule, Shape, Text, first_of, new_app, new_rule, one_of, with_rule, with_subcommand}
+use Rattle.std.specs.Prelude.{◌≡◌, ◌&&◌, List, codes, Bool, true, false, Option, Some, None}
+use Rattle.clap.specs.Words.{App, Row, Rule, Shape, Text, first_of, new_app, new_rule, with_rule, with_subcommand}
 use Rattle.clap.specs.Simple.{on_top}
-use Rattle.clap.specs.declared.builder.action.ArgAction.TheVariants.{SetTrue}
+use Rattle.pfs_words.specs.Words.{ByLinesIn, file_of, flag_rule, is_standard, lines_flag}
 use Rattle.pfs_cli_jobs.specs.declared.tasks.Request.{Request}
 use Rattle.pfs_cli_jobs.specs.declared.tasks.Job.{Job}
 use Rattle.pfs_cli_jobs.specs.declared.tasks.Job.TheVariants as job
@@ -11,14 +10,6 @@ use Rattle.pfs_cli_jobs.specs.declared.tasks.Job.TheVariants as job
 -- a file's name, which has to be there
 abbrev pub file_rule : Text → Rule
 file_rule id = record (new_rule id) { required = true }
-
--- a flag by its long name, which is also its id
-abbrev pub flag_rule : Text → Rule
-flag_rule id = record (new_rule id) { long = Some id; action = Some SetTrue }
-
--- the flag for each line as it happens (the word of grep)
-abbrev pub lines_flag : Text
-lines_flag = codes "line-buffered"
 
 -- the subcommands
 abbrev pub check_app : App
@@ -42,14 +33,6 @@ pfsrc_app = with_subcommand (with_subcommand (with_subcommand program_app check_
 abbrev pub Found : Type 0
 Found = Option (Text × List Row)
 
--- whether a name stands for standard input; a file of that name is `./-`
-abbrev pub is_standard : Text → Bool
-is_standard name = bytes_eq name (codes "-")
-
--- the file of a name, where it does not stand for standard input
-abbrev pub file_of : Text → Option Text
-file_of name = if is_standard name then None else Some name
-
 -- the job that a subcommand names; standard input gives rules or a trace, not both
 abbrev pub JobIs : Found → Job → Type 0
 JobIs found job.Joined = found ≡ None
@@ -57,13 +40,6 @@ JobIs found (job.Check rules) = (rows : List Row) × (found ≡ Some (codes "che
 JobIs found (job.Show rules) = (rows : List Row) × (found ≡ Some (codes "show", rows)) × (first_of (codes "RULES") rows ≡ Some rules.now)
 JobIs found (job.Replay rules trace) = (rows : List Row) × (found ≡ Some (codes "replay", rows)) × (first_of (codes "RULES") rows ≡ Some rules.now) × (first_of (codes "TRACE") rows ≡ Some trace.now)
     × (is_standard rules.now && is_standard trace.now ≡ false)
-
--- whether the flag for each line as it happens stands among the words of these entries
-abbrev pub ByLinesIn : List Row → Bool → Type 0
-ByLinesIn rows given =
-    (one_of lines_flag rows ≡ None → given ≡ false)
-    × (one_of lines_flag rows ≡ Some (codes "true") → given ≡ true)
-    × (one_of lines_flag rows ≡ Some (codes "false") → given ≡ false)
 
 -- a job by lines, by the entries before a subcommand and by those after it: a replay alone can be one
 abbrev pub ByLines : List Row → Found → Job → Bool → Type 0

@@ -1,7 +1,9 @@
 //! What the program is asked to do.
 
 ghost use Rattle.std.specs.Prelude.{◌≡◌, option_map};
-ghost use Rattle.pfs_cli_jobs.specs.Jobs.{file_of, is_standard, rules_file, trace_file};
+ghost use Rattle.pfs_cli_jobs.specs.Jobs.{rules_file, trace_file};
+
+use pfs_words::file_of;
 
 /// What the program is asked to do. Files are named as the words name them; `-` is standard input.
 #[derive(Clone, Copy, Debug, PartialEq, Eq)]
@@ -38,18 +40,4 @@ pub struct Request<'a> {
     pub job: Job<'a>,
     /// Whether each line of a report is to be seen before more of the trace is read.
     pub by_lines: bool,
-}
-
-/// Whether a name stands for standard input.
-pub(crate) fn is_standard(name: &str) -> bool
-    ensures { result ≡ is_standard name.now }
-{
-    name == "-"
-}
-
-/// The file of this name; none where it stands for standard input.
-fn file_of(name: &str) -> Option<&str>
-    ensures { option_map (λ file. file.now) result ≡ file_of name.now }
-{
-    if is_standard(name) { None } else { Some(name) }
 }

@@ -3,11 +3,13 @@
 ghost use Rattle.std.specs.Prelude.{◌≡◌, IfOk, map, false, codes, [], Some};
 ghost use Rattle.clap.specs.Words.{app_of, matches_of, subcommand_of, rule_of, with_subcommand, first_of, found_of, kind_of, rows_of};
 ghost use Rattle.clap.specs.declared.builder.command.Command.TheViews.{out-Command};
-ghost use Rattle.pfs_cli_jobs.specs.Jobs.{ByLinesIn, JobIs, RequestIs, check_app, show_app, replay_app, program_app, pfsrc_app, file_rule, flag_rule, lines_flag};
+ghost use Rattle.pfs_words.specs.Words.{flag_rule, lines_flag};
+ghost use Rattle.pfs_cli_jobs.specs.Jobs.{JobIs, RequestIs, check_app, show_app, replay_app, program_app, pfsrc_app, file_rule};
 
-use crate::tasks::{Job, Request, is_standard};
+use crate::tasks::{Job, Request};
 use clap::error::ErrorKind;
-use clap::{Arg, ArgAction, ArgMatches, Command, Error};
+use clap::{Arg, ArgMatches, Command, Error};
+use pfs_words::{is_by_lines, is_standard, line_buffered};
 use std::alloc::{AllocError, Global};
 
 /// What `--version` prints after the program's name.
@@ -80,7 +82,7 @@ fn program<'a>(alloc: Global) -> Result<Command<'a>, AllocError>
         .after_help(
             "Without a command it reads rules and trace from standard input, with a line %% between them, and writes the report:\n  cat rules separator trace | pfsrc\nStatus: 0 done, 1 a fault in the trace, 2 words that are not understood, 3 a fault in the rules, 4 reading, writing or memory failed.",
         )
-        .arg(line_buffered(alloc))
+        .arg(by_lines(alloc))
 }
 
 fn check<'a>(alloc: Global) -> Result<Command<'a>, AllocError>
@@ -116,19 +118,19 @@ fn replay<'a>(alloc: Global) -> Result<Command<'a>, AllocError>
         .after_help(
             "Example: pfsrc replay pf.conf flood.csv\nOf a trace that comes as it happens: tcpdump .. | pfstrace --line-buffered .. - | pfsrc replay --line-buffered pf.conf -",
         )
-        .arg(line_buffered(alloc))?;
+        .arg(by_lines(alloc))?;
     let command = command.arg(rules_file(alloc))?;
     command.arg(trace_file(alloc))
 }
 
-fn line_buffered<'a>(alloc: Global) -> Arg<'a>
+fn by_lines<'a>(alloc: Global) -> Arg<'a>
     ensures rule { rule_of result ≡ flag_rule lines_flag }
     ensures local { result.global ≡ false }
 {
-    Arg::new(alloc, "line-buffered")
-        .long("line-buffered")
-        .action(ArgAction::SetTrue)
-        .help("Writes each line of the report before it reads more of the trace.")
+    line_buffered(
+        alloc,
+        "Writes each line of the report before it reads more of the trace.",
+    )
 }
 
 fn rules_file<'a>(alloc: Global) -> Arg<'a>
@@ -189,13 +191,6 @@ fn replay_job<'a>(alloc: Global, found: &ArgMatches<'a>) -> Result<Job<'a>, Erro
         )?);
     }
     Ok(Job::Replay(rules, trace))
-}
-
-/// Whether the flag for each line as it happens was given.
-fn is_by_lines(found: &ArgMatches<'_>) -> bool
-    ensures { ByLinesIn (rows_of (found_of found.now)) result }
-{
-    found.get_flag("line-buffered")
 }
 
 /// The file that was given under this name; a mistake in the words where there is none, for which `clap` asks before.

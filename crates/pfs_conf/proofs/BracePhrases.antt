@@ -1,9 +1,12 @@
 -- The readers of options and of tables end no line but in braces.
-use Rattle.std.proofs.Common.{◌≡◌, ℕ, Bool, true, false, List, [], ◌∷◌, ◌++◌, Option, Some, None, refl}
+use Rattle.std.proofs.Common.{◌≡◌, ℕ, Bool, true, false, cond, List, [], ◌∷◌, ◌++◌, Option, Some, None, refl}
 use Rattle.pfs_conf_tokens.specs.Keys.{is_word_key}
 use Rattle.pfs_conf_tokens.specs.declared.keys.Key.{Key}
 use Rattle.pfs_conf_tokens.specs.declared.keys.Key.TheVariants as key
+use Rattle.pfs_conf_tokens.specs.declared.refusals.Why.{Why}
 use Rattle.pfs_conf_tokens.specs.declared.refusals.Why.TheVariants as why
+use Rattle.pfs_conf_tokens.specs.Tokens.{Tok}
+use Rattle.pfs_conf_tokens.specs.Values.{in_word, value_at, valued}
 use Rattle.pfs_conf_tokens.specs.Reading.{Act, take, refuse, on_front, done, chain, skipping, number_at}
 use Rattle.pfs_addr_values.specs.Names.{name_of}
 use Rattle.pfs_addr_values.specs.Prefixes.{Network}
@@ -12,7 +15,9 @@ use Rattle.pfs_conf_values.specs.Entries.{TextEntry, sign_of}
 use Rattle.pfs_conf_values.specs.declared.limits.LimitName.{LimitName}
 use Rattle.pfs_conf_values.specs.declared.limits.LimitName.TheVariants as limit
 use Rattle.pfs_conf_values.specs.declared.timeouts.TimeoutName.{TimeoutName}
-use Rattle.pfs_conf_settings.specs.Drafts.{Drafted, with_limit, with_profile, with_timeout, is_defined}
+use Rattle.pfs_conf_settings.specs.Drafts.{Drafted, with_limit, with_profile, with_route, with_timeout, is_defined}
+use Rattle.pfs_conf_settings.specs.RouteGrammar.{interface_named}
+use Rattle.pfs_conf_settings.specs.Routes.{leaving_at, leaving_name_at, prefix_at, route_at, route_by, routed_at}
 use Rattle.pfs_conf_values.specs.declared.profiles.Profile.TheVariants as profile
 use Rattle.pfs_conf_settings.specs.declared.settings.Setting.{Setting}
 use Rattle.pfs_conf_settings.specs.declared.settings.Setting.TheVariants as variant
@@ -83,9 +88,47 @@ keeps_time lined d = keeps_front (λ t. time_by lined d t.key) (λ t. time_acts 
 keeps_lines : {A : Type 0} (x : A) → Keeps true true (skipping (done x))
 keeps_lines x = keeps_skipping (done x) (keeps_done x)
 
+valued_acts : {A : Type 0} (lined : Bool) (w : Why) (k : Key) (o : Option A) → is_word_key k ≡ true → KeepsAct lined lined k (valued w o)
+valued_acts lined w k None e = tt
+valued_acts lined w k (Some x) e = keeps_word lined lined k (done x) e (keeps_done x)
+
+in_word_acts : {A : Type 0} (lined : Bool) (w : Why) (value : List ℕ → Option A) (t : Tok) → KeepsAct lined lined t.key (valued w (in_word value t))
+in_word_acts {A} lined w value t = go (is_word_key t.key) refl
+  where
+    go : (b : Bool) → is_word_key t.key ≡ b → KeepsAct {A = A} lined lined t.key (valued w (cond b (value t.text) None))
+    go true e = valued_acts lined w t.key (value t.text) e
+    go false e = tt
+
+keeps_word_value : {A : Type 0} (lined : Bool) (w : Why) (value : List ℕ → Option A) → Keeps lined lined (value_at w (in_word value))
+keeps_word_value lined w value = keeps_front (λ t. valued w (in_word value t)) (λ t. in_word_acts lined w value t)
+
+keeps_prefix : (lined : Bool) → Keeps lined lined prefix_at
+unfolding prefix_at
+keeps_prefix lined = keeps_word_value lined why.Host prefix_of
+
+keeps_interface : (lined : Bool) → Keeps lined lined leaving_name_at
+unfolding leaving_name_at
+keeps_interface lined = keeps_word_value lined why.Plain interface_named
+
+keeps_leaving : (lined : Bool) → Keeps lined lined (leaving_at lined)
+unfolding leaving_at
+keeps_leaving true = keeps_skipping leaving_name_at (keeps_interface true)
+keeps_leaving false = keeps_interface false
+
+keeps_route : (lined : Bool) → Keeps lined lined (route_at lined)
+unfolding route_at
+keeps_route lined =
+    keeps_chain prefix_at (λ p. chain (leaving_at lined) (λ name. done (route_by p name))) (keeps_prefix lined)
+    (λ p. keeps_chain (leaving_at lined) (λ name. done (route_by p name)) (keeps_leaving lined) (λ name. keeps_done (route_by p name)))
+
+keeps_routed : (lined : Bool) (d : Drafted) → Keeps lined lined (routed_at lined d)
+unfolding routed_at
+keeps_routed lined d = keeps_chain (route_at lined) (λ r. done (with_route r d)) (keeps_route lined) (λ r. keeps_done (with_route r d))
+
 keeps_setting : (s : Setting) (lined : Bool) (d : Drafted) → Keeps lined lined (setting_at s lined d)
 keeps_setting variant.Limit lined d = keeps_limit lined d
 keeps_setting variant.Timeout lined d = keeps_time lined d
+keeps_setting variant.Route lined d = keeps_routed lined d
 
 keeps_lined : (s : Setting) (d : Drafted) → Keeps true true (lined_setting_at s d)
 unfolding lined_setting_at
@@ -111,6 +154,7 @@ settings_acts : (d : Drafted) (k : Key) → KeepsAct false false k (settings_by 
 settings_acts d key.Profile = (refl, keeps_profile d)
 settings_acts d key.Limit = (refl, keeps_some_settings variant.Limit d)
 settings_acts d key.Timeout = (refl, keeps_some_settings variant.Timeout d)
+settings_acts d key.Route = (refl, keeps_some_settings variant.Route d)
 settings_acts d _ = tt
 
 pub keeps_settings : (d : Drafted) → Keeps false false (settings_at d)

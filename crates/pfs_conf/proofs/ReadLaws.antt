@@ -24,7 +24,7 @@ use Rattle.pfs_conf_filters.specs.declared.phrases.Marks.{Marks}
 use Rattle.pfs_conf_filters.proofs.ReadLaws.{no_policy, ends_parameters, verb_reads, parameters_read, flags_read, parameters_head, flags_head}
 use Rattle.pfs_conf_options.specs.Grammar.{no, keep, proxy}
 use Rattle.pfs_conf_options.proofs.PhraseLaws.{ends_state, state_reads}
-use Rattle.pfs_conf_settings.specs.SettingGrammar.{SettingOf, profile, limit, limits, timeout, timeouts}
+use Rattle.pfs_conf_settings.specs.SettingGrammar.{SettingOf, profile, limit, limits, timeout, timeouts, route, routes}
 use Rattle.pfs_conf_settings.specs.TableGrammar.{PartsOf}
 use Rattle.pfs_conf_settings.specs.declared.tables.Parts.{Parts}
 use Rattle.pfs_conf_settings.proofs.SettingPhrases.{settings_read}
@@ -167,6 +167,8 @@ setting_begins n p (limit w v) = rw (word_head w).0 refl
 setting_begins n p (limits w v l) = rw (word_head w).0 refl
 setting_begins n p (timeout w v) = rw (word_head w).0 refl
 setting_begins n p (timeouts w v l) = rw (word_head w).0 refl
+setting_begins n p (route w v) = rw (word_head w).0 refl
+setting_begins n p (routes w v l) = rw (word_head w).0 refl
 
 set_reads : (n : ℕ) (p : Progress) {d : Drafted} {ts mid left : List Tok} → SettingOf p.draft ts d mid → Word key.LineEnd mid left → set_at n p ts ≡ Ok (with_draft d p, left)
 unfolding set_at

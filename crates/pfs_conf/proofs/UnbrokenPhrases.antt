@@ -12,7 +12,9 @@ use Rattle.pfs_addr_values.specs.Protocols.{proto_in}
 use Rattle.pfs_addr.specs.Texts.{prefix_of}
 use Rattle.pfs_addr_values.specs.declared.packets.Dir.TheVariants as dir
 use Rattle.pfs_conf_values.specs.Entries.{TextEntry, sign_of}
-use Rattle.pfs_conf_settings.specs.Drafts.{Drafted, with_limit, with_profile, with_timeout, usual_shares}
+use Rattle.pfs_conf_settings.specs.Drafts.{Drafted, with_limit, with_profile, with_route, with_timeout, usual_shares}
+use Rattle.pfs_conf_settings.specs.RouteGrammar.{interface_named}
+use Rattle.pfs_conf_settings.specs.Routes.{leaving_at, leaving_name_at, prefix_at, route_at, route_by, routed_at}
 use Rattle.pfs_conf_values.specs.Bounds.{greatest_timeout}
 use Rattle.pfs_conf_values.specs.declared.actions.Rate.{Rate}
 use Rattle.pfs_conf_values.specs.declared.actions.Scope.TheVariants as scope
@@ -434,9 +436,29 @@ unbroken_time lined d = unbroken_front (λ t. time_by lined d t.key) (λ t. time
 unbroken_lines_behind : (d : Drafted) → Unbroken (skipping (done d))
 unbroken_lines_behind d = unbroken_skipping (done d) (unbroken_done d)
 
+unbroken_route_prefix : Unbroken prefix_at
+unfolding prefix_at
+unbroken_route_prefix = unbroken_value why.Host (in_word prefix_of)
+
+unbroken_leaving : (lined : Bool) → Unbroken (leaving_at lined)
+unfolding leaving_at leaving_name_at
+unbroken_leaving true = unbroken_skipping leaving_name_at (unbroken_value why.Plain (in_word interface_named))
+unbroken_leaving false = unbroken_value why.Plain (in_word interface_named)
+
+unbroken_route : (lined : Bool) → Unbroken (route_at lined)
+unfolding route_at
+unbroken_route lined =
+    unbroken_chain prefix_at (λ p. chain (leaving_at lined) (λ name. done (route_by p name))) unbroken_route_prefix
+    (λ p. unbroken_chain (leaving_at lined) (λ name. done (route_by p name)) (unbroken_leaving lined) (λ name. unbroken_done (route_by p name)))
+
+unbroken_routed : (lined : Bool) (d : Drafted) → Unbroken (routed_at lined d)
+unfolding routed_at
+unbroken_routed lined d = unbroken_chain (route_at lined) (λ r. done (with_route r d)) (unbroken_route lined) (λ r. unbroken_done (with_route r d))
+
 unbroken_setting : (s : Setting) (lined : Bool) (d : Drafted) → Unbroken (setting_at s lined d)
 unbroken_setting variant.Limit lined d = unbroken_limit lined d
 unbroken_setting variant.Timeout lined d = unbroken_time lined d
+unbroken_setting variant.Route lined d = unbroken_routed lined d
 
 unbroken_lined : (s : Setting) (d : Drafted) → Unbroken (lined_setting_at s d)
 unfolding lined_setting_at
@@ -462,6 +484,7 @@ settings_acts : (d : Drafted) (k : Key) → UnbrokenAct (settings_by d k)
 settings_acts d key.Profile = unbroken_profile d
 settings_acts d key.Limit = unbroken_some_settings variant.Limit d
 settings_acts d key.Timeout = unbroken_some_settings variant.Timeout d
+settings_acts d key.Route = unbroken_some_settings variant.Route d
 settings_acts d _ = tt
 
 pub unbroken_settings : (d : Drafted) → Unbroken (settings_at d)

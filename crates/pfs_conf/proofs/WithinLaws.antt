@@ -21,8 +21,6 @@ use Rattle.pfs_addr_values.specs.FlagSets.{flags_of, is_flag_letter, names_lette
 use Rattle.pfs_addr_values.specs.declared.protocols.Proto.{Proto}
 use Rattle.pfs_addr_values.specs.declared.protocols.Proto.TheVariants as proto
 use Rattle.pfs_addr_values.specs.declared.flag_sets.Flags.{Flags}
-use Rattle.pfs_addr.proofs.PieceLaws.{prefix_of_parts}
-use Rattle.pfs_addr_values.proofs.PrefixLaws.{network_of_is_network}
 use Rattle.pfs_conf_values.specs.LoadRules.{IsInterface, IsProto, ArePorts, IsHost, IsSide, IsFlagTest, has_a_flag}
 use Rattle.pfs_conf_values.specs.declared.filters.FlagTest.{FlagTest}
 use Rattle.pfs_conf_values.specs.declared.filters.Host.{Host}
@@ -38,6 +36,7 @@ use Rattle.pfs_conf_filters.specs.Grammar.{Says, Behind, NegationOf, affirmed, n
 use Rattle.pfs_conf_filters.specs.Sides.{side_not_given, source_of, destination_of}
 use Rattle.pfs_addr_values.specs.declared.packets.Dir.{Dir}
 use Rattle.pfs_conf_filters.specs.declared.phrases.Marks.{Marks}
+use Rattle.pfs_conf_settings.proofs.RoutePhrases.{network_within}
 use Rattle.pfs_conf.specs.Within.{IsLexed, AreLexed, more, IsTableName, AreParameters}
 
 -- ---- forms
@@ -202,7 +201,7 @@ network_good text = by_value (prefix_of text) refl
   where
     by_value : (o : Option Network) → prefix_of text ≡ o → IfSome o IsNetwork
     by_value None e = tt
-    by_value (Some p) e = let w = prefix_of_parts text p e in subst IsNetwork (sym w.of) (network_of_is_network w.addr p.bits w.is_addr w.short)
+    by_value (Some p) e = network_within text p e
 
 says_network : {ts left : List Tok} {p : Network} → Says (in_plain_word prefix_of) ts p left → IsNetwork p
 says_network {p = p} q = held (in_plain_word prefix_of q.0) p IsNetwork q.2 (if_some (is_plain_word q.0.key) (prefix_of q.0.text) None IsNetwork (λ e. network_good q.0.text) (λ e. tt))

@@ -3,7 +3,7 @@ use Rattle.std.specs.Prelude.{ℕ, ◌+◌, Bool, true, false, if◌then◌else�
 use Rattle.std.specs.Option.{option_map}
 use Rattle.pfs_conf_tokens.specs.declared.refusals.LoadRule.{LoadRule}
 use Rattle.pfs_conf_tokens.specs.declared.refusals.LoadRule.TheVariants as load_rule
-use Rattle.pfs_conf_settings.specs.Drafts.{Drafted, empty_draft, number_of_table, with_name, with_table, with_item, const_overload, has_broken_pair, has_too_many_tables, has_too_many_entries, has_unprofiled_cookies, unprofiled, with_syncookies, has_broken_shares}
+use Rattle.pfs_conf_settings.specs.Drafts.{Drafted, empty_draft, number_of_table, with_name, with_table, with_item, const_overload, has_broken_pair, has_too_many_tables, has_too_many_entries, has_unprofiled_cookies, has_unprofiled_routes, unprofiled, with_syncookies, has_broken_shares}
 use Rattle.pfs_conf_values.specs.declared.syncookies.Syncookies.{Syncookies}
 use Rattle.pfs_conf_values.specs.declared.actions.Action.{Action}
 use Rattle.pfs_conf_values.specs.declared.actions.Action.TheVariants as action
@@ -231,6 +231,7 @@ text_breaks p = first_reported (
     ∷ (load_rule.AdaptivePair, at_line_0 (has_broken_pair p.draft))
     ∷ (load_rule.TooManyTables, at_line_0 (has_too_many_tables p.draft))
     ∷ (load_rule.NeedsProfile, at_line_0 (has_unprofiled_cookies p.draft))
+    ∷ (load_rule.NeedsProfile, at_line_0 (has_unprofiled_routes p.draft))
     ∷ (load_rule.NeedsProfile, option_map (line_of p) (unprofiled p.draft))
     ∷ (load_rule.TooManyEntries, at_line_0 (has_too_many_entries p.draft))
     ∷ [])

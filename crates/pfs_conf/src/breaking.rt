@@ -76,6 +76,8 @@ pub fn text_breaks(progress: &Progress) -> Option<(LoadRule, u64)>
         Some((LoadRule::TooManyTables, 0))
     } else if progress.draft.has_unprofiled_cookies() {
         Some((LoadRule::NeedsProfile, 0))
+    } else if progress.draft.has_unprofiled_routes() {
+        Some((LoadRule::NeedsProfile, 0))
     } else if let Some(rule) = progress.draft.unprofiled() {
         Some((LoadRule::NeedsProfile, progress.lines.at(rule.0)))
     } else if progress.draft.has_too_many_entries() {

@@ -41,7 +41,7 @@ pub enum Kind {
     TooManyRules,
     /// More tables than `set limit tables`.
     TooManyTables,
-    /// `set syncookies` other than `never`, or `synproxy state`, in a text without the profile of OpenBSD 7.4.
+    /// `set syncookies` other than `never`, `set route`, or `synproxy state`, in a text without the profile of OpenBSD 7.4.
     NeedsProfile,
     /// More entries in all tables than `set limit table-entries`.
     TooManyEntries,

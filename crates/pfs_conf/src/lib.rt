@@ -20,6 +20,6 @@ pub use loading::load;
 pub use pfs_conf_show::show;
 pub use pfs_conf_values::{
     Action, Anchor, AnchorName, Config, Entries, Family, Filter, FlagTest, Host, Interface, Item,
-    ItemKind, LimitName, Overload, Ports, Profile, Rate, Rule, RuleNo, RuleTimeouts, Scope, Side,
-    StateOptions, Syncookies, TableDef, TableName, TableNo, TimeoutName,
+    ItemKind, LimitName, Overload, Ports, Profile, Rate, Route, Rule, RuleNo, RuleTimeouts, Scope,
+    Side, StateOptions, Syncookies, TableDef, TableName, TableNo, TimeoutName,
 };

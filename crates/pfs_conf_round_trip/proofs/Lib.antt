@@ -9,6 +9,7 @@ mod OptionPhrases
 mod SettingPhrases
 mod SyncookiePhrases
 mod TablePhrases
+mod RoutePhrases
 mod Numbering
 mod StatementsSaid
 mod RulesAgain

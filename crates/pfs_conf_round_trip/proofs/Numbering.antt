@@ -12,6 +12,7 @@ use Rattle.pfs_conf_values.specs.declared.filters.TableNo.{TableNo}
 use Rattle.pfs_conf_values.specs.declared.items.Item.{Item}
 use Rattle.pfs_conf_values.specs.declared.limits.Limits.{Limits}
 use Rattle.pfs_conf_values.specs.declared.profiles.Profile.{Profile}
+use Rattle.pfs_conf_values.specs.declared.routes.Route.{Route}
 use Rattle.pfs_conf_values.specs.declared.syncookies.Syncookies.{Syncookies}
 use Rattle.pfs_conf_values.specs.declared.tables.TableDef.{TableDef}
 use Rattle.pfs_conf_show.specs.Tables.{name_in}
@@ -21,9 +22,9 @@ use Rattle.pfs_conf_round_trip.proofs.TablePhrases.{bytes_sym}
 abbrev pub trues : List TableDef → List Bool
 trues tables = map (λ (t : TableDef). true) tables
 
--- what the first lines of a canonical text say: the profile, SYN cookies, limits, timeouts, tables that are all defined, and items
-abbrev pub drafted : Profile → Syncookies → Limits → List (Option ℕ) → List TableDef → List Item → Drafted
-drafted profile syncookies limits timeouts tables items = record { profile = profile; syncookies = syncookies; limits = limits; timeouts = timeouts; tables = tables; defined = trues tables; items = items }
+-- what the first lines of a canonical text say: the profile, SYN cookies, routes, limits, timeouts, tables that are all defined, and items
+abbrev pub drafted : Profile → Syncookies → List Route → Limits → List (Option ℕ) → List TableDef → List Item → Drafted
+drafted profile syncookies routes limits timeouts tables items = record { profile = profile; syncookies = syncookies; routes = routes; limits = limits; timeouts = timeouts; tables = tables; defined = trues tables; items = items }
 
 bytes_same : (w : List ℕ) → bytes_eq w w ≡ true
 bytes_same [] = refl
@@ -74,10 +75,10 @@ known (t ∷ tables) zero lt = or_left (bytes_eq t.name t.name) _ (bytes_same t.
 known (t ∷ tables) (suc i) lt = or_right (bytes_eq (name_in (slice_get tables i)) t.name) _ (known tables i (omega arith))
 
 -- using a table changes nothing
-pub named_again : (profile : Profile) (syncookies : Syncookies) (limits : Limits) (timeouts : List (Option ℕ)) (tables : List TableDef) (items : List Item) (t : TableNo) → t.0 < length tables
-    → with_name (name_in (slice_get tables t.0)) (drafted profile syncookies limits timeouts tables items) ≡ drafted profile syncookies limits timeouts tables items
-named_again profile syncookies limits timeouts tables items t lt =
-    let d = drafted profile syncookies limits timeouts tables items in
+pub named_again : (profile : Profile) (syncookies : Syncookies) (routes : List Route) (limits : Limits) (timeouts : List (Option ℕ)) (tables : List TableDef) (items : List Item) (t : TableNo) → t.0 < length tables
+    → with_name (name_in (slice_get tables t.0)) (drafted profile syncookies routes limits timeouts tables items) ≡ drafted profile syncookies routes limits timeouts tables items
+named_again profile syncookies routes limits timeouts tables items t lt =
+    let d = drafted profile syncookies routes limits timeouts tables items in
     let name = name_in (slice_get tables t.0) in
     ap (λ (n : Named). with_tables n d) (cond-true (is_named name tables) (record { tables = tables; defined = trues tables }) _ (known tables t.0 lt))
 
@@ -128,9 +129,9 @@ trues_more [] t = refl
 trues_more (x ∷ tables) t = ap (λ (z : List Bool). true ∷ z) (trues_more tables t)
 
 -- a table of a new name is not defined yet
-undefined_yet : (profile : Profile) (syncookies : Syncookies) (limits : Limits) (timeouts : List (Option ℕ)) (tables : List TableDef) (items : List Item) (name : List ℕ) → is_named name tables ≡ false
-    → is_defined name (drafted profile syncookies limits timeouts tables items) ≡ false
-undefined_yet profile syncookies limits timeouts tables items name h =
+undefined_yet : (profile : Profile) (syncookies : Syncookies) (routes : List Route) (limits : Limits) (timeouts : List (Option ℕ)) (tables : List TableDef) (items : List Item) (name : List ℕ) → is_named name tables ≡ false
+    → is_defined name (drafted profile syncookies routes limits timeouts tables items) ≡ false
+undefined_yet profile syncookies routes limits timeouts tables items name h =
     ap (λ (n : ℕ). slice_index_or (trues tables) n false) (next_number name tables h ∙ sym (sizes tables)) ∙ past_end (trues tables)
 
 abbrev named : List TableDef → List Bool → Named
@@ -148,12 +149,12 @@ defining_new tables t h =
     (ap (λ (n : ℕ). set (trues tables ++ false ∷ []) n true) (sym (sizes tables)) ∙ (set_last (trues tables) false true ∙ sym (trues_more tables t)))))
 
 -- the next table is not defined yet
-pub next_new : (profile : Profile) (syncookies : Syncookies) (limits : Limits) (timeouts : List (Option ℕ)) (before rest : List TableDef) (t : TableDef) → IsDistinct bytes_eq (table_names (before ++ t ∷ rest))
-    → is_defined t.name (drafted profile syncookies limits timeouts before []) ≡ false
-next_new profile syncookies limits timeouts before rest t h = undefined_yet profile syncookies limits timeouts before [] t.name (new_name before rest t h)
+pub next_new : (profile : Profile) (syncookies : Syncookies) (routes : List Route) (limits : Limits) (timeouts : List (Option ℕ)) (before rest : List TableDef) (t : TableDef) → IsDistinct bytes_eq (table_names (before ++ t ∷ rest))
+    → is_defined t.name (drafted profile syncookies routes limits timeouts before []) ≡ false
+next_new profile syncookies routes limits timeouts before rest t h = undefined_yet profile syncookies routes limits timeouts before [] t.name (new_name before rest t h)
 
 -- and it gets the next number
-pub next_table : (profile : Profile) (syncookies : Syncookies) (limits : Limits) (timeouts : List (Option ℕ)) (before rest : List TableDef) (t : TableDef) → IsDistinct bytes_eq (table_names (before ++ t ∷ rest))
-    → with_table t (drafted profile syncookies limits timeouts before []) ≡ drafted profile syncookies limits timeouts (before ++ t ∷ []) []
-next_table profile syncookies limits timeouts before rest t h =
-    ap (λ (n : Named). with_tables n (drafted profile syncookies limits timeouts before [])) (defining_new before t (new_name before rest t h))
+pub next_table : (profile : Profile) (syncookies : Syncookies) (routes : List Route) (limits : Limits) (timeouts : List (Option ℕ)) (before rest : List TableDef) (t : TableDef) → IsDistinct bytes_eq (table_names (before ++ t ∷ rest))
+    → with_table t (drafted profile syncookies routes limits timeouts before []) ≡ drafted profile syncookies routes limits timeouts (before ++ t ∷ []) []
+next_table profile syncookies routes limits timeouts before rest t h =
+    ap (λ (n : Named). with_tables n (drafted profile syncookies routes limits timeouts before [])) (defining_new before t (new_name before rest t h))

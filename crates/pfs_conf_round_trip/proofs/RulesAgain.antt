@@ -25,6 +25,7 @@ use Rattle.pfs_conf_values.specs.declared.items.Item.{Item}
 use Rattle.pfs_conf_values.specs.declared.items.Rule.{Rule}
 use Rattle.pfs_conf_values.specs.declared.limits.Limits.{Limits}
 use Rattle.pfs_conf_values.specs.declared.profiles.Profile.{Profile}
+use Rattle.pfs_conf_values.specs.declared.routes.Route.{Route}
 use Rattle.pfs_conf_values.specs.declared.syncookies.Syncookies.{Syncookies}
 use Rattle.pfs_conf_values.specs.declared.tables.TableDef.{TableDef}
 use Rattle.pfs_conf_filters.specs.Reading.{all_hosts, given_hosts, side}
@@ -68,11 +69,11 @@ record AreAll (tables : List TableDef) (d : Drafted) : Type 0 where
   number : (t : TableNo) → t.0 < length tables → number_of_table (table_said tables t) d ≡ t.0
   name : (t : TableNo) → t.0 < length tables → with_name (table_said tables t) d ≡ d
 
-are_all : (profile : Profile) (syncookies : Syncookies) (limits : Limits) (timeouts : List (Option ℕ)) (tables : List TableDef) (items : List Item) → AreNumbered tables
-    → AreAll tables (drafted profile syncookies limits timeouts tables items)
-are_all profile syncookies limits timeouts tables items h = record {
+are_all : (profile : Profile) (syncookies : Syncookies) (routes : List Route) (limits : Limits) (timeouts : List (Option ℕ)) (tables : List TableDef) (items : List Item) → AreNumbered tables
+    → AreAll tables (drafted profile syncookies routes limits timeouts tables items)
+are_all profile syncookies routes limits timeouts tables items h = record {
   number = λ t lt. numbered_so tables t.0 h lt;
-  name = λ t lt. named_again profile syncookies limits timeouts tables items t lt;
+  name = λ t lt. named_again profile syncookies routes limits timeouts tables items t lt;
 }
 
 -- naming the tables of hosts changes nothing, and each host is the same again
@@ -178,11 +179,11 @@ action_name tables d k (action.Keep o) h = overload_name tables d k o.overload h
 -- ---- statements
 
 -- the line of a rule means the rule again
-pub rule_again : (profile : Profile) (syncookies : Syncookies) (limits : Limits) (timeouts : List (Option ℕ)) (tables : List TableDef) (items : List Item) (r : Rule) → AreNumbered tables
-    → IsRule (length tables) r → rule_said (rule_phrase tables r) (drafted profile syncookies limits timeouts tables items) ≡ r
-rule_again profile syncookies limits timeouts tables items r distinct h =
-    let d = drafted profile syncookies limits timeouts tables items in
-    let k = are_all profile syncookies limits timeouts tables items distinct in
+pub rule_again : (profile : Profile) (syncookies : Syncookies) (routes : List Route) (limits : Limits) (timeouts : List (Option ℕ)) (tables : List TableDef) (items : List Item) (r : Rule) → AreNumbered tables
+    → IsRule (length tables) r → rule_said (rule_phrase tables r) (drafted profile syncookies routes limits timeouts tables items) ≡ r
+rule_again profile syncookies routes limits timeouts tables items r distinct h =
+    let d = drafted profile syncookies routes limits timeouts tables items in
+    let k = are_all profile syncookies routes limits timeouts tables items distinct in
     let a : rule_action (rule_phrase tables r) d ≡ r.action =
     ap (λ (e : Drafted). action_of (verb_said r.action) (state_said tables r.action) (number_overload (state_options (state_said tables r.action)).overload e)) (hosts_name tables d k r.filter h.filter)
     ∙ action_again tables d k r.action h.action in
@@ -193,23 +194,23 @@ rule_again profile syncookies limits timeouts tables items r distinct h =
     ruled f a = record { quick = r.quick; filter = f; action = a }
 
 -- and names no other table
-pub rule_name : (profile : Profile) (syncookies : Syncookies) (limits : Limits) (timeouts : List (Option ℕ)) (tables : List TableDef) (items : List Item) (r : Rule) → AreNumbered tables
-    → IsRule (length tables) r → name_rule (rule_phrase tables r) (drafted profile syncookies limits timeouts tables items) ≡ drafted profile syncookies limits timeouts tables items
-rule_name profile syncookies limits timeouts tables items r distinct h =
-    let d = drafted profile syncookies limits timeouts tables items in
-    let k = are_all profile syncookies limits timeouts tables items distinct in
+pub rule_name : (profile : Profile) (syncookies : Syncookies) (routes : List Route) (limits : Limits) (timeouts : List (Option ℕ)) (tables : List TableDef) (items : List Item) (r : Rule) → AreNumbered tables
+    → IsRule (length tables) r → name_rule (rule_phrase tables r) (drafted profile syncookies routes limits timeouts tables items) ≡ drafted profile syncookies routes limits timeouts tables items
+rule_name profile syncookies routes limits timeouts tables items r distinct h =
+    let d = drafted profile syncookies routes limits timeouts tables items in
+    let k = are_all profile syncookies routes limits timeouts tables items distinct in
     ap (name_overload (state_options (state_said tables r.action)).overload) (hosts_name tables d k r.filter h.filter) ∙ action_name tables d k r.action h.action
 
-pub anchor_again : (profile : Profile) (syncookies : Syncookies) (limits : Limits) (timeouts : List (Option ℕ)) (tables : List TableDef) (items : List Item) (a : Anchor) → AreNumbered tables
-    → IsAnchor (length tables) a → anchor_said (anchor_phrase tables a) (drafted profile syncookies limits timeouts tables items) ≡ a
-anchor_again profile syncookies limits timeouts tables items a distinct h =
-    let d = drafted profile syncookies limits timeouts tables items in
-    ap (λ (f : Filter). record { name = a.name; quick = a.quick; filter = f }) (filter_again tables d (are_all profile syncookies limits timeouts tables items distinct) a.quick a.filter h.filter)
+pub anchor_again : (profile : Profile) (syncookies : Syncookies) (routes : List Route) (limits : Limits) (timeouts : List (Option ℕ)) (tables : List TableDef) (items : List Item) (a : Anchor) → AreNumbered tables
+    → IsAnchor (length tables) a → anchor_said (anchor_phrase tables a) (drafted profile syncookies routes limits timeouts tables items) ≡ a
+anchor_again profile syncookies routes limits timeouts tables items a distinct h =
+    let d = drafted profile syncookies routes limits timeouts tables items in
+    ap (λ (f : Filter). record { name = a.name; quick = a.quick; filter = f }) (filter_again tables d (are_all profile syncookies routes limits timeouts tables items distinct) a.quick a.filter h.filter)
 
-pub anchor_name : (profile : Profile) (syncookies : Syncookies) (limits : Limits) (timeouts : List (Option ℕ)) (tables : List TableDef) (items : List Item) (a : Anchor) → AreNumbered tables
-    → IsAnchor (length tables) a → name_hosts (anchor_phrase tables a).parameters.hosts (drafted profile syncookies limits timeouts tables items) ≡ drafted profile syncookies limits timeouts tables items
-anchor_name profile syncookies limits timeouts tables items a distinct h =
-    hosts_name tables (drafted profile syncookies limits timeouts tables items) (are_all profile syncookies limits timeouts tables items distinct) a.filter h.filter
+pub anchor_name : (profile : Profile) (syncookies : Syncookies) (routes : List Route) (limits : Limits) (timeouts : List (Option ℕ)) (tables : List TableDef) (items : List Item) (a : Anchor) → AreNumbered tables
+    → IsAnchor (length tables) a → name_hosts (anchor_phrase tables a).parameters.hosts (drafted profile syncookies routes limits timeouts tables items) ≡ drafted profile syncookies routes limits timeouts tables items
+anchor_name profile syncookies routes limits timeouts tables items a distinct h =
+    hosts_name tables (drafted profile syncookies routes limits timeouts tables items) (are_all profile syncookies routes limits timeouts tables items distinct) a.filter h.filter
 
 -- ---- load rules
 

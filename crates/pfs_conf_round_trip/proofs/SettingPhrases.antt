@@ -100,7 +100,7 @@ pub record SettingLine (d : Drafted) (ts : List Tok) (e : Drafted) (left : List 
   pub ended : Word key.LineEnd before_end left
 
 -- the text of a list that is followed by the line end
-ended_text : (x : List ℕ) (xs : List (List ℕ)) (more : List ℕ)
+pub ended_text : (x : List ℕ) (xs : List (List ℕ)) (more : List ℕ)
     → (bracketed_list (codes " { ") (codes " }") (x ∷ xs) ++ codes "\n") ++ more ≡ bracketed_list (codes " { ") (codes " }") (x ∷ xs) ++ 10 ∷ more
 ended_text x xs more = append_assoc (bracketed_list (codes " { ") (codes " }") (x ∷ xs)) (codes "\n") more
 

@@ -24,6 +24,7 @@ use Rattle.pfs_conf_values.specs.declared.items.ItemKind.{ItemKind}
 use Rattle.pfs_conf_values.specs.declared.items.ItemKind.TheVariants as what
 use Rattle.pfs_conf_values.specs.declared.limits.Limits.{Limits}
 use Rattle.pfs_conf_values.specs.declared.profiles.Profile.{Profile}
+use Rattle.pfs_conf_values.specs.declared.routes.Route.{Route}
 use Rattle.pfs_conf_values.specs.declared.syncookies.Syncookies.{Syncookies}
 use Rattle.pfs_conf_values.specs.declared.tables.TableDef.{TableDef}
 use Rattle.pfs_conf.specs.Grammar.{StatementOf, anchor, close, rule, table}
@@ -94,22 +95,22 @@ table_reads d t line lines more h new =
     ) (parts_read t.is_const t.entries line more h.networks h.distinct) (line_end true line more)))
 
 -- the tables that are left, after those that are defined
-pub tables_read : (whole : Drafted) (profile : Profile) (syncookies : Syncookies) (limits : Limits) (timeouts : List (Option ℕ)) (before rest : List TableDef) (more : List ℕ) → All IsTable rest
-    → IsDistinct bytes_eq (table_names (before ++ rest)) → EndsFrom whole (drafted profile syncookies limits timeouts (before ++ rest) []) 0 more
-    → EndsFrom whole (drafted profile syncookies limits timeouts before []) 0 (flat_map table_text rest ++ more)
-tables_read whole profile syncookies limits timeouts before [] more h distinct e line lines =
-    subst (λ (z : List TableDef). Ends whole (reached (drafted profile syncookies limits timeouts z []) 0 lines) (tokens 0 false line more)) (append-nil before) (e line lines)
-tables_read whole profile syncookies limits timeouts before (t ∷ rest) more h distinct e line lines =
+pub tables_read : (whole : Drafted) (profile : Profile) (syncookies : Syncookies) (routes : List Route) (limits : Limits) (timeouts : List (Option ℕ)) (before rest : List TableDef) (more : List ℕ) → All IsTable rest
+    → IsDistinct bytes_eq (table_names (before ++ rest)) → EndsFrom whole (drafted profile syncookies routes limits timeouts (before ++ rest) []) 0 more
+    → EndsFrom whole (drafted profile syncookies routes limits timeouts before []) 0 (flat_map table_text rest ++ more)
+tables_read whole profile syncookies routes limits timeouts before [] more h distinct e line lines =
+    subst (λ (z : List TableDef). Ends whole (reached (drafted profile syncookies routes limits timeouts z []) 0 lines) (tokens 0 false line more)) (append-nil before) (e line lines)
+tables_read whole profile syncookies routes limits timeouts before (t ∷ rest) more h distinct e line lines =
     let joined : (before ++ t ∷ []) ++ rest ≡ before ++ t ∷ rest = append_assoc before (t ∷ []) rest in
     let D : List TableDef → Type 0 = λ z. IsDistinct bytes_eq (table_names z) in
-    let E : List TableDef → Type 0 = λ z. EndsFrom whole (drafted profile syncookies limits timeouts z []) 0 more in
+    let E : List TableDef → Type 0 = λ z. EndsFrom whole (drafted profile syncookies routes limits timeouts z []) 0 more in
     let left = flat_map table_text rest ++ more in
-    let others = tables_read whole profile syncookies limits timeouts (before ++ t ∷ []) rest more (All-tail IsTable t rest h) (subst D (sym joined) distinct) (subst E (sym joined) e) (suc line) lines in
+    let others = tables_read whole profile syncookies routes limits timeouts (before ++ t ∷ []) rest more (All-tail IsTable t rest h) (subst D (sym joined) distinct) (subst E (sym joined) e) (suc line) lines in
     let S : Drafted → Type 0 = λ z. Ends whole (reached z 0 lines) (tokens 0 false (suc line) left) in
-    let P : List ℕ → Type 0 = λ z. Ends whole (reached (drafted profile syncookies limits timeouts before []) 0 lines) (tokens 0 false line z) in
+    let P : List ℕ → Type 0 = λ z. Ends whole (reached (drafted profile syncookies routes limits timeouts before []) 0 lines) (tokens 0 false line z) in
     subst P (sym (append_assoc (table_text t) (flat_map table_text rest) more))
-    (stated (table_reads (drafted profile syncookies limits timeouts before []) t line lines left (All-head IsTable t rest h) (next_new profile syncookies limits timeouts before rest t distinct))
-    (subst S (sym (next_table profile syncookies limits timeouts before rest t distinct)) others))
+    (stated (table_reads (drafted profile syncookies routes limits timeouts before []) t line lines left (All-head IsTable t rest h) (next_new profile syncookies routes limits timeouts before rest t distinct))
+    (subst S (sym (next_table profile syncookies routes limits timeouts before rest t distinct)) others))
 
 -- ---- items
 
@@ -134,65 +135,65 @@ end_reads : (d : Drafted) → EndsFrom d d 0 []
 end_reads d line lines = record { said = reached d 0 lines; left = tokens 0 false line []; statements = stands (ap (λ (z : List Tok). (head z).key) (end_then line)); all_closed = refl; says = refl }
 
 -- the line of an item is read, and the item is appended to the others
-item_line : (profile : Profile) (syncookies : Syncookies) (limits : Limits) (timeouts : List (Option ℕ)) (tables : List TableDef) (before : List Item) (i : Item) (line : ℕ) (lines : List ℕ) (more : List ℕ)
+item_line : (profile : Profile) (syncookies : Syncookies) (routes : List Route) (limits : Limits) (timeouts : List (Option ℕ)) (tables : List TableDef) (before : List Item) (i : Item) (line : ℕ) (lines : List ℕ) (more : List ℕ)
     → All IsTable tables → AreNumbered tables → IsItem (length tables) i → length before < 10000 → repeats_name i before ≡ false
-    → (ls : List ℕ) × StatementOf (reached (drafted profile syncookies limits timeouts tables before) i.depth lines) (tokens 0 false line (what_text tables i.what ++ more))
-    (reached (drafted profile syncookies limits timeouts tables (before ++ i ∷ [])) (next_depth i) ls) (tokens 0 false (suc line) more)
-item_line profile syncookies limits timeouts tables before i line lines more t names h few fresh = go i.depth i.what h fresh
+    → (ls : List ℕ) × StatementOf (reached (drafted profile syncookies routes limits timeouts tables before) i.depth lines) (tokens 0 false line (what_text tables i.what ++ more))
+    (reached (drafted profile syncookies routes limits timeouts tables (before ++ i ∷ [])) (next_depth i) ls) (tokens 0 false (suc line) more)
+item_line profile syncookies routes limits timeouts tables before i line lines more t names h few fresh = go i.depth i.what h fresh
   where
     d : Drafted
-    d = drafted profile syncookies limits timeouts tables before
+    d = drafted profile syncookies routes limits timeouts tables before
 
     item : ℕ → ItemKind → Item
     item depth w = record { depth = depth; what = w }
 
     go : (depth : ℕ) (w : ItemKind) → IsItemAt (length tables) depth w → repeats_name (item depth w) before ≡ false
         → (ls : List ℕ) × StatementOf (reached d depth lines) (tokens 0 false line (what_text tables w ++ more))
-        (reached (drafted profile syncookies limits timeouts tables (before ++ item depth w ∷ [])) (next_depth (item depth w)) ls) (tokens 0 false (suc line) more)
+        (reached (drafted profile syncookies routes limits timeouts tables (before ++ item depth w ∷ [])) (next_depth (item depth w)) ls) (tokens 0 false (suc line) more)
     go depth (what.Rule r) k f =
         let ts = tokens 0 false line (rule_text tables r ++ more) in
         let S : Drafted → Type 0 = λ z. StatementOf (reached d depth lines) ts (reached z depth (lines ++ (head ts).line ∷ [])) (tokens 0 false (suc line) more) in
-        let same : with_item (item depth (what.Rule (rule_said (rule_phrase tables r) d))) (name_rule (rule_phrase tables r) d) ≡ drafted profile syncookies limits timeouts tables (before ++ item depth (what.Rule r) ∷ []) =
-        ap (λ (x : Rule). with_item (item depth (what.Rule x)) (name_rule (rule_phrase tables r) d)) (rule_again profile syncookies limits timeouts tables before r names k.1)
-        ∙ ap (with_item (item depth (what.Rule r))) (rule_name profile syncookies limits timeouts tables before r names k.1) in
+        let same : with_item (item depth (what.Rule (rule_said (rule_phrase tables r) d))) (name_rule (rule_phrase tables r) d) ≡ drafted profile syncookies routes limits timeouts tables (before ++ item depth (what.Rule r) ∷ []) =
+        ap (λ (x : Rule). with_item (item depth (what.Rule x)) (name_rule (rule_phrase tables r) d)) (rule_again profile syncookies routes limits timeouts tables before r names k.1)
+        ∙ ap (with_item (item depth (what.Rule r))) (rule_name profile syncookies routes limits timeouts tables before r names k.1) in
         (lines ++ (head ts).line ∷ [], subst S same (rule (rule_phrase tables r) (rule_reads tables r line more t k.1) (rule_kept tables r d k.1 few)))
     go depth (what.Anchor a) k f =
         let ts = tokens 0 false line (anchor_text tables a ++ more) in
         let S : Drafted → Type 0 = λ z. StatementOf (reached d depth lines) ts (reached z (depth + 1) (lines ++ (head ts).line ∷ [])) (tokens 0 false (suc line) more) in
-        let same : with_item (item depth (what.Anchor (anchor_said (anchor_phrase tables a) d))) (name_hosts (anchor_phrase tables a).parameters.hosts d) ≡ drafted profile syncookies limits timeouts tables (before ++ item depth (what.Anchor a) ∷ []) =
-        ap (λ (x : Anchor). with_item (item depth (what.Anchor x)) (name_hosts (anchor_phrase tables a).parameters.hosts d)) (anchor_again profile syncookies limits timeouts tables before a names k.1)
-        ∙ ap (with_item (item depth (what.Anchor a))) (anchor_name profile syncookies limits timeouts tables before a names k.1) in (
+        let same : with_item (item depth (what.Anchor (anchor_said (anchor_phrase tables a) d))) (name_hosts (anchor_phrase tables a).parameters.hosts d) ≡ drafted profile syncookies routes limits timeouts tables (before ++ item depth (what.Anchor a) ∷ []) =
+        ap (λ (x : Anchor). with_item (item depth (what.Anchor x)) (name_hosts (anchor_phrase tables a).parameters.hosts d)) (anchor_again profile syncookies routes limits timeouts tables before a names k.1)
+        ∙ ap (with_item (item depth (what.Anchor a))) (anchor_name profile syncookies routes limits timeouts tables before a names k.1) in (
           lines ++ (head ts).line ∷ [],
           subst S same (anchor (anchor_phrase tables a) (anchor_reads tables (reached d depth lines) a line more t k.1 f) (anchor_kept tables a depth d k.1 k.0 few) (line_end true line more)),
         )
 
 -- the items that are left, after those that are read
-pub items_read : (profile : Profile) (syncookies : Syncookies) (limits : Limits) (timeouts : List (Option ℕ)) (tables : List TableDef) (before rest : List Item) (depth : ℕ) → All IsTable tables
+pub items_read : (profile : Profile) (syncookies : Syncookies) (routes : List Route) (limits : Limits) (timeouts : List (Option ℕ)) (tables : List TableDef) (before rest : List Item) (depth : ℕ) → All IsTable tables
     → AreNumbered tables → All (IsItem (length tables)) rest → length (before ++ rest) ≤ 10000 → IsPreorder depth rest → AreNamedOnce before rest
-    → EndsFrom (drafted profile syncookies limits timeouts tables (before ++ rest)) (drafted profile syncookies limits timeouts tables before) depth (items_text tables depth rest)
-items_read profile syncookies limits timeouts tables before [] depth t names h few order once line lines =
-    let whole = drafted profile syncookies limits timeouts tables (before ++ []) in
-    let d = drafted profile syncookies limits timeouts tables before in
+    → EndsFrom (drafted profile syncookies routes limits timeouts tables (before ++ rest)) (drafted profile syncookies routes limits timeouts tables before) depth (items_text tables depth rest)
+items_read profile syncookies routes limits timeouts tables before [] depth t names h few order once line lines =
+    let whole = drafted profile syncookies routes limits timeouts tables (before ++ []) in
+    let d = drafted profile syncookies routes limits timeouts tables before in
     let none : depth - depth ≡ 0 = omega arith in
     let E : ℕ → Type 0 = λ z. EndsFrom whole d z [] in
-    let D : List Item → Type 0 = λ z. EndsFrom (drafted profile syncookies limits timeouts tables z) d 0 [] in
+    let D : List Item → Type 0 = λ z. EndsFrom (drafted profile syncookies routes limits timeouts tables z) d 0 [] in
     let P : List ℕ → Type 0 = λ z. Ends whole (reached d depth lines) (tokens 0 false line z) in
     subst P (append-nil (braces_text depth))
     (braces_read whole d depth depth [] (omega arith) (subst E (sym none) (subst D (sym (append-nil before)) (end_reads d))) line lines)
-items_read profile syncookies limits timeouts tables before (i ∷ rest) depth t names h few order once line lines =
-    let whole = drafted profile syncookies limits timeouts tables (before ++ i ∷ rest) in
-    let d = drafted profile syncookies limits timeouts tables before in
+items_read profile syncookies routes limits timeouts tables before (i ∷ rest) depth t names h few order once line lines =
+    let whole = drafted profile syncookies routes limits timeouts tables (before ++ i ∷ rest) in
+    let d = drafted profile syncookies routes limits timeouts tables before in
     let left = items_text tables (next_depth i) rest in
     let up : depth - (depth - i.depth) ≡ i.depth = omega (arith, order.0) in
     let count : length before < 10000 = omega (arith, few, length-append before (i ∷ rest)) in
     let joined : (before ++ i ∷ []) ++ rest ≡ before ++ i ∷ rest = append_assoc before (i ∷ []) rest in
-    let W : List Item → Type 0 = λ z. EndsFrom (drafted profile syncookies limits timeouts tables z) (drafted profile syncookies limits timeouts tables (before ++ i ∷ [])) (next_depth i) left in
+    let W : List Item → Type 0 = λ z. EndsFrom (drafted profile syncookies routes limits timeouts tables z) (drafted profile syncookies routes limits timeouts tables (before ++ i ∷ [])) (next_depth i) left in
     let others : W (before ++ i ∷ rest) =
     subst W joined
-    (items_read profile syncookies limits timeouts tables (before ++ i ∷ []) rest (next_depth i) t names (All-tail (IsItem (length tables)) i rest h)
+    (items_read profile syncookies routes limits timeouts tables (before ++ i ∷ []) rest (next_depth i) t names (All-tail (IsItem (length tables)) i rest h)
     (subst (λ (z : List Item). length z ≤ 10000) (sym joined) few) order.1 once.1) in
     let E : ℕ → Type 0 = λ z. EndsFrom whole d z (what_text tables i.what ++ left) in
     braces_read whole d (depth - i.depth) depth (what_text tables i.what ++ left) (omega arith)
     (subst E (sym up) (λ l ls.
-    let s = item_line profile syncookies limits timeouts tables before i l ls left t names (All-head (IsItem (length tables)) i rest h) count once.0 in
+    let s = item_line profile syncookies routes limits timeouts tables before i l ls left t names (All-head (IsItem (length tables)) i rest h) count once.0 in
     stated s.1 (others (suc l) s.0))) line lines

@@ -103,17 +103,17 @@ network_sym p q =
 prefixes : List TextEntry → List Network
 prefixes es = map (λ (e : TextEntry). e.0) es
 
--- what holds of all that follow, holds of this one
-of_this : (P : Network → Type 0) (before rest : List TextEntry) (e : TextEntry) → AllByRecursion P (map (λ (x : TextEntry). x.0) (before ++ e ∷ rest)) → P e.0
-of_this P [] rest e h = h.0
-of_this P (x ∷ before) rest e h = of_this P before rest e h.1
+-- what holds of the prefixes of all that follow, holds of that of this one
+pub of_this : {A : Type 0} (prefix : A → Network) (P : Network → Type 0) (before rest : List A) (e : A) → AllByRecursion P (map prefix (before ++ e ∷ rest)) → P (prefix e)
+of_this prefix P [] rest e h = h.0
+of_this prefix P (x ∷ before) rest e h = of_this prefix P before rest e h.1
 
 -- a prefix that differs from all before has no sign yet
 is_new : (before rest : List TextEntry) (e : TextEntry) → IsDistinct same_network (map (λ (x : TextEntry). x.0) (before ++ e ∷ rest)) → sign_of before e.0 ≡ None
 is_new [] rest e h = refl
 is_new (x ∷ before) rest e h =
     let names = map (λ (y : TextEntry). y.0) (before ++ e ∷ rest) in
-    let apart : same_network x.0 e.0 ≡ false = of_this (λ y. same_network x.0 y ≡ false) before rest e (IsDistinct-head same_network x.0 names h) in
+    let apart : same_network x.0 e.0 ≡ false = of_this (λ (z : TextEntry). z.0) (λ y. same_network x.0 y ≡ false) before rest e (IsDistinct-head same_network x.0 names h) in
     cond-false (same_network e.0 x.0) (Some x.1) (sign_of before e.0) (network_sym e.0 x.0 ∙ apart) ∙ is_new before rest e (IsDistinct-tail same_network x.0 names h)
 
 entries_chain : (before rest : List TextEntry) → All (λ (e : TextEntry). IsNetwork e.0) rest → IsDistinct same_network (map (λ (e : TextEntry). e.0) (before ++ rest))

@@ -5,19 +5,22 @@ use Rattle.std.specs.List.{flat_map, list_any, position_or_len}
 use Rattle.std.specs.Option.{option_map}
 use Rattle.std.proofs.lemmas.Bool.{cond-true, cond-false, le-ltb, lt-ltb}
 use Rattle.std.proofs.lemmas.Bool.Decides.{nat_tests}
+use Rattle.std.proofs.lemmas.List.Elements.{All-head}
 use Rattle.pfs_conf_tokens.specs.declared.refusals.LoadRule.TheVariants as load_rule
 use Rattle.pfs_conf_tokens.specs.Lexis.{tokens, tokens_of}
 use Rattle.pfs_conf_tokens.specs.Tokens.{Tok}
 use Rattle.pfs_conf_values.specs.Configs.{Conf, conf_of, entries_in, is_adaptive, needs_profile, overloads_const, timeout_of}
 use Rattle.pfs_conf_values.specs.Invariants.{IsConfig}
-use Rattle.pfs_conf_settings.specs.Drafts.{Drafted, const_overload, empty_draft, conf_of_draft, has_broken_pair, has_too_many_entries, has_too_many_tables, has_unprofiled_cookies, unprofiled}
+use Rattle.pfs_conf_settings.specs.Drafts.{Drafted, const_overload, empty_draft, conf_of_draft, has_broken_pair, has_too_many_entries, has_too_many_tables, has_unprofiled_cookies, has_unprofiled_routes, unprofiled}
 use Rattle.pfs_conf_values.specs.Timeouts.{resolved_timeouts, timeout_names}
 use Rattle.pfs_conf_values.specs.Settled.{settled_items}
+use Rattle.pfs_conf_values.specs.Routes.{AreRoutes, IsRoute}
 use Rattle.pfs_conf_values.specs.Syncookies.{AreSyncookies}
 use Rattle.pfs_conf_values.specs.declared.items.Item.{Item}
 use Rattle.pfs_conf_values.specs.declared.limits.Limits.{Limits}
 use Rattle.pfs_conf_values.specs.declared.profiles.Profile.{Profile}
 use Rattle.pfs_conf_values.specs.declared.profiles.Profile.TheVariants as profile
+use Rattle.pfs_conf_values.specs.declared.routes.Route.{Route}
 use Rattle.pfs_conf_values.specs.declared.syncookies.Syncookies.{Syncookies}
 use Rattle.pfs_conf_values.specs.declared.syncookies.Syncookies.TheVariants as variant
 use Rattle.pfs_conf_values.specs.declared.timeouts.TimeoutName.{TimeoutName}
@@ -28,11 +31,12 @@ use Rattle.pfs_conf.specs.Reads.{Reads}
 use Rattle.pfs_conf.specs.Statements.{at_line_0, cookies_break, first_reported, line_of, nothing, text_breaks}
 use Rattle.pfs_conf.specs.declared.progress.Progress.{Progress}
 use Rattle.pfs_conf.proofs.LoadLaws.{one_text}
-use Rattle.pfs_conf_show.specs.Settings.{profile_text, syncookies_text, timeouts_text}
+use Rattle.pfs_conf_show.specs.Settings.{profile_text, routes_text, syncookies_text, timeouts_text}
 use Rattle.pfs_conf_show.specs.Tables.{table_text}
 use Rattle.pfs_conf_show.specs.Texts.{items_text, text_of}
 use Rattle.pfs_conf_round_trip.specs.Again.{CanBeSaid}
 use Rattle.pfs_conf_round_trip.proofs.Numbering.{AreNumbered, drafted}
+use Rattle.pfs_conf_round_trip.proofs.RoutePhrases.{route_line, routes_line}
 use Rattle.pfs_conf_round_trip.proofs.SettingPhrases.{AreGiven, SettingLine, limits_line, profile_line, set_all, timeouts_line, value_in}
 use Rattle.pfs_conf_round_trip.proofs.SyncookiePhrases.{adaptive_line, always_line}
 use Rattle.pfs_conf_round_trip.proofs.Statements.{Ends, EndsFrom, items_read, reached, stated, tables_read}
@@ -96,30 +100,30 @@ no_position p items h =
     let at = none_found p items h in
     cond-false (nat_lt (position_or_len p items) (length items)) _ _ (le-ltb (position_or_len p items) (length items) (omega (arith, at)))
 
-none_of_texts : (p : Progress) (v : Option ℕ) (a b u : Bool) (s : Option ℕ) (c : Bool) → v ≡ None → a ≡ false → b ≡ false → u ≡ false → s ≡ None → c ≡ false
+none_of_texts : (p : Progress) (v : Option ℕ) (a b u r : Bool) (s : Option ℕ) (c : Bool) → v ≡ None → a ≡ false → b ≡ false → u ≡ false → r ≡ false → s ≡ None → c ≡ false
     → first_reported (
     (load_rule.ConstOverload, option_map (line_of p) v) ∷ (load_rule.AdaptivePair, at_line_0 a) ∷ (load_rule.TooManyTables, at_line_0 b)
-    ∷ (load_rule.NeedsProfile, at_line_0 u) ∷ (load_rule.NeedsProfile, option_map (line_of p) s) ∷ (load_rule.TooManyEntries, at_line_0 c) ∷ []
+    ∷ (load_rule.NeedsProfile, at_line_0 u) ∷ (load_rule.NeedsProfile, at_line_0 r) ∷ (load_rule.NeedsProfile, option_map (line_of p) s) ∷ (load_rule.TooManyEntries, at_line_0 c) ∷ []
     ) ≡ None
-none_of_texts p v a b u s c h i j g k l = rw (h, i, j, g, k, l) refl
+none_of_texts p v a b u r s c h i j g m k l = rw (h, i, j, g, m, k, l) refl
 
-text_kept : (p : Progress) (d : Drafted) → p.draft ≡ d → const_overload d ≡ None → has_broken_pair d ≡ false → has_too_many_tables d ≡ false → has_unprofiled_cookies d ≡ false → unprofiled d ≡ None
+text_kept : (p : Progress) (d : Drafted) → p.draft ≡ d → const_overload d ≡ None → has_broken_pair d ≡ false → has_too_many_tables d ≡ false → has_unprofiled_cookies d ≡ false → has_unprofiled_routes d ≡ false → unprofiled d ≡ None
     → has_too_many_entries d ≡ false → text_breaks p ≡ None
-text_kept p d e overload pair tables cookied profiled entries =
-    none_of_texts p _ _ _ _ _ _ (ap const_overload e ∙ overload) (ap has_broken_pair e ∙ pair) (ap has_too_many_tables e ∙ tables) (ap has_unprofiled_cookies e ∙ cookied) (ap unprofiled e ∙ profiled)
+text_kept p d e overload pair tables cookied routed profiled entries =
+    none_of_texts p _ _ _ _ _ _ _ (ap const_overload e ∙ overload) (ap has_broken_pair e ∙ pair) (ap has_too_many_tables e ∙ tables) (ap has_unprofiled_cookies e ∙ cookied) (ap has_unprofiled_routes e ∙ routed) (ap unprofiled e ∙ profiled)
     (ap has_too_many_entries e ∙ entries)
 
 -- ---- the text
 
 -- what the text says
 abbrev whole : Conf → Drafted
-whole conf = drafted conf.profile conf.syncookies conf.limits (all_set conf.timeouts) conf.tables conf.items
+whole conf = drafted conf.profile conf.syncookies conf.routes conf.limits (all_set conf.timeouts) conf.tables conf.items
 
 -- what it says is the configuration
 whole_again : (conf : Conf) → IsConfig conf → conf_of_draft (whole conf) ≡ conf
 whole_again conf h =
-    ap (λ (ts : List ℕ). conf_of conf.profile conf.syncookies conf.limits ts conf.tables (settled_items conf.profile conf.items)) (timeouts_again conf.profile conf.limits.states conf.timeouts h.size)
-    ∙ ap (conf_of conf.profile conf.syncookies conf.limits conf.timeouts conf.tables) h.settled
+    ap (λ (ts : List ℕ). conf_of conf.profile conf.syncookies conf.routes conf.limits ts conf.tables (settled_items conf.profile conf.items)) (timeouts_again conf.profile conf.limits.states conf.timeouts h.size)
+    ∙ ap (conf_of conf.profile conf.syncookies conf.routes conf.limits conf.timeouts conf.tables) h.settled
 
 setting_read : (d e : Drafted) (lines : List ℕ) (ts left : List Tok) → SettingLine d ts e left → StatementOf (reached d 0 lines) ts (reached e 0 lines) left
 setting_read d e lines ts left s = set refl s.set s.setting s.ended
@@ -128,15 +132,15 @@ setting_read d e lines ts left s = set refl s.set s.setting s.ended
 abbrev limited : Conf → Drafted
 limited conf = record empty_draft { limits = conf.limits }
 
-settings_set : (conf : Conf) → set_all timeout_names (value_in conf.timeouts) (limited conf) ≡ drafted profile.Own variant.Never conf.limits (all_set conf.timeouts) [] []
+settings_set : (conf : Conf) → set_all timeout_names (value_in conf.timeouts) (limited conf) ≡ drafted profile.Own variant.Never [] conf.limits (all_set conf.timeouts) [] []
 settings_set conf = refl
 
 -- the profile is set, if the text has one
-profile_reads : (whole : Drafted) (p : Profile) (limits : Limits) (timeouts : List (Option ℕ)) (more : List ℕ) → EndsFrom whole (drafted p variant.Never limits timeouts [] []) 0 more
-    → EndsFrom whole (drafted profile.Own variant.Never limits timeouts [] []) 0 (profile_text p ++ more)
+profile_reads : (whole : Drafted) (p : Profile) (limits : Limits) (timeouts : List (Option ℕ)) (more : List ℕ) → EndsFrom whole (drafted p variant.Never [] limits timeouts [] []) 0 more
+    → EndsFrom whole (drafted profile.Own variant.Never [] limits timeouts [] []) 0 (profile_text p ++ more)
 profile_reads whole profile.Own limits timeouts more e line lines = e line lines
 profile_reads whole profile.OpenBsd74 limits timeouts more e line lines =
-    stated (setting_read (drafted profile.Own variant.Never limits timeouts [] []) (drafted profile.OpenBsd74 variant.Never limits timeouts [] []) lines _ _ (profile_line (drafted profile.Own variant.Never limits timeouts [] []) line more))
+    stated (setting_read (drafted profile.Own variant.Never [] limits timeouts [] []) (drafted profile.OpenBsd74 variant.Never [] limits timeouts [] []) lines _ _ (profile_line (drafted profile.Own variant.Never [] limits timeouts [] []) line more))
     (e (suc line) lines)
 
 -- shares that break no load rule
@@ -145,11 +149,22 @@ shares_kept start end h = let below = lt-ltb end start h in rw below refl
 
 -- SYN cookies are set, if the text has any
 cookies_read : (whole : Drafted) (p : Profile) (s : Syncookies) (limits : Limits) (timeouts : List (Option ℕ)) (more : List ℕ) → AreSyncookies s
-    → EndsFrom whole (drafted p s limits timeouts [] []) 0 more → EndsFrom whole (drafted p variant.Never limits timeouts [] []) 0 (syncookies_text s ++ more)
+    → EndsFrom whole (drafted p s [] limits timeouts [] []) 0 more → EndsFrom whole (drafted p variant.Never [] limits timeouts [] []) 0 (syncookies_text s ++ more)
 cookies_read whole p variant.Never limits timeouts more h e line lines = e line lines
 cookies_read whole p variant.Always limits timeouts more h e line lines = stated (cookies variant.Always refl (always_line line more) refl) (e (suc line) lines)
 cookies_read whole p (variant.Adaptive start end) limits timeouts more h e line lines =
     stated (cookies (variant.Adaptive start end) refl (adaptive_line line start end more h.1 (omega (arith, h.0, h.1))) (shares_kept start end h.0)) (e (suc line) lines)
+
+-- routes are set, if the text has any
+routes_read : (whole : Drafted) (p : Profile) (s : Syncookies) (routes : List Route) (limits : Limits) (timeouts : List (Option ℕ)) (more : List ℕ) → AreRoutes routes
+    → EndsFrom whole (drafted p s routes limits timeouts [] []) 0 more → EndsFrom whole (drafted p s [] limits timeouts [] []) 0 (routes_text routes ++ more)
+routes_read whole p s [] limits timeouts more h e line lines = e line lines
+routes_read whole p s (r ∷ []) limits timeouts more h e line lines =
+    let d = drafted p s [] limits timeouts [] [] in
+    stated (setting_read d (drafted p s (r ∷ []) limits timeouts [] []) lines _ _ (route_line d r line more refl (All-head IsRoute r [] h.each))) (e (suc line) lines)
+routes_read whole p s (r ∷ q ∷ routes) limits timeouts more h e line lines =
+    let d = drafted p s [] limits timeouts [] [] in
+    stated (setting_read d (drafted p s (r ∷ q ∷ routes) limits timeouts [] []) lines _ _ (routes_line d r q routes line more refl h)) (e (suc line) lines)
 
 -- its tables have numbers
 numbered_tables : (conf : Conf) → IsConfig conf → AreNumbered conf.tables
@@ -159,15 +174,17 @@ text_ends : (conf : Conf) → IsConfig conf → timeout_of conf name.AdaptiveEnd
 text_ends conf h end =
     let items = items_text conf.tables 0 conf.items in
     let tables = flat_map table_text conf.tables ++ items in
-    let settings = syncookies_text conf.syncookies ++ tables in
+    let ways = routes_text conf.routes ++ tables in
+    let settings = syncookies_text conf.syncookies ++ ways in
     let behind = profile_text conf.profile ++ settings in
     let timeouts = timeouts_text conf.timeouts ++ behind in
-    let d = drafted profile.Own variant.Never conf.limits (all_set conf.timeouts) [] [] in
+    let d = drafted profile.Own variant.Never [] conf.limits (all_set conf.timeouts) [] [] in
     let read : EndsFrom (whole conf) d 0 behind =
     profile_reads (whole conf) conf.profile conf.limits (all_set conf.timeouts) settings
-    (cookies_read (whole conf) conf.profile conf.syncookies conf.limits (all_set conf.timeouts) tables h.syncookies
-    (tables_read (whole conf) conf.profile conf.syncookies conf.limits (all_set conf.timeouts) [] conf.tables items h.tables h.names
-    (items_read conf.profile conf.syncookies conf.limits (all_set conf.timeouts) conf.tables [] conf.items 0 h.tables (numbered_tables conf h) h.items h.few_items h.preorder h.anchors))) in
+    (cookies_read (whole conf) conf.profile conf.syncookies conf.limits (all_set conf.timeouts) ways h.syncookies
+    (routes_read (whole conf) conf.profile conf.syncookies conf.routes conf.limits (all_set conf.timeouts) tables h.routes
+    (tables_read (whole conf) conf.profile conf.syncookies conf.routes conf.limits (all_set conf.timeouts) [] conf.tables items h.tables h.names
+    (items_read conf.profile conf.syncookies conf.routes conf.limits (all_set conf.timeouts) conf.tables [] conf.items 0 h.tables (numbered_tables conf h) h.items h.few_items h.preorder h.anchors)))) in
     let E : Drafted → Type 0 = λ z. Ends (whole conf) (reached z 0 []) (tokens 0 false 3 behind) in
     stated (setting_read empty_draft (limited conf) [] _ _ (limits_line empty_draft conf.limits 1 timeouts h.limits))
     (stated (setting_read (limited conf) (set_all timeout_names (value_in conf.timeouts) (limited conf)) [] _ _ (timeouts_line (limited conf) conf.timeouts 2 behind (are_given conf h end)))
@@ -185,7 +202,7 @@ text_again conf h said =
         statements = e.statements;
         all_closed = e.all_closed;
         keeps = text_kept e.said (whole conf) e.says (no_position (overloads_const conf.tables) conf.items h.overloads) (ap not h.adaptive)
-            (le-ltb conf.limits.tables (length conf.tables) h.few_tables) h.cookies_profiled (no_position (needs_profile conf.profile) conf.items h.profiled) (le-ltb conf.limits.table_entries (entries_in conf.tables) h.few_entries);
+            (le-ltb conf.limits.tables (length conf.tables) h.few_tables) h.cookies_profiled h.routes_profiled (no_position (needs_profile conf.profile) conf.items h.profiled) (le-ltb conf.limits.table_entries (entries_in conf.tables) h.few_entries);
         says = ap conf_of_draft e.says ∙ whole_again conf h;
       };
     }

@@ -16,6 +16,7 @@ pub IsDraft_with_item : (d : Drafted) (i : Item) → IsDraft d → length d.item
     → repeats_name i d.items ≡ false → IsDraft (with_item i d)
 IsDraft_with_item d i k few order item fresh = record {
   syncookies = k.syncookies;
+  routes = k.routes;
   limits = k.limits;
   timeouts = k.timeouts;
   items = All-push (IsItem (length d.tables)) d.items i k.items item;
@@ -28,6 +29,7 @@ IsDraft_with_item d i k few order item fresh = record {
 pub IsDraft_with_tables : (d : Drafted) (n : Named) → IsDraft d → length d.tables ≤ length n.tables → IsDraft (with_tables n d)
 IsDraft_with_tables d n k more = record {
   syncookies = k.syncookies;
+  routes = k.routes;
   limits = k.limits;
   timeouts = k.timeouts;
   items = items-more (length d.tables) (length n.tables) more d.items k.items;
@@ -38,7 +40,7 @@ IsDraft_with_tables d n k more = record {
 
 -- a draft with other items
 abbrev pub with_items : List Item → Drafted → Drafted
-with_items items d = record { profile = d.profile; syncookies = d.syncookies; limits = d.limits; timeouts = d.timeouts; tables = d.tables; defined = d.defined; items = items }
+with_items items d = record { profile = d.profile; syncookies = d.syncookies; routes = d.routes; limits = d.limits; timeouts = d.timeouts; tables = d.tables; defined = d.defined; items = items }
 
 -- so the items after a push leave a draft, whether it was refused or not
 pub IsDraft_pushed : {E : Type 0} (d e : Drafted) (i : Item) (after : List Item) (r : Result (Unit {0}) E) → d ≡ e → IsDraft d

@@ -8,7 +8,7 @@ use Rattle.std.proofs.lemmas.List.{length-map}
 use Rattle.pfs_conf_values.specs.Configs.{is_adaptive, needs_profile, overloads_const, table_names, timeout_of}
 use Rattle.pfs_conf_values.specs.Invariants.{IsConfig, IsTable, is_seconds}
 use Rattle.pfs_conf_settings.specs.Invariants.{IsDraft}
-use Rattle.pfs_conf_settings.specs.Drafts.{Drafted, broken_pair, const_overload, conf_of_draft, has_broken_pair, has_too_many_entries, has_too_many_tables, has_unprofiled_cookies, unprofiled}
+use Rattle.pfs_conf_settings.specs.Drafts.{Drafted, broken_pair, const_overload, conf_of_draft, has_broken_pair, has_too_many_entries, has_too_many_tables, has_unprofiled_cookies, has_unprofiled_routes, unprofiled}
 use Rattle.pfs_conf_values.specs.LoadRules.{IsTimeout}
 use Rattle.pfs_conf_values.specs.Bounds.{greatest_timeout, least_timeout}
 use Rattle.pfs_conf_values.specs.Settled.{settled_item}
@@ -98,10 +98,12 @@ adaptive_end_is p states (Some n) h k = omega arith
 
 -- a draft that keeps the rules of the whole text is a configuration
 pub IsConfig_finished : (d : Drafted) → IsDraft d → All IsTable d.tables → IsDistinct bytes_eq (table_names d.tables)
-    → has_broken_pair d ≡ false → const_overload d ≡ None → has_too_many_tables d ≡ false → has_unprofiled_cookies d ≡ false → unprofiled d ≡ None → has_too_many_entries d ≡ false → IsConfig (conf_of_draft d)
-IsConfig_finished d k tables names pair overloads few cookies profiled entries = record {
+    → has_broken_pair d ≡ false → const_overload d ≡ None → has_too_many_tables d ≡ false → has_unprofiled_cookies d ≡ false → has_unprofiled_routes d ≡ false → unprofiled d ≡ None → has_too_many_entries d ≡ false → IsConfig (conf_of_draft d)
+IsConfig_finished d k tables names pair overloads few cookies routes profiled entries = record {
   syncookies = k.syncookies;
   cookies_profiled = cookies;
+  routes = k.routes;
+  routes_profiled = routes;
   limits = k.limits;
   size = refl;
   seconds = seconds d k;

@@ -4,6 +4,9 @@ mod FinishLaws
 pub mod MoreTables
 pub mod NamingLaws
 pub mod OrderLaws
+pub mod RouteDrafts
+pub mod RouteLaws
+pub mod RoutePhrases
 pub mod SettingLaws
 pub mod SettingPhrases
 mod Stopping

@@ -13,6 +13,7 @@ use Rattle.pfs_conf_values.specs.declared.timeouts.TimeoutName.{TimeoutName}
 use Rattle.pfs_conf_settings.specs.declared.settings.Setting.{Setting}
 use Rattle.pfs_conf_settings.specs.declared.settings.Setting.TheVariants as setting
 use Rattle.pfs_conf_settings.specs.Drafts.{Drafted, with_limit, with_profile, with_timeout}
+use Rattle.pfs_conf_settings.proofs.RouteLaws.{online_routed, routed_shrinks}
 use Rattle.pfs_conf_settings.specs.Settings.{timeout_named, bounded_at, limit_statement, limit_by, limit_at, least_value, greatest_value, unkept, timeout_statement, time_by, time_at, setting_at, lined_setting_at, some_settings_by, some_settings_at, profile_by, profile_at, settings_by, settings_at}
 
 -- ---- a pair of a name and a number
@@ -76,10 +77,12 @@ online_behind d = online_skipping (done d) (online_done d)
 online_setting : (s : Setting) (lined : Bool) (d : Drafted) → Online across (setting_at s lined d)
 online_setting setting.Limit lined d = online_limit lined d
 online_setting setting.Timeout lined d = online_time lined d
+online_setting setting.Route lined d = online_routed lined d
 
 setting_shrinks : (s : Setting) (lined : Bool) (d : Drafted) → Shrinks (setting_at s lined d)
 setting_shrinks setting.Limit lined d = limit_shrinks lined d
 setting_shrinks setting.Timeout lined d = time_shrinks lined d
+setting_shrinks setting.Route lined d = routed_shrinks lined d
 
 online_lined : (s : Setting) (d : Drafted) → Online across (lined_setting_at s d)
 unfolding lined_setting_at
@@ -115,6 +118,7 @@ settings_act : (d : Drafted) (k : Key) → OnlineAct across k (settings_by d k)
 settings_act d key.Profile = (refl, online_profile d)
 settings_act d key.Limit = (refl, online_some_settings setting.Limit d)
 settings_act d key.Timeout = (refl, online_some_settings setting.Timeout d)
+settings_act d key.Route = (refl, online_some_settings setting.Route d)
 settings_act d _ = tt
 
 pub online_settings : (d : Drafted) → Online across (settings_at d)

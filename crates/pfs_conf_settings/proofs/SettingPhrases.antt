@@ -4,7 +4,7 @@ use Rattle.pfs_conf_tokens.specs.declared.keys.Key.{Key}
 use Rattle.pfs_conf_tokens.specs.declared.keys.Key.TheVariants as key
 use Rattle.pfs_conf_tokens.specs.Tokens.{Tok, head}
 use Rattle.pfs_conf_tokens.specs.Reading.{rest, closes_braces, stay, act, chain, done, skipping}
-use Rattle.pfs_conf_tokens.specs.Keys.{ends_line}
+use Rattle.pfs_conf_tokens.specs.Keys.{ends_line, is_word_key}
 use Rattle.pfs_conf_tokens.specs.Grammar.{Word, ListOf, skip_lines}
 use Rattle.pfs_conf_tokens.proofs.Laws.{ok_parts, chain_ok, not_refused}
 use Rattle.pfs_conf_tokens.proofs.ReaderLaws.{closes_braces_key, line_end_key, word_head, word_is, number_is, number_reads, list_is, list_reads, ReadsList, no_comma}
@@ -16,7 +16,10 @@ use Rattle.pfs_conf_settings.specs.declared.settings.Setting.{Setting}
 use Rattle.pfs_conf_settings.specs.declared.settings.Setting.TheVariants as setting
 use Rattle.pfs_conf_settings.specs.Drafts.{Drafted, with_limit, with_profile, with_timeout}
 use Rattle.pfs_conf_settings.specs.Settings.{timeout_named, bounded_at, limit_by, limit_at, least_value, greatest_value, timeout_statement, time_by, time_at, setting_at, lined_setting_at, some_settings_by, some_settings_at, profile_by, profile_at, settings_by, settings_at}
-use Rattle.pfs_conf_settings.specs.SettingGrammar.{ValueOf, plain, lined, LimitOf, states, src_nodes, tables, table_entries, frags, TimeOf, kept, frag, tsdiff, icmp_first, icmp_error, AmongLines, SettingOf, profile, limit, limits, timeout, timeouts}
+use Rattle.pfs_conf_settings.specs.SettingGrammar.{ValueOf, plain, lined, LimitOf, states, src_nodes, tables, table_entries, frags, TimeOf, kept, frag, tsdiff, icmp_first, icmp_error, AmongLines, SettingOf, profile, limit, limits, timeout, timeouts, route, routes}
+use Rattle.pfs_conf_settings.specs.RouteGrammar.{SetsRoute}
+use Rattle.pfs_conf_settings.specs.Routes.{routed_at}
+use Rattle.pfs_conf_settings.proofs.RoutePhrases.{routed_begins, routed_is, routed_reads}
 use Rattle.pfs_conf_settings.proofs.SettingLaws.{lined_shrinks}
 use Rattle.pfs_conf_settings.proofs.TimeoutKeys.{placed, named}
 
@@ -69,14 +72,17 @@ time_is inside d ts e left h = by_key (head ts).key refl h
 abbrev word_of : Setting → Key
 word_of setting.Limit = key.Limit
 word_of setting.Timeout = key.Timeout
+word_of setting.Route = key.Route
 
 abbrev OfSetting : Setting → Bool → Drafted → List Tok → Drafted → List Tok → Type 0
 OfSetting setting.Limit inside = LimitOf inside
 OfSetting setting.Timeout inside = TimeOf inside
+OfSetting setting.Route inside = SetsRoute inside
 
 setting_is : (s : Setting) (inside : Bool) (d : Drafted) (ts : List Tok) (e : Drafted) (left : List Tok) → setting_at s inside d ts ≡ Ok (e, left) → OfSetting s inside d ts e left
 setting_is setting.Limit inside d ts e left h = limit_is inside d ts e left h
 setting_is setting.Timeout inside d ts e left h = time_is inside d ts e left h
+setting_is setting.Route inside d ts e left h = routed_is inside d ts e left h
 
 lined_is : (s : Setting) (d : Drafted) (ts : List Tok) (e : Drafted) (left : List Tok) → lined_setting_at s d ts ≡ Ok (e, left) → AmongLines (OfSetting s true) d ts e left
 unfolding lined_setting_at
@@ -88,10 +94,12 @@ lined_is s d ts e left h =
 one_is : (s : Setting) {d e : Drafted} {ts a left : List Tok} → Word (word_of s) ts a → OfSetting s false d a e left → SettingOf d ts e left
 one_is setting.Limit w v = limit w v
 one_is setting.Timeout w v = timeout w v
+one_is setting.Route w v = route w v
 
 list_of : (s : Setting) {d e : Drafted} {ts a b left : List Tok} → Word (word_of s) ts a → Word key.OpenBrace a b → ListOf key.CloseBrace (AmongLines (OfSetting s true)) d b e left → SettingOf d ts e left
 list_of setting.Limit w o v = limits w o v
 list_of setting.Timeout w o v = timeouts w o v
+list_of setting.Route w o v = routes w o v
 
 some_settings_are : (s : Setting) (d : Drafted) (ts a : List Tok) (e : Drafted) (left : List Tok) → Word (word_of s) ts a → some_settings_at s d a ≡ Ok (e, left) → SettingOf d ts e left
 unfolding some_settings_at
@@ -119,6 +127,7 @@ settings_are d ts e left h = by_key (head ts).key refl h
     by_key key.Profile g q = profile_is d ts (rest ts) e left (word_is key.Profile ts g (λ r. cc)) q
     by_key key.Limit g q = some_settings_are setting.Limit d ts (rest ts) e left (word_is key.Limit ts g (λ r. cc)) q
     by_key key.Timeout g q = some_settings_are setting.Timeout d ts (rest ts) e left (word_is key.Timeout ts g (λ r. cc)) q
+    by_key key.Route g q = some_settings_are setting.Route d ts (rest ts) e left (word_is key.Route ts g (λ r. cc)) q
     by_key _ g q = absurd (not_refused _ _ _ q)
 
 -- ---- reads
@@ -155,6 +164,7 @@ time_reads (icmp_error w v) = let h = word_head w in rw (h.0, h.1, value_reads v
 setting_reads : (s : Setting) (inside : Bool) (d : Drafted) (ts : List Tok) (e : Drafted) (left : List Tok) → OfSetting s inside d ts e left → setting_at s inside d ts ≡ Ok (e, left)
 setting_reads setting.Limit inside d ts e left q = limit_reads q
 setting_reads setting.Timeout inside d ts e left q = time_reads q
+setting_reads setting.Route inside d ts e left q = routed_reads q
 
 lined_reads : (s : Setting) (d : Drafted) (ts : List Tok) (e : Drafted) (left : List Tok) → AmongLines (OfSetting s true) d ts e left → lined_setting_at s d ts ≡ Ok (e, left)
 unfolding lined_setting_at
@@ -183,9 +193,18 @@ time_begins (tsdiff w v) = rw (word_head w).0 (refl, refl, refl)
 time_begins (icmp_first w v) = rw (word_head w).0 (refl, refl, refl)
 time_begins (icmp_error w v) = rw (word_head w).0 (refl, refl, refl)
 
+word_begins : (k : Key) → is_word_key k ≡ true → Begins k
+word_begins key.CloseBrace e = absurd cc
+word_begins key.Comma e = absurd cc
+word_begins _ e = (refl, refl, refl)
+
+routed_starts : {inside : Bool} {d e : Drafted} {ts left : List Tok} → SetsRoute inside d ts e left → Begins (head ts).key
+routed_starts q = let p = routed_begins q in subst (λ (z : List Tok). Begins (head z).key) (sym p.2) (word_begins p.0.key p.3)
+
 setting_begins : (s : Setting) (inside : Bool) (d : Drafted) (ts : List Tok) (e : Drafted) (left : List Tok) → OfSetting s inside d ts e left → Begins (head ts).key
 setting_begins setting.Limit inside d ts e left q = limit_begins q
 setting_begins setting.Timeout inside d ts e left q = time_begins q
+setting_begins setting.Route inside d ts e left q = routed_starts q
 
 line_end_begins : (k : Key) → ends_line k ≡ true → Begins k
 line_end_begins k e = subst Begins (sym (line_end_key k e)) (refl, refl, refl)
@@ -223,6 +242,13 @@ time_stays d (tsdiff w v) = rw (word_head w).0 refl
 time_stays d (icmp_first w v) = rw (word_head w).0 refl
 time_stays d (icmp_error w v) = rw (word_head w).0 refl
 
+word_stays : (d : Drafted) (k : Key) → is_word_key k ≡ true → some_settings_by setting.Route d k ≡ stay (routed_at false d)
+word_stays d key.OpenBrace e = absurd cc
+word_stays d _ e = refl
+
+routed_stays : (d : Drafted) {inside : Bool} {e : Drafted} {ts left : List Tok} → SetsRoute inside d ts e left → some_settings_by setting.Route d (head ts).key ≡ stay (routed_at false d)
+routed_stays d q = let p = routed_begins q in rw p.2 (word_stays d p.0.key p.3)
+
 pub settings_read : {d e : Drafted} {ts left : List Tok} → SettingOf d ts e left → settings_at d ts ≡ Ok (e, left)
 unfolding settings_at some_settings_at profile_at
 settings_read (profile w v) = let h = word_head w in let i = word_head v in rw (h.0, h.1, i.0, i.1) refl
@@ -230,3 +256,5 @@ settings_read {d = d} (limit w v) = let h = word_head w in rw (h.0, h.1, limit_s
 settings_read (limits w o v) = let h = word_head w in let i = word_head o in rw (h.0, h.1, i.0, i.1) (list_reads (settings_readable setting.Limit) v)
 settings_read {d = d} (timeout w v) = let h = word_head w in rw (h.0, h.1, time_stays d v) (time_reads v)
 settings_read (timeouts w o v) = let h = word_head w in let i = word_head o in rw (h.0, h.1, i.0, i.1) (list_reads (settings_readable setting.Timeout) v)
+settings_read {d = d} (route w v) = let h = word_head w in rw (h.0, h.1, routed_stays d v) (routed_reads v)
+settings_read (routes w o v) = let h = word_head w in let i = word_head o in rw (h.0, h.1, i.0, i.1) (list_reads (settings_readable setting.Route) v)

@@ -7,10 +7,9 @@ use Rattle.pfs_conf_tokens.specs.declared.refusals.ReadError.TheVariants as erro
 use Rattle.pfs_conf_tokens.specs.Reading.{Reader, until_all, up_to_all}
 use Rattle.pfs_conf_tokens.specs.Giving.{refusal_at}
 use Rattle.pfs_conf_tokens.proofs.Laws.{until_fails, up_to_fails}
-use Rattle.pfs_conf_values.specs.Entries.{TextEntry}
 use Rattle.pfs_conf_settings.specs.Extending.{Extends}
 
-pub extends_fails : (stops : Key → Bool) (step : List TextEntry → Reader (List TextEntry)) (a : List TextEntry) (ts left : List Tok) (after : List TextEntry) (e : ReadError)
+pub extends_fails : {A : Type 0} (stops : Key → Bool) (step : A → Reader A) (a : A) (ts left : List Tok) (after : A) (e : ReadError)
     → stops (head ts).key ≡ false → Extends (Err e) left after (step a ts) → Extends (Err e) left after (until_all stops step a ts)
 extends_fails stops step a ts left after error.Memory h g = tt
 extends_fails stops step a ts left after (error.Refused e) h g = until_fails stops step a ts (refusal_at e left) h g

@@ -1,7 +1,9 @@
 -- What the first statements of a text say, what each more changes, and the load rules of the whole text.
-use Rattle.std.specs.Prelude.{ℕ, not, nat_lt, Bool, true, false, Option, Some, None, List, [], ◌∷◌, ◌++◌, length, position, slice_index_or, slice_set}
+use Rattle.std.specs.Prelude.{ℕ, not, nat_lt, Bool, true, false, Option, Some, None, List, [], ◌∷◌, ◌++◌, filter, length, position, slice_index_or, slice_set}
 use Rattle.pfs_conf_values.specs.Configs.{Conf, entries_in, is_adaptive, needs_profile, overloads_const}
+use Rattle.pfs_conf_values.specs.Entries.{same_network}
 use Rattle.pfs_conf_values.specs.Limits.{default_limits, limits_with}
+use Rattle.pfs_conf_values.specs.Routes.{routes_need_profile}
 use Rattle.pfs_conf_settings.specs.Namings.{Named, defining, is_defined_in, naming, place_in, table_number}
 use Rattle.pfs_conf_values.specs.Timeouts.{no_timeouts, place_of, resolved_timeouts}
 use Rattle.pfs_conf_values.specs.Settled.{settled_items}
@@ -11,17 +13,19 @@ use Rattle.pfs_conf_values.specs.declared.limits.LimitName.{LimitName}
 use Rattle.pfs_conf_values.specs.declared.limits.Limits.{Limits}
 use Rattle.pfs_conf_values.specs.declared.profiles.Profile.{Profile}
 use Rattle.pfs_conf_values.specs.declared.profiles.Profile.TheVariants as profile
+use Rattle.pfs_conf_values.specs.declared.routes.Route.{Route}
 use Rattle.pfs_conf_values.specs.declared.syncookies.Syncookies.{Syncookies}
 use Rattle.pfs_conf_values.specs.declared.syncookies.Syncookies.TheVariants as cookies
 use Rattle.pfs_conf_values.specs.declared.tables.TableDef.{TableDef}
 use Rattle.pfs_conf_values.specs.declared.timeouts.TimeoutName.{TimeoutName}
 use Rattle.pfs_conf_values.specs.declared.timeouts.TimeoutName.TheVariants as timeout
 
--- what the first statements of a text say: the profile, the SYN cookies, the limits, the timeouts that are set, by their places,
--- the tables that are named, which of them are defined, and the items
+-- what the first statements of a text say: the profile, the SYN cookies, the routes, the limits, the timeouts that are set, by
+-- their places, the tables that are named, which of them are defined, and the items
 pub record Drafted : Type 0 where
   pub profile : Profile
   pub syncookies : Syncookies
+  pub routes : List Route
   pub limits : Limits
   pub timeouts : List (Option ℕ)
   pub tables : List TableDef
@@ -30,7 +34,7 @@ pub record Drafted : Type 0 where
 
 -- no statement is read
 abbrev pub empty_draft : Drafted
-empty_draft = record { profile = profile.Own; syncookies = cookies.Never; limits = default_limits; timeouts = no_timeouts; tables = []; defined = []; items = [] }
+empty_draft = record { profile = profile.Own; syncookies = cookies.Never; routes = []; limits = default_limits; timeouts = no_timeouts; tables = []; defined = []; items = [] }
 
 -- ---- what a statement changes
 
@@ -51,6 +55,18 @@ abbrev pub has_broken_shares : Syncookies → Bool
 has_broken_shares cookies.Never = false
 has_broken_shares cookies.Always = false
 has_broken_shares (cookies.Adaptive start end) = not (nat_lt end start)
+
+-- whether a route has another prefix than this one
+abbrev pub has_other_prefix : Route → Route → Bool
+has_other_prefix r held = not (same_network held.prefix r.prefix)
+
+-- routes and one more: it replaces the one with the same prefix, and stands last
+abbrev pub routes_with : Route → List Route → List Route
+routes_with r routes = filter (has_other_prefix r) routes ++ r ∷ []
+
+-- `set route` (own)
+abbrev pub with_route : Route → Drafted → Drafted
+with_route r d = record d { routes = routes_with r d.routes }
 
 -- `set limit` (pf.conf(5), OPTIONS)
 abbrev pub with_limit : LimitName → ℕ → Drafted → Drafted
@@ -98,6 +114,10 @@ const_overload d = position (overloads_const d.tables) d.items
 abbrev pub has_unprofiled_cookies : Drafted → Bool
 has_unprofiled_cookies d = need_profile d.profile d.syncookies
 
+-- whether the routes need the profile of OpenBSD 7.4, in a text without it
+abbrev pub has_unprofiled_routes : Drafted → Bool
+has_unprofiled_routes d = routes_need_profile d.profile d.routes
+
 -- the place of the first item that needs the profile of OpenBSD 7.4, in a text without it
 abbrev pub unprofiled : Drafted → Option ℕ
 unprofiled d = position (needs_profile d.profile) d.items
@@ -128,6 +148,7 @@ abbrev pub conf_of_draft : Drafted → Conf
 conf_of_draft d = record {
   profile = d.profile;
   syncookies = d.syncookies;
+  routes = d.routes;
   limits = d.limits;
   timeouts = resolved_timeouts d.profile d.limits.states d.timeouts;
   tables = d.tables;

@@ -4,6 +4,7 @@ use Rattle.pfs_conf_values.specs.Configs.{table_names}
 use Rattle.pfs_conf_values.specs.Invariants.{AreLimits, IsTable}
 use Rattle.pfs_conf_values.specs.LoadRules.{IsItem, IsTimeout}
 use Rattle.pfs_conf_values.specs.Order.{AreNamedOnce, IsPreorder}
+use Rattle.pfs_conf_values.specs.Routes.{AreRoutes}
 use Rattle.pfs_conf_values.specs.Syncookies.{AreSyncookies}
 use Rattle.pfs_conf_values.specs.declared.tables.TableDef.{TableDef}
 use Rattle.pfs_conf_settings.specs.Drafts.{Drafted}
@@ -17,6 +18,7 @@ pub record IsNaming (keys : List (List ℕ)) (tables : List TableDef) (defined :
 -- what holds of a draft after each statement
 pub record IsDraft (d : Drafted) : Type 0 where
   pub syncookies : AreSyncookies d.syncookies
+  pub routes : AreRoutes d.routes
   pub limits : AreLimits d.limits
   pub timeouts : (place : ℕ) → IfSome (slice_index_or d.timeouts place None) (IsTimeout place)
   pub items : All (IsItem (length d.tables)) d.items

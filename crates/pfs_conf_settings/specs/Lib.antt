@@ -3,6 +3,8 @@ pub mod Draws
 pub mod Extending
 pub mod Invariants
 pub mod Namings
+pub mod RouteGrammar
+pub mod Routes
 pub mod SettingGrammar
 pub mod Settings
 pub mod SyncookieGrammar

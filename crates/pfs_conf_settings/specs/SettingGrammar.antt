@@ -9,6 +9,7 @@ use Rattle.pfs_conf_values.specs.declared.limits.LimitName.TheVariants as limit_
 use Rattle.pfs_conf_values.specs.declared.profiles.Profile.TheVariants as profile_name
 use Rattle.pfs_conf_values.specs.declared.timeouts.TimeoutName.{TimeoutName}
 use Rattle.pfs_conf_settings.specs.Drafts.{Drafted, with_limit, with_profile, with_timeout}
+use Rattle.pfs_conf_settings.specs.RouteGrammar.{SetsRoute}
 use Rattle.pfs_conf_values.specs.Bounds.{least_timeout, greatest_timeout}
 use Rattle.pfs_conf_values.specs.Timeouts.{place_of}
 
@@ -41,9 +42,12 @@ pub record AmongLines {A : Type 0} (Item : A → List Tok → A → List Tok →
   pub behind : left ≡ skip_lines mid
 
 -- "profile" "openbsd-7.4" | "limit" limit | "limit" "{" list(limit) "}" | "timeout" time | "timeout" "{" list(time) "}"
+-- | "route" route | "route" "{" list(route) "}"
 pub data SettingOf : Drafted → List Tok → Drafted → List Tok → Type 0 where
   profile : {d : Drafted} {ts a left : List Tok} → Word key.Profile ts a → Word key.OpenBsd74 a left → SettingOf d ts (with_profile profile_name.OpenBsd74 d) left
   limit : {d e : Drafted} {ts a left : List Tok} → Word key.Limit ts a → LimitOf false d a e left → SettingOf d ts e left
   limits : {d e : Drafted} {ts a b left : List Tok} → Word key.Limit ts a → Word key.OpenBrace a b → ListOf key.CloseBrace (AmongLines (LimitOf true)) d b e left → SettingOf d ts e left
   timeout : {d e : Drafted} {ts a left : List Tok} → Word key.Timeout ts a → TimeOf false d a e left → SettingOf d ts e left
   timeouts : {d e : Drafted} {ts a b left : List Tok} → Word key.Timeout ts a → Word key.OpenBrace a b → ListOf key.CloseBrace (AmongLines (TimeOf true)) d b e left → SettingOf d ts e left
+  route : {d e : Drafted} {ts a left : List Tok} → Word key.Route ts a → SetsRoute false d a e left → SettingOf d ts e left
+  routes : {d e : Drafted} {ts a b left : List Tok} → Word key.Route ts a → Word key.OpenBrace a b → ListOf key.CloseBrace (AmongLines (SetsRoute true)) d b e left → SettingOf d ts e left

@@ -1,4 +1,4 @@
--- How the statements that set the profile, limits and timeouts are read. Line ends are ignored between any two tokens in braces.
+-- How the statements that set the profile, limits, timeouts and routes are read. Line ends are ignored between any two tokens in braces.
 use Rattle.std.specs.Prelude.{ℕ, Bool, true, false, Option, Some, None}
 use Rattle.pfs_conf_tokens.specs.declared.keys.Key.{Key}
 use Rattle.pfs_conf_tokens.specs.declared.keys.Key.TheVariants as key
@@ -12,6 +12,7 @@ use Rattle.pfs_conf_values.specs.declared.timeouts.TimeoutName.TheVariants as ti
 use Rattle.pfs_conf_settings.specs.declared.settings.Setting.{Setting}
 use Rattle.pfs_conf_settings.specs.declared.settings.Setting.TheVariants as setting
 use Rattle.pfs_conf_settings.specs.Drafts.{Drafted, with_limit, with_profile, with_timeout}
+use Rattle.pfs_conf_settings.specs.Routes.{routed_at}
 use Rattle.pfs_conf_values.specs.Bounds.{least_timeout, greatest_timeout}
 use Rattle.pfs_conf_values.specs.Timeouts.{place_of}
 
@@ -80,10 +81,11 @@ time_by inside d k = timeout_statement inside d (timeout_named k)
 unfoldable pub time_at : Bool → Drafted → Reader Drafted
 time_at inside d ts = on_front (λ t. time_by inside d t.key) ts
 
--- a limit or a timeout
+-- a limit, a timeout or a route
 abbrev pub setting_at : Setting → Bool → Drafted → Reader Drafted
 setting_at setting.Limit = limit_at
 setting_at setting.Timeout = time_at
+setting_at setting.Route = routed_at
 
 -- one of them among line ends
 unfoldable pub lined_setting_at : Setting → Drafted → Reader Drafted
@@ -110,6 +112,7 @@ abbrev pub settings_by : Drafted → Key → Act Drafted
 settings_by d key.Profile = take (profile_at d)
 settings_by d key.Limit = take (some_settings_at setting.Limit d)
 settings_by d key.Timeout = take (some_settings_at setting.Timeout d)
+settings_by d key.Route = take (some_settings_at setting.Route d)
 settings_by d _ = refuse why.Setting
 
 unfoldable pub settings_at : Drafted → Reader Drafted

@@ -5,8 +5,9 @@ ghost use Rattle.std.specs.Option.{option_map};
 ghost use Rattle.pfs_addr_values.specs.Names.{is_name};
 ghost use Rattle.pfs_conf_values.specs.Configs.{has_synproxy, is_const_table, needs_profile, overloads_const};
 ghost use Rattle.pfs_conf_values.specs.Order.{depth_after, next_depth, repeats_by, repeats_name};
-ghost use Rattle.pfs_conf_settings.specs.Drafts.{broken_pair, const_overload, empty_draft, conf_of_draft, has_broken_pair, has_too_many_entries, has_too_many_tables, has_unprofiled_cookies, is_defined, number_of_table, unprofiled, with_item, with_limit, with_name, with_profile, with_syncookies, with_table, with_timeout};
+ghost use Rattle.pfs_conf_settings.specs.Drafts.{broken_pair, const_overload, empty_draft, conf_of_draft, has_broken_pair, has_other_prefix, has_too_many_entries, has_too_many_tables, has_unprofiled_cookies, has_unprofiled_routes, is_defined, number_of_table, routes_with, unprofiled, with_item, with_limit, with_name, with_profile, with_route, with_syncookies, with_table, with_timeout};
 ghost use Rattle.pfs_conf_values.specs.LoadRules.{IsAnchor, IsCount, IsItem, IsRule, IsTimeout};
+ghost use Rattle.pfs_conf_values.specs.Routes.{IsRoute};
 ghost use Rattle.pfs_conf_values.specs.Settled.{settled_items};
 ghost use Rattle.pfs_conf_values.specs.Syncookies.{AreSyncookies};
 ghost use Rattle.pfs_conf_values.specs.Siblings.{has_sibling, is_anchor_named};
@@ -15,9 +16,9 @@ ghost use Rattle.pfs_conf_values.specs.Timeouts.{place_of};
 use crate::named_tables::NamedTables;
 use pfs_addr_values::NoMemory;
 use pfs_conf_values::{
-    Action, Anchor, AnchorName, Config, Item, ItemKind, LimitName, Limits, Profile, Rule, RuleNo,
-    RuleTimeouts, RulesHasher, Syncookies, TableDef, TableName, TableNo, TimeoutName, Timeouts,
-    count_entries, settle_items,
+    Action, Anchor, AnchorName, Config, Item, ItemKind, LimitName, Limits, Profile, Route, Rule,
+    RuleNo, RuleTimeouts, RulesHasher, Syncookies, TableDef, TableName, TableNo, TimeoutName,
+    Timeouts, count_entries, settle_items,
 };
 use std::alloc::Global;
 use std::marker::Model;
@@ -31,6 +32,7 @@ use std::marker::Model;
 pub struct Draft {
     profile: Profile,
     syncookies: Syncookies,
+    routes: Vec<Route>,
     limits: Limits,
     timeouts: RuleTimeouts,
     tables: NamedTables,
@@ -44,14 +46,14 @@ impl Model for Draft {
 
     ghost Value = { Drafted };
 
-    ghost view = { λ d. record { profile = d.profile; syncookies = d.syncookies; limits = d.limits; timeouts = d.timeouts; tables = d.tables.tables; defined = d.tables.defined; items = d.items.items } };
+    ghost view = { λ d. record { profile = d.profile; syncookies = d.syncookies; routes = d.routes.items; limits = d.limits; timeouts = d.timeouts; tables = d.tables.tables; defined = d.tables.defined; items = d.items.items } };
 
-    ghost invariant = { λ d. IsDraft (record { profile = d.profile; syncookies = d.syncookies; limits = d.limits; timeouts = d.timeouts; tables = d.tables.tables; defined = d.tables.defined; items = d.items.items }) };
+    ghost invariant = { λ d. IsDraft (record { profile = d.profile; syncookies = d.syncookies; routes = d.routes.items; limits = d.limits; timeouts = d.timeouts; tables = d.tables.tables; defined = d.tables.defined; items = d.items.items }) };
 }
 
 impl Draft {
-    /// The draft of a text of which nothing has been read: no profile, no SYN cookies, the default limits, no timeout set, no tables and items. Its
-    /// hasher was fed with nothing; for a stranger's text use `with_hasher`. It takes no memory.
+    /// The draft of a text of which nothing has been read: no profile, no SYN cookies, no routes, the default limits, no timeout
+    /// set, no tables and items. Its hasher was fed with nothing; for a stranger's text use `with_hasher`. It takes no memory.
     pub fn new(alloc: Global) -> Draft
         ensures { result ≡ empty_draft }
     {
@@ -59,12 +61,14 @@ impl Draft {
     }
 
     /// The same draft, whose tables are found by this hasher. It takes no memory.
+    #[tactic(auto, using(crate::proofs::RouteDrafts::AreRoutes_none))]
     pub fn with_hasher(alloc: Global, hasher: RulesHasher) -> Draft
         ensures { result ≡ empty_draft }
     {
         Draft {
             profile: Profile::Own,
             syncookies: Syncookies::Never,
+            routes: Vec::new(alloc),
             limits: Limits::DEFAULT,
             timeouts: RuleTimeouts::new(),
             tables: NamedTables::new(alloc, hasher),
@@ -91,6 +95,16 @@ impl Draft {
         ensures { self.new ≡ with_syncookies syncookies self.old }
     {
         self.syncookies = syncookies;
+    }
+
+    /// Sets a route, which takes memory. It replaces the one with the same prefix, and stands last. It takes time in proportion to
+    /// the number of routes. (own; as route(8) changes one)
+    pub fn set_route(&mut self, route: Route) -> Result<(), NoMemory>
+        requires { IsRoute route }
+        ensures ok { OnOk result (self.new ≡ with_route route self.old) }
+        ensures err { OnErr result (self.new ≡ self.old) }
+    {
+        put_route(&mut self.routes, route)
     }
 
     /// Sets a limit, 1 to 4294967295. A later value replaces an earlier one. (pf.conf(5), OPTIONS, "set limit")
@@ -220,6 +234,16 @@ impl Draft {
         }
     }
 
+    /// Whether there are routes, which need the profile of OpenBSD 7.4, in a text without it. (own to this profile)
+    pub fn has_unprofiled_routes(&self) -> bool
+        ensures { result ≡ has_unprofiled_routes self.now }
+    {
+        match self.profile {
+            Profile::Own => !self.routes.is_empty(),
+            Profile::OpenBsd74 => false,
+        }
+    }
+
     /// The first rule that needs the profile of OpenBSD 7.4, in a text without it, if there is one: a rule with `synproxy state`.
     /// (own to this profile)
     pub fn unprofiled(&self) -> Option<RuleNo>
@@ -260,6 +284,7 @@ impl Draft {
         requires overloads { const_overload self ≡ None }
         requires tables { has_too_many_tables self ≡ false }
         requires cookies { has_unprofiled_cookies self ≡ false }
+        requires routes { has_unprofiled_routes self ≡ false }
         requires profile { unprofiled self ≡ None }
         requires entries { has_too_many_entries self ≡ false }
         ensures { result ≡ conf_of_draft self }
@@ -267,6 +292,7 @@ impl Draft {
         let Draft {
             profile,
             syncookies,
+            routes,
             limits,
             timeouts,
             tables,
@@ -276,8 +302,25 @@ impl Draft {
         let tables = tables.into_tables();
         let timeouts = Timeouts::resolved(&timeouts, profile, limits.states);
         let items = settled(profile, items);
-        Config::of_parts(profile, syncookies, limits, timeouts, tables, items)
+        Config::of_parts(profile, syncookies, routes, limits, timeouts, tables, items)
     }
+}
+
+/// Puts a route last, in place of the one with the same prefix.
+fn put_route(routes: &mut Vec<Route>, route: Route) -> Result<(), NoMemory>
+    ensures ok { OnOk result (routes.new.items ≡ routes_with route routes.old.items) }
+    ensures err { OnErr result (routes.new.items ≡ routes.old.items) }
+{
+    routes.reserve(1)?;
+    routes.retain(|held| has_other_prefix(held, route));
+    routes.push_reserved(route);
+    Ok(())
+}
+
+fn has_other_prefix(held: &Route, route: Route) -> bool
+    ensures { result ≡ has_other_prefix route held.now }
+{
+    held.prefix != route.prefix
 }
 
 /// The items of a text that ends, as they are under its profile.

@@ -1,10 +1,11 @@
-//! The statements that set options, the parts of a table's definition, and the draft that all statements of a
+//! The statements that set options and routes, the parts of a table's definition, and the draft that all statements of a
 //! rules text are put into.
 #![tactic(auto)]
 
 mod drafts;
 mod entries;
 mod named_tables;
+mod routes;
 mod settings;
 mod syncookies;
 mod tables;

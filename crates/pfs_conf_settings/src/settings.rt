@@ -4,10 +4,14 @@ ghost use Rattle.std.specs.Prelude.{◌≡◌, ◌≤◌, Some, IfOk};
 ghost use Rattle.pfs_conf_tokens.specs.Reading.{closes_braces, act, number_at, until_all, next_of};
 ghost use Rattle.pfs_conf_tokens.specs.Giving.{Gives};
 ghost use Rattle.pfs_conf_settings.specs.Draws.{Draws};
+ghost use Rattle.pfs_conf_settings.specs.Extending.{Extends};
+ghost use Rattle.pfs_conf_settings.specs.Routes.{routed_at};
 ghost use Rattle.pfs_conf_settings.specs.Settings.{timeout_named, bounded_at, least_value, greatest_value, limit_statement, timeout_statement, limit_at, profile_at, time_at, setting_at, lined_setting_at, some_settings_at, settings_at};
 
 use crate::drafts::Draft;
-use pfs_conf_tokens::{Cursor, Key, Refusal, Why, number, skip_lines};
+use crate::routes::read_route;
+use pfs_addr_values::NoMemory;
+use pfs_conf_tokens::{Cursor, Key, ReadError, Refusal, Why, number, skip_lines};
 use pfs_conf_values::{LimitName, Profile, TimeoutName};
 
 /// What a `set` statement sets.
@@ -17,23 +21,27 @@ pub enum Setting {
     Limit,
     /// `set timeout`
     Timeout,
+    /// `set route`
+    Route,
 }
 
 /// Reads what follows the word `set`, up to the line end, which stays, and sets it: a later value replaces an earlier one.
 ///
 /// It refuses what continues no `set` statement, with the cursor at that token. `set` is followed by `profile` and
-/// `openbsd-7.4`, or by `limit` or `timeout`, and then by one pair of a name and a number, or by a list of them in braces, in
-/// which line ends are ignored. `frags`, `frag`, `tcp.tsdiff`, `icmp.first` and `icmp.error` are read without effect. Where it refuses,
-/// what was read before the refused token may have been set. It takes no memory. (pf.conf(5), OPTIONS, "set limit" and
-/// "set timeout")
+/// `openbsd-7.4`, or by `limit` or `timeout`, and then by one pair of a name and a number, or by `route`, and then by one pair of a
+/// prefix and the name of an interface; or by a list of such pairs in braces, in which line ends are ignored. `frags`, `frag`,
+/// `tcp.tsdiff`, `icmp.first` and `icmp.error` are read without effect. A route replaces the one with the same prefix, and stands
+/// last. Where it refuses, what was read before the refused token may have been set. It takes memory for routes alone. (pf.conf(5),
+/// OPTIONS, "set limit" and "set timeout")
 #[tactic(auto, unfolding(crate::specs::Settings::settings_at))]
-pub fn read_settings(cursor: &mut Cursor, draft: &mut Draft) -> Result<(), Refusal>
-    ensures { Draws result cursor.new draft.new (settings_at draft.old cursor.old) }
+pub fn read_settings(cursor: &mut Cursor, draft: &mut Draft) -> Result<(), ReadError>
+    ensures { Extends result cursor.new draft.new (settings_at draft.old cursor.old) }
 {
     match cursor.key() {
         Key::Profile => {
             cursor.advance();
-            profile(cursor, draft)
+            profile(cursor, draft)?;
+            Ok(())
         }
         Key::Limit => {
             cursor.advance();
@@ -43,7 +51,11 @@ pub fn read_settings(cursor: &mut Cursor, draft: &mut Draft) -> Result<(), Refus
             cursor.advance();
             some_settings(cursor, draft, Setting::Timeout)
         }
-        _ => Err(Refusal::Stop(Why::Setting)),
+        Key::Route => {
+            cursor.advance();
+            some_settings(cursor, draft, Setting::Route)
+        }
+        _ => Err(ReadError::Refused(Refusal::Stop(Why::Setting))),
     }
 }
 
@@ -64,8 +76,8 @@ fn profile(cursor: &mut Cursor, draft: &mut Draft) -> Result<(), Refusal>
 
 /// One setting, or a list of them in braces.
 #[tactic(auto, unfolding(crate::specs::Settings::some_settings_at))]
-fn some_settings(cursor: &mut Cursor, draft: &mut Draft, setting: Setting) -> Result<(), Refusal>
-    ensures { Draws result cursor.new draft.new (some_settings_at setting draft.old cursor.old) }
+fn some_settings(cursor: &mut Cursor, draft: &mut Draft, setting: Setting) -> Result<(), ReadError>
+    ensures { Extends result cursor.new draft.new (some_settings_at setting draft.old cursor.old) }
 {
     match cursor.key() {
         Key::OpenBrace => {
@@ -77,20 +89,20 @@ fn some_settings(cursor: &mut Cursor, draft: &mut Draft, setting: Setting) -> Re
     }
 }
 
-fn more_settings(cursor: &mut Cursor, draft: &mut Draft, setting: Setting) -> Result<(), Refusal>
-    ensures { Draws result cursor.new draft.new (until_all closes_braces (next_of (lined_setting_at setting)) draft.old cursor.old) }
+fn more_settings(cursor: &mut Cursor, draft: &mut Draft, setting: Setting) -> Result<(), ReadError>
+    ensures { Extends result cursor.new draft.new (until_all closes_braces (next_of (lined_setting_at setting)) draft.old cursor.old) }
 {
     while !cursor.is_at_close_brace() {
-        if let Err(refusal) = next_setting(cursor, draft, setting) {
-            return Err(refusal);
+        if let Err(error) = next_setting(cursor, draft, setting) {
+            return Err(error);
         }
     }
     cursor.advance();
     Ok(())
 }
 
-fn next_setting(cursor: &mut Cursor, draft: &mut Draft, setting: Setting) -> Result<(), Refusal>
-    ensures { Draws result cursor.new draft.new (next_of (lined_setting_at setting) draft.old cursor.old) }
+fn next_setting(cursor: &mut Cursor, draft: &mut Draft, setting: Setting) -> Result<(), ReadError>
+    ensures { Extends result cursor.new draft.new (next_of (lined_setting_at setting) draft.old cursor.old) }
 {
     cursor.take(Key::Comma);
     lined_setting(cursor, draft, setting)
@@ -98,8 +110,8 @@ fn next_setting(cursor: &mut Cursor, draft: &mut Draft, setting: Setting) -> Res
 
 /// A setting among line ends.
 #[tactic(auto, unfolding(crate::specs::Settings::lined_setting_at))]
-fn lined_setting(cursor: &mut Cursor, draft: &mut Draft, setting: Setting) -> Result<(), Refusal>
-    ensures { Draws result cursor.new draft.new (lined_setting_at setting draft.old cursor.old) }
+fn lined_setting(cursor: &mut Cursor, draft: &mut Draft, setting: Setting) -> Result<(), ReadError>
+    ensures { Extends result cursor.new draft.new (lined_setting_at setting draft.old cursor.old) }
 {
     skip_lines(cursor);
     one_setting(cursor, draft, setting, true)?;
@@ -107,18 +119,25 @@ fn lined_setting(cursor: &mut Cursor, draft: &mut Draft, setting: Setting) -> Re
     Ok(())
 }
 
-/// A limit or a timeout: its name and its value.
+/// A limit or a timeout: its name and its value. Or a route.
 fn one_setting(
     cursor: &mut Cursor,
     draft: &mut Draft,
     setting: Setting,
     inside: bool,
-) -> Result<(), Refusal>
-    ensures { Draws result cursor.new draft.new (setting_at setting inside draft.old cursor.old) }
+) -> Result<(), ReadError>
+    ensures { Extends result cursor.new draft.new (setting_at setting inside draft.old cursor.old) }
 {
     match setting {
-        Setting::Limit => limit(cursor, draft, inside),
-        Setting::Timeout => time(cursor, draft, inside),
+        Setting::Limit => {
+            limit(cursor, draft, inside)?;
+            Ok(())
+        }
+        Setting::Timeout => {
+            time(cursor, draft, inside)?;
+            Ok(())
+        }
+        Setting::Route => route(cursor, draft, inside),
     }
 }
 
@@ -185,6 +204,18 @@ fn set_timeout(
     let value = value(cursor, inside, least(name), greatest(name))?;
     draft.set_timeout(name, value);
     Ok(())
+}
+
+/// A route: a prefix and the name of an interface.
+#[tactic(auto, unfolding(crate::specs::Routes::routed_at))]
+fn route(cursor: &mut Cursor, draft: &mut Draft, inside: bool) -> Result<(), ReadError>
+    ensures { Extends result cursor.new draft.new (routed_at inside draft.old cursor.old) }
+{
+    let route = read_route(cursor, inside)?;
+    match draft.set_route(route) {
+        Ok(()) => Ok(()),
+        Err(NoMemory) => Err(ReadError::Memory),
+    }
 }
 
 /// A number, in braces after any line ends.

@@ -1,14 +1,15 @@
--- The lines of `set limit`, `set timeout`, `set profile` and `set syncookies`. (pf.conf(5), OPTIONS; their form is own)
+-- The lines of `set limit`, `set timeout`, `set profile`, `set syncookies` and `set route`. (pf.conf(5), OPTIONS; their form is own)
 use Rattle.std.specs.Prelude.{ℕ, List, [], ◌∷◌, ◌++◌, codes, decimal, map, slice_index}
 use Rattle.pfs_conf_values.specs.Timeouts.{place_of, timeout_names}
 use Rattle.pfs_conf_values.specs.declared.limits.Limits.{Limits}
 use Rattle.pfs_conf_values.specs.declared.profiles.Profile.{Profile}
 use Rattle.pfs_conf_values.specs.declared.profiles.Profile.TheVariants as profile
+use Rattle.pfs_conf_values.specs.declared.routes.Route.{Route}
 use Rattle.pfs_conf_values.specs.declared.syncookies.Syncookies.{Syncookies}
 use Rattle.pfs_conf_values.specs.declared.syncookies.Syncookies.TheVariants as cookies
 use Rattle.pfs_conf_values.specs.declared.timeouts.TimeoutName.{TimeoutName}
 use Rattle.pfs_conf_values.specs.declared.timeouts.TimeoutName.TheVariants.{TcpFirst, TcpOpening, TcpEstablished, TcpClosing, TcpFinwait, TcpClosed, UdpFirst, UdpSingle, UdpMultiple, OtherFirst, OtherSingle, OtherMultiple, SrcTrack, Interval, AdaptiveStart, AdaptiveEnd}
-use Rattle.pfs_conf_show.specs.Pieces.{bracketed_list, word_and_number}
+use Rattle.pfs_conf_show.specs.Pieces.{bracketed_list, prefix_text, word_and_number}
 
 -- the limits, each with its value
 abbrev pub limit_texts : Limits → List (List ℕ)
@@ -61,3 +62,17 @@ abbrev pub syncookies_text : Syncookies → List ℕ
 syncookies_text cookies.Never = []
 syncookies_text cookies.Always = codes "set syncookies always\n"
 syncookies_text (cookies.Adaptive start end) = adaptive_text start end
+
+-- a route: its prefix and its interface
+abbrev pub route_text : Route → List ℕ
+route_text r = prefix_text r.prefix ++ (codes " " ++ r.interface)
+
+-- the items of a list in braces
+abbrev pub routes_list : List Route → List ℕ
+routes_list routes = bracketed_list (codes " { ") (codes " }") (map route_text routes)
+
+-- `set route PREFIX IF`, or several in braces; a text without routes has no line
+abbrev pub routes_text : List Route → List ℕ
+routes_text [] = []
+routes_text (r ∷ []) = codes "set route " ++ (route_text r ++ codes "\n")
+routes_text (r ∷ s ∷ more) = codes "set route" ++ (routes_list (r ∷ s ∷ more) ++ codes "\n")

@@ -14,7 +14,7 @@ use Rattle.pfs_conf_values.specs.declared.items.ItemKind.TheVariants as what
 use Rattle.pfs_conf_values.specs.declared.tables.TableDef.{TableDef}
 use Rattle.pfs_conf_show.specs.Filters.{parameters_text}
 use Rattle.pfs_conf_show.specs.Options.{state_text}
-use Rattle.pfs_conf_show.specs.Settings.{limits_text, profile_text, syncookies_text, timeouts_text}
+use Rattle.pfs_conf_show.specs.Settings.{limits_text, profile_text, routes_text, syncookies_text, timeouts_text}
 use Rattle.pfs_conf_show.specs.Tables.{table_text}
 
 abbrev pub verb_text : Action → List ℕ
@@ -49,8 +49,9 @@ abbrev pub items_text : List TableDef → ℕ → List Item → List ℕ
 items_text tables depth [] = braces_text depth
 items_text tables depth (i ∷ items) = braces_text (depth - i.depth) ++ (what_text tables i.what ++ items_text tables (next_depth i) items)
 
--- the canonical text: limits, timeouts, the profile, SYN cookies, tables by their numbers, items
+-- the canonical text: limits, timeouts, the profile, SYN cookies, routes, tables by their numbers, items
 abbrev pub text_of : Conf → List ℕ
 text_of conf =
     limits_text conf.limits
-    ++ (timeouts_text conf.timeouts ++ (profile_text conf.profile ++ (syncookies_text conf.syncookies ++ (flat_map table_text conf.tables ++ items_text conf.tables 0 conf.items))))
+    ++ (timeouts_text conf.timeouts ++ (profile_text conf.profile ++ (syncookies_text conf.syncookies ++ (routes_text conf.routes
+    ++ (flat_map table_text conf.tables ++ items_text conf.tables 0 conf.items)))))

@@ -6,17 +6,17 @@ ghost use Rattle.pfs_conf_show.specs.Texts.{anchor_text, braces_text, items_text
 
 use crate::filters::push_parameters;
 use crate::options::push_state;
-use crate::settings::{push_limits, push_profile, push_syncookies, push_timeouts};
+use crate::settings::{push_limits, push_profile, push_routes, push_syncookies, push_timeouts};
 use crate::tables::push_tables;
 use pfs_addr_values::NoMemory;
 use pfs_conf_values::{Action, Anchor, AnchorName, Config, Item, ItemKind, Rule};
 use std::alloc::Global;
 
 /// The canonical text of a configuration: `set limit` with all limits, `set timeout` with all timeouts as resolved,
-/// `set profile` if the text has it, `set syncookies` unless never, a line for each table by its number, and the items in order, each anchor closed by a line
-/// `}`. Under the profile rules are shown as it settled them: with `sloppy`, and with the adaptive pair of their `max`. Every
-/// line ends with a line feed, words are one space apart, and no line is indented. Equal configurations have equal texts, and a text of at most
-/// 1,048,576 bytes whose `adaptive.end` is at most 4294967295 reads as the same configuration again.
+/// `set profile` if the text has it, `set syncookies` unless never, `set route` with all routes if there are any, a line for each
+/// table by its number, and the items in order, each anchor closed by a line `}`. Under the profile rules are shown as it settled
+/// them: with `sloppy`, and with the adaptive pair of their `max`. Every line ends with a line feed, words are one space apart, and
+/// no line is indented. Equal configurations have equal texts, and a text of at most 1,048,576 bytes whose `adaptive.end` is at most 4294967295 reads as the same configuration again.
 ///
 /// It takes memory for the text, and time in proportion to its length. `NoMemory` where memory for the text was
 /// refused. (pf.conf(5), GRAMMAR, for the words; the form is own to this profile)
@@ -28,6 +28,7 @@ pub fn show(alloc: Global, config: &Config) -> Result<Vec<u8>, NoMemory>
     push_timeouts(&mut out, config)?;
     push_profile(&mut out, config.profile())?;
     push_syncookies(&mut out, config.syncookies())?;
+    push_routes(&mut out, config.routes())?;
     push_tables(&mut out, config)?;
     push_items(&mut out, config)?;
     Ok(out)

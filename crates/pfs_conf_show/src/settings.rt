@@ -1,13 +1,13 @@
-//! The lines of `set limit`, `set timeout`, `set profile` and `set syncookies`.
+//! The lines of `set limit`, `set timeout`, `set profile`, `set syncookies` and `set route`.
 
-ghost use Rattle.std.specs.Prelude.{◌≡◌, ◌++◌, OnOk, codes, false, map};
+ghost use Rattle.std.specs.Prelude.{◌≡◌, ◌++◌, IfOk, OnOk, codes, false, map};
 ghost use Rattle.pfs_conf_values.specs.Timeouts.{timeout_names};
-ghost use Rattle.pfs_conf_show.specs.Pieces.{going_on, separator, word_and_number};
-ghost use Rattle.pfs_conf_show.specs.Settings.{adaptive_text, limit_texts, limits_text, profile_text, syncookies_text, timeout_text, timeout_word, timeouts_text};
+ghost use Rattle.pfs_conf_show.specs.Pieces.{begun_after, going_on, separator, word_and_number};
+ghost use Rattle.pfs_conf_show.specs.Settings.{adaptive_text, limit_texts, limits_text, profile_text, route_text, routes_list, routes_text, syncookies_text, timeout_text, timeout_word, timeouts_text};
 
-use crate::pieces::{push_separator, push_worded};
+use crate::pieces::{push_closing, push_prefix, push_separator, push_worded};
 use pfs_addr_values::NoMemory;
-use pfs_conf_values::{Config, LimitName, Profile, Syncookies, TimeoutName};
+use pfs_conf_values::{Config, LimitName, Profile, Route, Syncookies, TimeoutName};
 use pfs_numbers::push_number;
 
 /// The timeouts in the order in which they are shown, which is that of their places.
@@ -131,6 +131,59 @@ fn push_adaptive(out: &mut Vec<u8>, start: u32, end: u32) -> Result<(), NoMemory
     out.extend_from_slice(b"%, end ")?;
     push_number(out, u64::from(end))?;
     out.extend_from_slice(b"%)\n")?;
+    Ok(())
+}
+
+/// One route, or several in braces.
+pub fn push_routes(out: &mut Vec<u8>, routes: &[Route]) -> Result<(), NoMemory>
+    ensures { OnOk result (out.new.items ≡ out.old.items ++ routes_text routes.now) }
+{
+    match routes {
+        [] => Ok(()),
+        [route] => push_one_route(out, route),
+        _ => push_several_routes(out, routes),
+    }
+}
+
+fn push_one_route(out: &mut Vec<u8>, route: &Route) -> Result<(), NoMemory>
+    ensures { OnOk result (out.new.items ≡ out.old.items ++ (codes "set route " ++ (route_text route.now ++ codes "\n"))) }
+{
+    out.extend_from_slice(b"set route ")?;
+    push_route(out, route)?;
+    out.extend_from_slice(b"\n")?;
+    Ok(())
+}
+
+fn push_several_routes(out: &mut Vec<u8>, routes: &[Route]) -> Result<(), NoMemory>
+    ensures { OnOk result (out.new.items ≡ out.old.items ++ (codes "set route" ++ (routes_list routes.now ++ codes "\n"))) }
+{
+    out.extend_from_slice(b"set route")?;
+    let begun = push_route_list(out, routes)?;
+    push_closing(out, b" }", begun)?;
+    out.extend_from_slice(b"\n")?;
+    Ok(())
+}
+
+/// The answer says whether there are any.
+fn push_route_list(out: &mut Vec<u8>, routes: &[Route]) -> Result<bool, NoMemory>
+    ensures text { OnOk result (out.new.items ≡ out.old.items ++ going_on (codes " { ") false (map route_text routes.now)) }
+    ensures begun { IfOk result (λ b. b ≡ begun_after false (map route_text routes.now)) }
+{
+    let mut begun = false;
+    for route in routes {
+        push_separator(out, b" { ", begun)?;
+        push_route(out, route)?;
+        begun = true;
+    }
+    Ok(begun)
+}
+
+fn push_route(out: &mut Vec<u8>, route: &Route) -> Result<(), NoMemory>
+    ensures { OnOk result (out.new.items ≡ out.old.items ++ route_text route.now) }
+{
+    push_prefix(out, route.prefix)?;
+    out.extend_from_slice(b" ")?;
+    out.extend_from_slice(route.interface.as_bytes())?;
     Ok(())
 }
 

@@ -71,6 +71,10 @@ pub key_of_EndWord : key_of_text (codes "end") ≡ key.EndWord
 unfolding key_of_text
 key_of_EndWord = refl
 
+pub key_of_Route : key_of_text (codes "route") ≡ key.Route
+unfolding key_of_text
+key_of_Route = refl
+
 pub key_of_Table : key_of_text (codes "table") ≡ key.Table
 unfolding key_of_text
 key_of_Table = refl

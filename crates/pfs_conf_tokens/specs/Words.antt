@@ -21,7 +21,8 @@ statement_words =
     ∷ (codes "return-icmp6", key.ReturnIcmp6) ∷ (codes "anchor", key.Anchor) ∷ (codes "matches", key.Matches)
     ∷ (codes "user", key.User) ∷ (codes "profile", key.Profile) ∷ (codes "openbsd-7.4", key.OpenBsd74)
     ∷ (codes "syncookies", key.Syncookies) ∷ (codes "never", key.Never) ∷ (codes "always", key.Always)
-    ∷ (codes "adaptive", key.Adaptive) ∷ (codes "start", key.Start) ∷ (codes "end", key.EndWord) ∷ []
+    ∷ (codes "adaptive", key.Adaptive) ∷ (codes "start", key.Start) ∷ (codes "end", key.EndWord)
+    ∷ (codes "route", key.Route) ∷ []
 
 -- words of the state clause, and the names of timeouts
 abbrev pub option_words : List (List ℕ × Key)

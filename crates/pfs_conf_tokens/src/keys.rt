@@ -38,6 +38,8 @@ pub enum Key {
     Start,
     /// `end`: the word; the end of the text is [`Key::End`].
     EndWord,
+    /// `route`
+    Route,
     /// `table`
     Table,
     /// `persist`

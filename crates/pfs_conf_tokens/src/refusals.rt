@@ -15,7 +15,7 @@ pub enum Why {
     Number,
     /// A port or a protocol.
     Service,
-    /// A host, or an entry of a table.
+    /// A host, an entry of a table, or the prefix of a route.
     Host,
     /// The word after `set`.
     Setting,
@@ -54,7 +54,7 @@ pub enum LoadRule {
     ConstOverload,
     /// More tables than `set limit tables`.
     TooManyTables,
-    /// What needs the profile of OpenBSD 7.4, as `synproxy state` and `set syncookies`, in a text without it.
+    /// What needs the profile of OpenBSD 7.4, as `synproxy state`, `set syncookies` and `set route`, in a text without it.
     NeedsProfile,
     /// More entries in all tables than `set limit table-entries`.
     TooManyEntries,

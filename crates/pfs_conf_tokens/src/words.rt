@@ -43,7 +43,7 @@ fn find_word(words: &[(&'static [u8], Key)], word: &[u8]) -> Option<Key>
     None
 }
 
-/// The words of a length, of which there are twenty-two at most: a word is compared with these alone.
+/// The words of a length, of which there are twenty-three at most: a word is compared with these alone.
 fn words_of_length(length: usize) -> &'static [(&'static [u8], Key)]
     ensures { map (λ e. (e.0.now, e.1)) result.now ≡ words_of_length length }
 {
@@ -113,7 +113,7 @@ static FOUR: [(&[u8], Key); 16] = [
     (b"file", Key::Foreign),
 ];
 
-static FIVE: [(&[u8], Key); 22] = [
+static FIVE: [(&[u8], Key); 23] = [
     (b"block", Key::Block),
     (b"quick", Key::Quick),
     (b"inet6", Key::Inet6),
@@ -125,6 +125,7 @@ static FIVE: [(&[u8], Key); 22] = [
     (b"const", Key::Const),
     (b"never", Key::Never),
     (b"start", Key::Start),
+    (b"route", Key::Route),
     (b"state", Key::State),
     (b"flush", Key::Flush),
     (b"icmp6", Key::Icmp6),

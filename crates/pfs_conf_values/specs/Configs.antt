@@ -26,25 +26,27 @@ use Rattle.pfs_conf_values.specs.declared.limits.LimitName.{LimitName}
 use Rattle.pfs_conf_values.specs.declared.limits.Limits.{Limits}
 use Rattle.pfs_conf_values.specs.declared.profiles.Profile.{Profile}
 use Rattle.pfs_conf_values.specs.declared.profiles.Profile.TheVariants as profile
+use Rattle.pfs_conf_values.specs.declared.routes.Route.{Route}
 use Rattle.pfs_conf_values.specs.declared.syncookies.Syncookies.{Syncookies}
 use Rattle.pfs_conf_values.specs.declared.tables.TableDef.{TableDef}
 use Rattle.pfs_conf_values.specs.declared.timeouts.TimeoutName.{TimeoutName}
 use Rattle.pfs_conf_values.specs.declared.timeouts.TimeoutName.TheVariants as timeout
 
--- what a rules text says: its profile, its SYN cookies, the limits, the 16 timeouts by their places, the tables by their numbers,
+-- what a rules text says: its profile, its SYN cookies, its routes, the limits, the 16 timeouts by their places, the tables by their numbers,
 -- and the items in order
 pub record Conf : Type 0 where
   pub profile : Profile
   pub syncookies : Syncookies
+  pub routes : List Route
   pub limits : Limits
   pub timeouts : List ℕ
   pub tables : List TableDef
   pub items : List Item
 
 -- the configuration of these parts
-abbrev pub conf_of : Profile → Syncookies → Limits → List ℕ → List TableDef → List Item → Conf
-conf_of profile syncookies limits timeouts tables items =
-    record { profile = profile; syncookies = syncookies; limits = limits; timeouts = timeouts; tables = tables; items = items }
+abbrev pub conf_of : Profile → Syncookies → List Route → Limits → List ℕ → List TableDef → List Item → Conf
+conf_of profile syncookies routes limits timeouts tables items =
+    record { profile = profile; syncookies = syncookies; routes = routes; limits = limits; timeouts = timeouts; tables = tables; items = items }
 
 -- ---- what is read of it
 

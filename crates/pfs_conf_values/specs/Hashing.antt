@@ -10,6 +10,7 @@ use Rattle.pfs_conf_values.specs.Entries.{TextEntry}
 use Rattle.pfs_conf_values.specs.contracts.items.ItemHash.TheImpl as item
 use Rattle.pfs_conf_values.specs.contracts.limits.LimitsHash.TheImpl as limits
 use Rattle.pfs_conf_values.specs.contracts.profiles.ProfileHash.TheImpl as profile
+use Rattle.pfs_conf_values.specs.contracts.routes.RouteHash.TheImpl as route
 use Rattle.pfs_conf_values.specs.contracts.syncookies.SyncookiesHash.TheImpl as syncookies
 use Rattle.pfs_conf_values.specs.contracts.timeouts.TimeoutsHash.TheImpl as timeouts
 use Rattle.pfs_conf_values.specs.declared.tables.TableDef.{TableDef}
@@ -30,11 +31,12 @@ after_table s t = after_writes s (fed.slice fed.u8 t.name ++ fed.bool t.is_const
 abbrev pub after_tables : DefaultHasher → List TableDef → DefaultHasher
 after_tables s tables = fold after_table (after_writes s (fed.usize (length tables))) tables
 
--- a hasher after a configuration: profile, SYN cookies, limits, timeouts, tables, items
+-- a hasher after a configuration: profile, SYN cookies, routes, limits, timeouts, tables, items
 abbrev pub after_conf : DefaultHasher → Conf → DefaultHasher
 after_conf s conf =
     let asked = (profile.ghosts).hash_input conf.profile ++ (syncookies.ghosts).hash_input conf.syncookies in
-    let head = asked ++ ((limits.ghosts).hash_input conf.limits ++ (timeouts.ghosts).hash_input conf.timeouts) in
+    let ways = asked ++ fed.slice (route.ghosts).hash_input conf.routes in
+    let head = ways ++ ((limits.ghosts).hash_input conf.limits ++ (timeouts.ghosts).hash_input conf.timeouts) in
     after_writes (after_tables (after_writes s head) conf.tables) (fed.slice (item.ghosts).hash_input conf.items)
 
 -- a hasher after a text: its bytes

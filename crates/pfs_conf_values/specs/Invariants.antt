@@ -9,6 +9,7 @@ use Rattle.pfs_conf_values.specs.Entries.{TextEntry, same_network}
 use Rattle.pfs_conf_values.specs.Hashing.{hasher_of}
 use Rattle.pfs_conf_values.specs.LoadRules.{IsCount, IsItem}
 use Rattle.pfs_conf_values.specs.Order.{AreNamedOnce, IsPreorder}
+use Rattle.pfs_conf_values.specs.Routes.{AreRoutes, routes_need_profile}
 use Rattle.pfs_conf_values.specs.Settled.{settled_items}
 use Rattle.pfs_conf_values.specs.Syncookies.{AreSyncookies, need_profile}
 use Rattle.pfs_conf_values.specs.declared.hashing.RulesHasher.{RulesHasher}
@@ -39,6 +40,7 @@ pub record IsTable (t : TableDef) : Type 0 where
 -- what every configuration keeps (the load rules)
 pub record IsConfig (conf : Conf) : Type 0 where
   pub syncookies : AreSyncookies conf.syncookies
+  pub routes : AreRoutes conf.routes
   pub limits : AreLimits conf.limits
   pub size : length conf.timeouts ≡ 16
   pub seconds : (name : TimeoutName) → is_seconds name ≡ true → timeout_of conf name ≤ 2147483647
@@ -55,6 +57,7 @@ pub record IsConfig (conf : Conf) : Type 0 where
   pub anchors : AreNamedOnce [] conf.items
   pub overloads : list_any (overloads_const conf.tables) conf.items ≡ false
   pub cookies_profiled : need_profile conf.profile conf.syncookies ≡ false
+  pub routes_profiled : routes_need_profile conf.profile conf.routes ≡ false
   pub profiled : list_any (needs_profile conf.profile) conf.items ≡ false
   pub settled : settled_items conf.profile conf.items ≡ conf.items
 

@@ -8,6 +8,7 @@ pub mod Limits
 pub mod LoadRules
 pub mod Order
 pub mod Profiles
+pub mod Routes
 pub mod Settled
 pub mod Siblings
 pub mod Syncookies

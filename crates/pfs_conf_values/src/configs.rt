@@ -7,6 +7,7 @@ ghost use Rattle.pfs_conf_values.specs.Hashing.{hasher_of};
 ghost use Rattle.pfs_conf_values.specs.Invariants.{IsConfig, IsTable};
 ghost use Rattle.pfs_conf_values.specs.LoadRules.{AreOptions, IsItem, IsRule};
 ghost use Rattle.pfs_conf_values.specs.Profiles.{effective};
+ghost use Rattle.pfs_conf_values.specs.Routes.{AreRoutes};
 ghost use Rattle.pfs_conf_values.specs.Syncookies.{AreSyncookies};
 
 use crate::actions::{Action, Rate, Scope, StateOptions};
@@ -15,13 +16,14 @@ use crate::hashing::RulesHasher;
 use crate::items::{Item, ItemKind, Rule, RuleNo};
 use crate::limits::{LimitName, Limits};
 use crate::profiles::Profile;
+use crate::routes::Route;
 use crate::syncookies::Syncookies;
 use crate::tables::{TableDef, copy_tables};
 use crate::timeouts::{TimeoutName, Timeouts};
 use pfs_addr_values::NoMemory;
 use std::marker::Model;
 
-/// What an accepted rules text says: its profile, SYN cookies, limits, timeouts, tables and items, with defaults filled in.
+/// What an accepted rules text says: its profile, SYN cookies, routes, limits, timeouts, tables and items, with defaults filled in.
 ///
 /// Clauses see a `Conf`. Every one keeps `IsConfig`, the load rules: `keeps_load_rules` states them to a proof, as do
 /// `limit`, `item_count` and `table_count`, and `item`, `rule`, `options` and `table` state what they give keeps of
@@ -30,6 +32,7 @@ use std::marker::Model;
 pub struct Config {
     profile: Profile,
     syncookies: Syncookies,
+    routes: Vec<Route>,
     limits: Limits,
     timeouts: Timeouts,
     tables: Vec<TableDef>,
@@ -44,9 +47,9 @@ impl Model for Config {
 
     ghost Value = { Conf };
 
-    ghost view = { λ c. record { profile = c.profile; syncookies = c.syncookies; limits = c.limits; timeouts = c.timeouts; tables = c.tables.items; items = c.items.items } };
+    ghost view = { λ c. record { profile = c.profile; syncookies = c.syncookies; routes = c.routes.items; limits = c.limits; timeouts = c.timeouts; tables = c.tables.items; items = c.items.items } };
 
-    ghost invariant = { λ c. IsConfigKept c.entries c.hasher (record { profile = c.profile; syncookies = c.syncookies; limits = c.limits; timeouts = c.timeouts; tables = c.tables.items; items = c.items.items }) };
+    ghost invariant = { λ c. IsConfigKept c.entries c.hasher (record { profile = c.profile; syncookies = c.syncookies; routes = c.routes.items; limits = c.limits; timeouts = c.timeouts; tables = c.tables.items; items = c.items.items }) };
 }
 
 impl Config {
@@ -55,21 +58,23 @@ impl Config {
     pub fn of_parts(
         profile: Profile,
         syncookies: Syncookies,
+        routes: Vec<Route>,
         limits: Limits,
         timeouts: Timeouts,
         tables: Vec<TableDef>,
         items: Vec<Item>,
     ) -> Config
-        requires { IsConfig (conf_of profile syncookies limits timeouts tables.items items.items) }
-        ensures { result ≡ conf_of profile syncookies limits timeouts tables.items items.items }
+        requires { IsConfig (conf_of profile syncookies routes.items limits timeouts tables.items items.items) }
+        ensures { result ≡ conf_of profile syncookies routes.items limits timeouts tables.items items.items }
     {
         let entries = count_entries(&tables);
         let hasher = RulesHasher::of_parts(
-            profile, syncookies, &limits, &timeouts, &tables, &items,
+            profile, syncookies, &routes, &limits, &timeouts, &tables, &items,
         );
         Config {
             profile,
             syncookies,
+            routes,
             limits,
             timeouts,
             tables,
@@ -100,6 +105,15 @@ impl Config {
         ensures kept { AreSyncookies result }
     {
         self.syncookies
+    }
+
+    /// The routes, in the order in which they are shown: no two have the same prefix, and without the profile of OpenBSD 7.4 there
+    /// is none. (own; as route(8) prints them)
+    pub fn routes(&self) -> &[Route]
+        ensures value { result.now ≡ self.now.routes }
+        ensures kept { AreRoutes result.now }
+    {
+        &self.routes
     }
 
     /// Whether the states of TCP that a rule makes are tracked by OpenBSD's table of full states: under its profile, but for
@@ -273,9 +287,11 @@ impl Config {
         let alloc = *self.tables.allocator();
         let items = Vec::from_slice(alloc, &self.items)?;
         let tables = copy_tables(alloc, &self.tables)?;
+        let routes = Vec::from_slice(alloc, &self.routes)?;
         Ok(Config {
             profile: self.profile,
             syncookies: self.syncookies,
+            routes,
             limits: self.limits,
             timeouts: self.timeouts,
             tables,

@@ -8,6 +8,7 @@ ghost use Rattle.pfs_conf_values.specs.Hashing.{after_conf, begun_with, hasher_o
 use crate::items::Item;
 use crate::limits::Limits;
 use crate::profiles::Profile;
+use crate::routes::Route;
 use crate::syncookies::Syncookies;
 use crate::tables::{TableDef, feed_tables};
 use crate::timeouts::Timeouts;
@@ -22,21 +23,23 @@ pub struct RulesHasher {
 }
 
 impl RulesHasher {
-    /// The hasher of a configuration: it was fed with all that this says: profile, SYN cookies, limits, timeouts, tables with their entries, and items.
+    /// The hasher of a configuration: it was fed with all that this says: profile, SYN cookies, routes, limits, timeouts, tables with their entries, and items.
     /// It goes through them once, and takes no memory.
     pub(crate) fn of_parts(
         profile: Profile,
         syncookies: Syncookies,
+        routes: &[Route],
         limits: &Limits,
         timeouts: &Timeouts,
         tables: &[TableDef],
         items: &[Item],
     ) -> RulesHasher
-        ensures { result.begun ≡ hasher_of (conf_of profile syncookies limits.now timeouts.now tables.now items.now) }
+        ensures { result.begun ≡ hasher_of (conf_of profile syncookies routes.now limits.now timeouts.now tables.now items.now) }
     {
         let mut rules = DefaultHasher::new();
         profile.hash(&mut rules);
         syncookies.hash(&mut rules);
+        routes.hash(&mut rules);
         limits.hash(&mut rules);
         timeouts.hash(&mut rules);
         feed_tables(tables, &mut rules);

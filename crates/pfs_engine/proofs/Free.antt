@@ -10,12 +10,12 @@ use Rattle.pfs_conf_values.specs.declared.filters.TableNo.{TableNo}
 use Rattle.pfs_store_contract.specs.Admission.{is_answered}
 use Rattle.pfs_store_contract.specs.Calls.{IsFreeRefusal, packet_limit}
 use Rattle.pfs_store_contract.specs.Handshakes.{hits_connections, hits_rate}
-use Rattle.pfs_store_contract.specs.Touching.{completes_at, is_taken, world_after_touch}
+use Rattle.pfs_store_contract.specs.Touching.{completes_at, is_asking, is_taken, world_after_touch}
 use Rattle.pfs_store_contract.specs.Worlds.{World, state_with}
 use Rattle.pfs_store_contract.specs.declared.records.Limit.{Limit}
 use Rattle.pfs_store_contract.specs.declared.records.State.{State}
 use Rattle.pfs_engine_machine.specs.Guards.{Guard, asked, brings_cookie, gets_cookie}
-use Rattle.pfs_engine_machine.specs.Machine.{Held, Machine, machine_at_moment, answer_behind_guard, answer_to_packet, answer_of_action, answer_of_exceeded, answer_of_key, answer_of_limits, answer_of_rule, answer_of_state, deciding_rule, exceeded_of, held_behind_guard, held_for, held_of, outcome_of_new}
+use Rattle.pfs_engine_machine.specs.Machine.{Held, Machine, machine_at_moment, answer_behind_guard, answer_to_packet, answer_of_action, answer_of_exceeded, answer_of_key, answer_of_limits, answer_of_rule, answer_of_state, deciding_rule, exceeded_of, held_behind_guard, held_for, held_of, outcome_of_held, outcome_of_new}
 use Rattle.pfs_engine_machine.specs.Kept.{moment_of}
 use Rattle.pfs_engine_machine.specs.Refusals.{IsFree, IsFreeOf}
 use Rattle.pfs_engine_machine.specs.Runs.{IsRefusedIn, NeedsMemory, without_memory}
@@ -52,16 +52,17 @@ free_rule conf m p cookie now (Some rule) free = free_action conf m p cookie now
 free_state : (conf : Conf) (m : Held) (p : PacketView) (cookie : Bool) (now : ℕ) (found : Option State)
     → IsFree conf m.world p (answer_of_state conf m p cookie now found).0 → NeedsNone conf m p cookie found
 free_state conf m p cookie now None free = free_rule conf m p cookie now (deciding_rule conf m (asked p cookie)) free
-free_state conf m p cookie now (Some s) free = by (is_taken p s) (if completes_at p s then exceeded_of (hits_connections conf after s) (hits_rate conf after s) else None) free
+free_state conf m p cookie now (Some s) free = by (is_taken p s) (is_asking p s) (if completes_at p s then exceeded_of (hits_connections conf after s) (hits_rate conf after s) else None) free
   where
     after : World
     after = world_after_touch conf m.world s p now
 
-    by : (taken : Bool) (limits : Option Exceeded) → IsFree conf m.world p (answer_of_exceeded conf (held_of after m.tables) s.number s.dir s.rule s.source now taken limits).0
-        → IsFreeOf conf p s.rule
-    by taken (Some e) of = of
-    by true None of = of
-    by false None of = of
+    by : (taken asks : Bool) (limits : Option Exceeded)
+        → IsFree conf m.world p (answer_of_exceeded conf (held_of after m.tables) s.number s.dir s.rule s.source now (outcome_of_held s.rule taken asks) limits).0 → IsFreeOf conf p s.rule
+    by taken asks (Some e) of = of
+    by true true None of = of
+    by true false None of = of
+    by false asks None of = of
 
 needs_none : (conf : Conf) (m : Held) (p : PacketView) (cookie : Bool) (now : ℕ) → IsFree conf m.world p (answer_of_key conf m p cookie now).0 → NeedsNoneOf conf m p cookie
 needs_none conf m p cookie now free = free_state conf m p cookie now (state_with (key_of p) m.world) free

@@ -6,10 +6,11 @@ use Rattle.pfs_conf_values.specs.Configs.{Conf}
 use Rattle.pfs_conf_values.specs.Invariants.{IsConfig}
 use Rattle.pfs_conf_values.specs.declared.items.RuleNo.{RuleNo}
 use Rattle.pfs_store_contract.specs.Admission.{leaves_node}
+use Rattle.pfs_store_contract.specs.declared.kills.FromTo.{FromTo}
 use Rattle.pfs_store_contract.specs.declared.records.Limit.{Limit}
 use Rattle.pfs_engine_machine.specs.Kept.{IsKept, moment_of}
 use Rattle.pfs_engine_machine.specs.Guards.{Guard, brings_cookie, guard_after_packet, guard_for}
-use Rattle.pfs_engine_machine.specs.Machine.{Held, Machine, answer_behind_guard, answer_of_key, answer_to_command, answer_to_packet, arrive, first_moment, held_behind_guard, held_for, machine_at_moment, start, step}
+use Rattle.pfs_engine_machine.specs.Machine.{Held, Machine, answer_behind_guard, answer_of_key, answer_to_command, answer_to_kill, answer_to_packet, arrive, first_moment, held_behind_guard, held_for, machine_at_moment, start, step}
 use Rattle.pfs_engine_machine.specs.Refusals.{IsDropped, IsDroppedBehindGuard}
 use Rattle.pfs_engine_machine.specs.Runs.{without_memory}
 use Rattle.pfs_engine_machine.specs.declared.events.Arrival.{Arrival}
@@ -20,7 +21,7 @@ use Rattle.pfs_engine_machine.specs.declared.events.Outcome.{Outcome}
 use Rattle.pfs_engine_machine.specs.declared.events.Outcome.TheVariants as outcome
 use Rattle.pfs_engine_machine.proofs.Answering.{refused_result, shared_result}
 use Rattle.pfs_engine_machine.proofs.KeptPackets.{kept_behind_guard, kept_met_behind_guard, made_behind_guard, made_met_behind_guard}
-use Rattle.pfs_engine_machine.proofs.KeptTime.{first_advanced, kept_advanced, kept_command, kept_start, made_advanced}
+use Rattle.pfs_engine_machine.proofs.KeptTime.{first_advanced, kept_advanced, kept_command, kept_elsewhere, kept_start, made_advanced}
 use Rattle.pfs_engine.specs.Calls.{CountsPacket, IsAnsweredBy, IsLimited, Keeps, answer_at_last, guard_at_last}
 use Rattle.pfs_engine.specs.Held.{HeldView, Holds, IsAnsweredAs, IsAnsweredBehindGuard, IsDone}
 use Rattle.pfs_engine.specs.Packets.{NeedsNoneBehindGuard, NeedsNoneOf, NeedsNoneUnless}
@@ -75,6 +76,20 @@ whole_told before after g first last taken begun at table done o i h =
     let is : after.held ≡ (answer_to_command before.config before.held begun at table done).1 = ap (λ (a : Outcome × Held). a.1) h.told in
     whole_under before.config after g first last taken h.config (record {
       kept = subst (λ (x : Held). IsKept before.config x (moment_of last)) (sym is) (kept_command before.config before.held begun at table done (moment_of last) i.kept);
+      made = omega (arith, ap (λ (x : Held). x.world.made) is, i.made);
+      few = i.few;
+      moments = i.moments;
+      early = i.early;
+      config = i.config;
+    })
+
+pub whole_killed : {X : Type 0} (before after : HeldView X) (g : Guard) (first last : Option ℕ) (taken at : ℕ) (hosts : FromTo) (o : Outcome)
+    → IsWhole before.config (machine_at before.held g first last) taken → IsDone o (answer_to_kill before.config before.held at hosts) before after
+    → IsWhole after.config (machine_at after.held g first last) taken
+whole_killed before after g first last taken at hosts o i h =
+    let is : after.held ≡ (answer_to_kill before.config before.held at hosts).1 = ap (λ (a : Outcome × Held). a.1) h.told in
+    whole_under before.config after g first last taken h.config (record {
+      kept = subst (λ (x : Held). IsKept before.config x (moment_of last)) (sym is) (kept_elsewhere before.config before.held hosts at (moment_of last) i.kept);
       made = omega (arith, ap (λ (x : Held). x.world.made) is, i.made);
       few = i.few;
       moments = i.moments;

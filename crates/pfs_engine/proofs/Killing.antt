@@ -9,7 +9,7 @@ use Rattle.pfs_store_contract.specs.Handshakes.{flush_of, goes_with, over_rate, 
 use Rattle.pfs_store_contract.specs.Leaving.{world_without}
 use Rattle.pfs_store_contract.specs.Worlds.{World}
 use Rattle.pfs_store_contract.specs.declared.records.Touched.{Touched}
-use Rattle.pfs_engine_machine.specs.Machine.{Held, addition_of, answer_of_exceeded, exceeded_of, held_of, tables_after_addition}
+use Rattle.pfs_engine_machine.specs.Machine.{Held, addition_of, answer_of_exceeded, exceeded_of, held_of, outcome_of_held, tables_after_addition}
 use Rattle.pfs_engine_machine.specs.declared.events.Exceeded.{Exceeded}
 use Rattle.pfs_engine_machine.specs.declared.events.Outcome.{Outcome}
 use Rattle.pfs_engine_machine.specs.declared.events.Outcome.TheVariants as outcome
@@ -33,4 +33,4 @@ told_of_kill conf h number now t o limits added killed after tables completed op
     let met : (if t.completed then limits_by (options_of conf t.rule.0) else None) ≡ Some limits =
     ap (λ (b : Bool). if b then limits_by (options_of conf t.rule.0) else None) completed ∙ (ap limits_by options ∙ exceeded) in
     let here : (outcome.Kill t.rule limits added killed, held_of after tables) ≡ answer_by o = rw (a, b, c, d) refl in
-    here ∙ (sym (ap answer_by options) ∙ sym (ap (answer_of_exceeded conf h number t.dir t.rule t.source now t.taken) met))
+    here ∙ (sym (ap answer_by options) ∙ sym (ap (answer_of_exceeded conf h number t.dir t.rule t.source now (outcome_of_held t.rule t.taken t.asks)) met))

@@ -5,5 +5,6 @@ mod Fewer
 mod Keeping
 mod Killing
 mod Metering
+mod Rows
 mod Watching
 mod Turning

@@ -6,3 +6,4 @@ pub mod Packets
 pub mod Rooms
 pub mod Views
 pub mod Watches
+pub mod Ways

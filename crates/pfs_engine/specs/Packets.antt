@@ -12,7 +12,7 @@ use Rattle.pfs_store_contract.specs.Worlds.{state_with}
 use Rattle.pfs_store_contract.specs.declared.records.State.{State}
 use Rattle.pfs_store_contract.specs.declared.records.Touched.{Touched}
 use Rattle.pfs_engine_machine.specs.Guards.{Guard, asked, brings_cookie, gets_cookie}
-use Rattle.pfs_engine_machine.specs.Machine.{Held, answer_of_exceeded, deciding_rule, exceeded_of, held_for}
+use Rattle.pfs_engine_machine.specs.Machine.{Held, answer_of_exceeded, deciding_rule, exceeded_of, held_for, outcome_of_held}
 use Rattle.pfs_engine_machine.specs.Refusals.{IsFreeOf}
 use Rattle.pfs_engine_machine.specs.declared.events.Outcome.{Outcome}
 
@@ -21,7 +21,7 @@ abbrev pub answer_of_touch : Conf → Held → ℕ → ℕ → Touched → Outco
 answer_of_touch conf h number now t =
     let o = options_of conf t.rule.0 in
     let limits = exceeded_of (exceeds_maximum o.max_src_conn t.connections) (over_rate o.max_src_conn_rate t.score.value) in
-    answer_of_exceeded conf h number t.dir t.rule t.source now t.taken (if t.completed then limits else None)
+    answer_of_exceeded conf h number t.dir t.rule t.source now (outcome_of_held t.rule t.taken t.asks) (if t.completed then limits else None)
 
 -- a rule makes no state, or the state is refused, and no node is left
 abbrev pub NeedsNoneAt : Conf → Held → PacketView → ℕ → Action → Type 0

@@ -1,6 +1,6 @@
 //! The engine: a machine over any store, with the rules made ready.
 
-ghost use Rattle.std.specs.Prelude.{◌≡◌, ◌+◌, ◌<◌, ◌≤◌, ◌^◌, ◌++◌, length, Some, IfOk, IsOk, IsSome, OnErr, OnOk};
+ghost use Rattle.std.specs.Prelude.{◌≡◌, ◌+◌, ◌<◌, ◌≤◌, ◌^◌, ◌++◌, [], length, Some, IfOk, IsOk, IsSome, OnErr, OnOk};
 ghost use Rattle.std.specs.Option.{ForSome};
 ghost use Rattle.pfs_addr_values.specs.Packets.{run_limit};
 ghost use Rattle.pfs_store_contract.specs.Worlds.{empty_world};
@@ -8,18 +8,23 @@ ghost use Rattle.pfs_conf_values.specs.Configs.{limit_of};
 ghost use Rattle.pfs_eval.specs.Tables.{entered_to};
 ghost use Rattle.pfs_engine_machine.specs.Kept.{IsWithinLimits, moment_of};
 ghost use Rattle.pfs_engine_machine.specs.Refusals.{IsFree};
-ghost use Rattle.pfs_engine_machine.specs.Machine.{machine_at_moment, amounts_of, answer_to_command, due, entries_held, nodes_held, start, states_held, step, machine_after, outcomes_of};
-ghost use Rattle.pfs_engine_machine.specs.Runs.{MayChange, MayCome, AreAllowed, IsInOrder, IsRefusedIn, IsStopped, NeedsMemory, packets_in, packets_of};
+ghost use Rattle.pfs_engine_machine.specs.Machine.{machine_at_moment, amounts_of, answer_to_command, answer_to_kill, due, entries_held, nodes_held, start, states_held, step, machine_after, outcomes_of};
+ghost use Rattle.pfs_engine_machine.specs.Runs.{MayChange, MayCome, AreAllowed, IsInOrder, IsPacket, IsRefusedIn, IsStopped, NeedsMemory, packets_in, packets_of};
+ghost use Rattle.pfs_engine_machine.specs.Ways.{IsRefusedOnWay, events_of_record, way, way_on};
 ghost use Rattle.pfs_engine.specs.Calls.{CountsEvent, CountsPacket, IsAnsweredBy, IsAt, IsLimited, IsWorkBehind, IsWorkOfEvent, IsWorkOfPacket, IsWorkOfSeconds, Keeps, StaysWithin, answer_at_last, met_held};
+ghost use Rattle.pfs_engine.specs.Ways.{IsWorkBehindFirst, IsWorkOfWay};
 
 use crate::guard::Guard;
 use crate::held::Held;
 use crate::packets::{Meters, answer_behind_guard};
 use crate::passing::pass_due;
+use crate::ways::{first_event, second_event};
 use crate::works::Work;
 use pfs_addr_values::{NoMemory, Packet, RUN_LIMIT};
 use pfs_conf_values::{Config, LimitName, TableNo};
-use pfs_engine_machine::{Amounts, Arrival, Command, Entered, Event, Outcome, TableEntry};
+use pfs_engine_machine::{
+    Amounts, Arrival, Command, Entered, Event, FromTo, Outcome, TableEntry, Way,
+};
 use pfs_store_contract::Store;
 use std::alloc::Global;
 use std::marker::Model;
@@ -104,7 +109,7 @@ impl<S: Store> Engine<S> {
         self.last
     }
 
-    /// How many packets were answered, at most 1,000,000,000.
+    /// How many packets were answered, at most 2,000,000,000.
     pub fn taken(&self) -> u64
         ensures { result ≡ self.now.taken }
     {
@@ -133,7 +138,7 @@ impl<S: Store> Engine<S> {
         self.held.entries()
     }
 
-    /// The work of the latest `advance`, `packet` or `step`; none before the first.
+    /// The work of the latest `advance`, `packet`, `step` or `way`; none before the first.
     pub fn work(&self) -> Work
         ensures { result ≡ self.now.work }
     {
@@ -159,8 +164,9 @@ impl<S: Store> Engine<S> {
     }
 
     /// Takes a packet at the last moment, whatever its protocol: it gets a SYN cookie, or it is one of a held state, or the rules
-    /// decide on it, or on the SYN whose cookie it brings. Fewer than 1,000,000,000 packets were taken before. Under the profile of OpenBSD 7.4 a SYN without ACK for a state of TCP that both
-    /// peers have closed, or that was reset, takes that state out, and is one of no held state.
+    /// decide on it, or on the SYN whose cookie it brings. Fewer than 2,000,000,000 packets were taken before. Under the profile of
+    /// OpenBSD 7.4 a SYN without ACK for a state of TCP that both peers have closed, or that was reset, takes that state out, and is
+    /// one of no held state.
     ///
     /// `NoMemory` where memory was refused for a cookie, a new state, for the node that a refusal leaves under that profile, or for the
     /// entry of an overload table; then nothing that is held has changed, but that such a state has left. A cookie that it brings stays
@@ -284,6 +290,23 @@ impl<S: Store> Engine<S> {
         }
     }
 
+    /// Takes out, at the last moment, the states that go from these hosts to those: by the source of the packet that made them, and by
+    /// its destination, as it was sent. It returns how many left. A source node that loses its last state is kept for its retention
+    /// from then on. It goes through all states, takes no memory, and is no packet: what was taken, and the work of the latest call,
+    /// stay. (pfctl(8), "-k")
+    pub fn kill(&mut self, hosts: &FromTo) -> u64
+        requires started { IsSome self.old.machine.last }
+        ensures answer { (Outcome.Killed result, self.new.machine.held)
+            ≡ answer_to_kill self.old.config self.old.machine.held (moment_of self.old.machine.last) hosts.now }
+        ensures keeps { Keeps self.old self.new }
+        ensures guard { self.new.machine.guard ≡ self.old.machine.guard }
+        ensures taken { self.new.taken ≡ self.old.taken }
+        ensures work { self.new.work ≡ self.old.work }
+    {
+        let now = self.last.unwrap_or(0);
+        self.held.kill(hosts, now)
+    }
+
     /// How much is held. (pfctl(8), "-si")
     pub fn amounts(&self) -> Amounts
         ensures { result ≡ amounts_of self.now.machine.held }
@@ -296,14 +319,15 @@ impl<S: Store> Engine<S> {
     }
 
     /// Takes one event: lets time pass to its moment, in seconds, which is not before the last one, and then takes what comes.
-    /// Fewer than 1,000,000,000 packets were taken before, and a command is about a table of the configuration's that is
-    /// not `const`. The outcome is what `packet` or `command` answers, `Skip`, or `Held` with what `amounts` answers.
+    /// Fewer than 2,000,000,000 packets were taken before, and a command is about a table of the configuration's that is
+    /// not `const`. The outcome is what `packet` or `command` answers, `Skip`, `Killed` with what `kill` answers, or `Held` with what
+    /// `amounts` answers.
     ///
     /// `NoMemory` where memory was refused to what needs it: a packet that gets a SYN cookie, or makes a new state, a source node or an
     /// entry of an overload table, or an entry that is added and new. Then the purges due are done, the engine is at the event's moment,
     /// and nothing else has changed, but that a state has left which the packet does not meet, or that SYN cookies are on. All else
     /// takes no memory. (pf.conf(5), STATEFUL FILTERING and STATEFUL TRACKING OPTIONS;
-    /// pfctl(8), "-T" and "-si")
+    /// pfctl(8), "-T", "-k" and "-si")
     #[tactic(auto, unfolding(pfs_engine_machine::specs::Machine::step))]
     pub fn step(&mut self, event: &Event) -> Result<Outcome, NoMemory>
         requires order { ForSome self.old.machine.last (λ m. m ≤ event.now.time) }
@@ -322,12 +346,109 @@ impl<S: Store> Engine<S> {
             Arrival::Packet(packet) => self.take(packet, purges),
             Arrival::Skip => Ok(Outcome::Skip),
             Arrival::Table { table, command } => self.command(*table, command),
+            Arrival::Kill(hosts) => Ok(Outcome::Killed(self.kill(hosts))),
             Arrival::Held => Ok(Outcome::Held(self.amounts())),
         }
     }
 
+    /// Takes one record: what `step` does with the packet, where it is asked first; and, where that lets it go on, with the packet as it
+    /// leaves, or with pf's own SYN in its place. Without routes each record is one event, as it stands. The moment is not before the
+    /// last one. Fewer than 1,999,999,999 packets were taken before, and a command is about a table of the configuration's that is
+    /// not `const`.
+    ///
+    /// `NoMemory` as `step` says, of either event: where it comes of the second, what came of the first stays. (pf.conf(5), STATEFUL
+    /// FILTERING; `set route` is own)
+    pub fn way(&mut self, row: &Event) -> Result<Way, NoMemory>
+        requires order { ForSome self.old.machine.last (λ m. m ≤ row.now.time) }
+        requires moment { row.now.time < 2 ^ 32 }
+        requires room { self.old.taken + 1 < run_limit }
+        requires table { MayCome self.old.config row.now.what }
+        ensures ok { IfOk result (λ w. (w, self.new.machine) ≡ way self.old.config self.old.machine row.now) }
+        ensures err { OnErr result (IsRefusedOnWay self.old.config self.old.machine row.now self.new.machine) }
+        ensures keeps { IsAt row.now.time self.old self.new }
+        ensures taken { OnOk result (self.new.taken ≡ self.old.taken + packets_in (events_of_record self.old.config self.old.machine row.now)) }
+        ensures few { self.new.taken ≤ self.old.taken + 2 }
+        ensures work { IsWorkOfWay S.counts self.old.config self.old.machine row.now result self.new.work }
+    {
+        if self.config().routes().is_empty() {
+            self.go_alone(row)
+        } else {
+            self.go_through(row)
+        }
+    }
+
+    /// Takes a record where there are no routes: as it stands.
+    #[tactic(auto, unfolding(pfs_engine_machine::specs::Ways::way))]
+    fn go_alone(&mut self, row: &Event) -> Result<Way, NoMemory>
+        requires routes { self.old.config.routes ≡ [] }
+        requires order { ForSome self.old.machine.last (λ m. m ≤ row.now.time) }
+        requires moment { row.now.time < 2 ^ 32 }
+        requires room { self.old.taken + 1 < run_limit }
+        requires table { MayCome self.old.config row.now.what }
+        ensures ok { IfOk result (λ w. (w, self.new.machine) ≡ way self.old.config self.old.machine row.now) }
+        ensures err { OnErr result (IsRefusedOnWay self.old.config self.old.machine row.now self.new.machine) }
+        ensures keeps { IsAt row.now.time self.old self.new }
+        ensures taken { OnOk result (self.new.taken ≡ self.old.taken + packets_in (events_of_record self.old.config self.old.machine row.now)) }
+        ensures few { self.new.taken ≤ self.old.taken + 2 }
+        ensures work { IsWorkOfWay S.counts self.old.config self.old.machine row.now result self.new.work }
+    {
+        let first = self.step(row)?;
+        Ok(Way {
+            first,
+            second: None,
+        })
+    }
+
+    /// Takes a record where there are routes: the event at which its packet is asked first, and the one at which it leaves.
+    #[tactic(auto, unfolding(pfs_engine_machine::specs::Ways::way))]
+    fn go_through(&mut self, row: &Event) -> Result<Way, NoMemory>
+        requires order { ForSome self.old.machine.last (λ m. m ≤ row.now.time) }
+        requires moment { row.now.time < 2 ^ 32 }
+        requires room { self.old.taken + 1 < run_limit }
+        requires table { MayCome self.old.config row.now.what }
+        ensures ok { IfOk result (λ w. (w, self.new.machine) ≡ way self.old.config self.old.machine row.now) }
+        ensures err { OnErr result (IsRefusedOnWay self.old.config self.old.machine row.now self.new.machine) }
+        ensures keeps { IsAt row.now.time self.old self.new }
+        ensures taken { OnOk result (self.new.taken ≡ self.old.taken + packets_in (events_of_record self.old.config self.old.machine row.now)) }
+        ensures few { self.new.taken ≤ self.old.taken + 2 }
+        ensures work { IsWorkOfWay S.counts self.old.config self.old.machine row.now result self.new.work }
+    {
+        let event = first_event(self.config(), row);
+        let first = self.step(&event)?;
+        match second_event(self.config(), row, &first) {
+            None => Ok(Way {
+                first,
+                second: None,
+            }),
+            Some(event) => self.go_on(first, &event),
+        }
+    }
+
+    /// Takes the second event of a record, at the last moment, behind what came of the first.
+    #[tactic(auto)]
+    fn go_on(&mut self, first: Outcome, event: &Event) -> Result<Way, NoMemory>
+        requires moment { self.old.machine.last ≡ Some event.now.time }
+        requires small { event.now.time < 2 ^ 32 }
+        requires room { self.old.taken < run_limit }
+        requires packet { IsPacket event.now.what }
+        ensures ok { IfOk result (λ w. (w, self.new.machine) ≡ way_on self.old.config (first, self.old.machine) (Some event.now)) }
+        ensures err { OnErr result (IsRefusedIn self.old.config self.old.machine event.now self.new.machine) }
+        ensures keeps { IsAt event.now.time self.old self.new }
+        ensures taken { OnOk result (self.new.taken ≡ self.old.taken + 1) }
+        ensures few { self.new.taken ≤ self.old.taken + 1 }
+        ensures work { IsWorkBehindFirst S.counts self.old.config self.old.machine event.now result self.old.work self.new.work }
+    {
+        let earlier = self.work;
+        let outcome = self.step(event);
+        self.work = Work::of_both(earlier, self.work);
+        Ok(Way {
+            first,
+            second: Some(outcome?),
+        })
+    }
+
     /// Takes events in turn, and appends the outcome of each. Moments do not fall, from the last one on; all events
-    /// together fit into the 1,000,000,000 packets; and no command is about a table that is `const`. `NoMemory`
+    /// together fit into the 2,000,000,000 packets; and no command is about a table that is `const`. `NoMemory`
     /// where memory was refused at an event: the outcomes are those of the events before it. If it was refused for the
     /// outcome, the engine is where these events leave it. If it was refused in what comes, which needs memory
     /// then, the engine is at the event's moment.

@@ -135,14 +135,15 @@ fn complete_handshake<S: Store>(
     }
 }
 
-/// What comes of a packet of a held state that exceeds no limit: it goes on, or pf takes it itself.
+/// What comes of a packet of a held state that exceeds no limit: it goes on, or pf takes it itself, and asks the other peer then, or
+/// not.
 fn passed(touched: &Touched) -> Outcome
-    ensures { result ≡ outcome_of_held touched.now.rule touched.now.taken }
+    ensures { result ≡ outcome_of_held touched.now.rule touched.now.taken touched.now.asks }
 {
-    if touched.taken {
-        Outcome::Taken(touched.rule)
-    } else {
-        Outcome::State(touched.rule)
+    match (touched.taken, touched.asks) {
+        (true, true) => Outcome::Asking(touched.rule),
+        (true, false) => Outcome::Taken(touched.rule),
+        (false, _) => Outcome::State(touched.rule),
     }
 }
 

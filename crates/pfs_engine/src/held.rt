@@ -9,7 +9,7 @@ ghost use Rattle.pfs_eval.specs.Verdict.{IsRuleAt};
 ghost use Rattle.pfs_store_contract.specs.Calls.{state_number, state_rule};
 ghost use Rattle.pfs_store_contract.specs.Counts.{half_open};
 ghost use Rattle.pfs_store_contract.specs.Worlds.{empty_world, state_with};
-ghost use Rattle.pfs_engine_machine.specs.Machine.{answer_to_command, deciding_rule, held_of, start, world_after_purges};
+ghost use Rattle.pfs_engine_machine.specs.Machine.{answer_to_command, answer_to_kill, deciding_rule, held_of, start, world_after_purges};
 ghost use Rattle.pfs_engine_machine.specs.Shares.{seconds};
 ghost use Rattle.pfs_engine_machine.specs.Visits.{AreVisits};
 ghost use Rattle.pfs_engine.specs.Held.{Holds, IsAnsweredAs, IsDone};
@@ -19,7 +19,7 @@ use crate::purges::purge_each;
 use crate::works::Work;
 use pfs_addr_values::{FlowKey, Meter, NoMemory, Packet};
 use pfs_conf_values::{Config, LimitName, RuleNo, TableNo};
-use pfs_engine_machine::{Command, Entered, Outcome, TableEntry};
+use pfs_engine_machine::{Command, Entered, FromTo, Outcome, TableEntry};
 use pfs_eval::{Book, Tables};
 use pfs_store_contract::{Found, Store};
 use std::alloc::Global;
@@ -176,5 +176,15 @@ impl<S: Store> Held<S> {
             self.old self.new }
     {
         self.tables.delete_entry(table, entry)
+    }
+
+    /// Takes out the states that go from hosts to hosts at a moment. It returns how many left. It goes through all states, and no
+    /// memory is taken.
+    pub(crate) fn kill(&mut self, hosts: &FromTo, now: u64) -> u64
+        requires { now ≤ 2 ^ 63 }
+        ensures { IsDone (Outcome.Killed result) (answer_to_kill self.old.config self.old.held now hosts.now) self.old self.new }
+    {
+        let mut looks = Meter::new();
+        self.store.kill_from_to(hosts, now, &mut looks)
     }
 }

@@ -10,10 +10,11 @@ mod packets;
 mod passing;
 mod purges;
 mod watches;
+mod ways;
 mod works;
 
 pub use engine::Engine;
-pub use pfs_engine_machine::{Arrival, Event, Exceeded, Outcome};
+pub use pfs_engine_machine::{Arrival, Event, Exceeded, Outcome, Way};
 pub use pfs_eval::Added;
 pub use pfs_store_contract::Limit;
 pub use works::Work;

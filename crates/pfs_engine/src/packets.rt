@@ -20,7 +20,7 @@ ghost use Rattle.pfs_engine.specs.Packets.{NeedsNone, NeedsNoneBehindGuard, Need
 use crate::guard::Guard;
 use crate::handshakes::take_packet_of_state;
 use crate::held::Held;
-use pfs_addr_values::{Flags, FlowKey, Meter, NoMemory, Packet, Proto};
+use pfs_addr_values::{Flags, FlowKey, Meter, NoMemory, Packet};
 use pfs_conf_values::{Action, Config, RuleNo};
 use pfs_engine_machine::Outcome;
 use pfs_store_contract::{Found, Store, is_answered};
@@ -89,7 +89,6 @@ fn answer<S: Store>(
     requires room { held.old.held.world.made < run_limit }
     requires moment { now ≤ 2 ^ 63 }
     requires meters { meters.old ≡ record { visits = 0; looks = 0 } }
-    requires tcp { cookie ≡ true → packet.now.proto ≡ Proto.Tcp }
     ensures answered { IsAnsweredTo result packet.now cookie now held.old held.new }
     ensures free { NeedsNoneOf held.old.config (held_for held.old.config held.old.held packet.now now) packet.now cookie → IsOk result }
     ensures meters { AreMetersOf S.counts held.old.config held.old.held (held_for held.old.config held.old.held packet.now now)
@@ -149,7 +148,6 @@ fn by_rules<S: Store>(
 ) -> Result<Outcome, NoMemory>
     requires fresh { state_with (key_of packet.now) held.old.held.world ≡ None }
     requires room { held.old.held.world.made < run_limit }
-    requires tcp { cookie ≡ true → packet.now.proto ≡ Proto.Tcp }
     requires visits { visits.old ≡ 0 }
     ensures answered { IsAnswered result (answer_of_rule held.old.config held.old.held packet.now cookie now
         (deciding_rule held.old.config held.old.held (asked packet.now cookie))) held.old held.new }
@@ -165,24 +163,15 @@ fn by_rules<S: Store>(
 
 /// The packet that rules are asked for: where it brings a cookie, the SYN that pf answered for them.
 fn asked(packet: &Packet, cookie: bool) -> Packet
-    requires { cookie ≡ true → packet.now.proto ≡ Proto.Tcp }
     ensures { result ≡ asked packet.now cookie }
 {
     if !cookie {
         return *packet;
     }
-    let syn_alone = Flags {
+    packet.with_flags(Flags {
         syn: true,
         ..Flags::default()
-    };
-    Packet::new(
-        packet.dir(),
-        packet.ifname(),
-        packet.proto(),
-        packet.source(),
-        packet.destination(),
-        syn_alone,
-    )
+    })
 }
 
 /// What the rule that decides makes of it.

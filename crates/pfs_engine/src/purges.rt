@@ -55,10 +55,12 @@ fn purge_second<S: Store>(store: &mut S, at: Passage, to: u64) -> Passage
     let second = at.second + 1;
     let mut looks = Meter::new();
     let states = store.watch_states(second, &mut looks);
-    let nodes = store.watch_nodes(second);
+    let mut node_looks = Meter::new();
+    let nodes = store.watch_nodes(second, &mut node_looks);
+    let most_nodes = nodes.slice.examined.max(node_looks.count());
     Passage {
         second: second_after(second, to, states.slice, nodes.slice),
-        work: greater(at.work, looks.count(), states.slice, nodes.slice),
+        work: greater(at.work, looks.count(), states.slice, most_nodes),
         states: at.states.after(&states),
         nodes: at.nodes.of_nodes(states.slice.removed).after(&nodes),
     }
@@ -111,18 +113,18 @@ fn quiet_seconds(at: Passage, to: u64) -> u64
     last.saturating_sub(at.second)
 }
 
-/// The work with a second more: the greatest slices, and the most looks of one.
-fn greater(work: Work, looks: u64, states: Slice, nodes: Slice) -> Work
+/// The work with a second more, in which so many nodes were examined: the greatest slices, and the most looks of one.
+fn greater(work: Work, looks: u64, states: Slice, nodes: u64) -> Work
     ensures { result ≡ record work {
       looks = max work.looks looks;
       most_states = max work.most_states states.examined;
-      most_nodes = max work.most_nodes nodes.examined;
+      most_nodes = max work.most_nodes nodes;
     } }
 {
     Work {
         looks: work.looks.max(looks),
         most_states: work.most_states.max(states.examined),
-        most_nodes: work.most_nodes.max(nodes.examined),
+        most_nodes: work.most_nodes.max(nodes),
         ..work
     }
 }

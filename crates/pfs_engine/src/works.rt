@@ -2,9 +2,10 @@
 
 ghost use Rattle.std.specs.Prelude.{◌≡◌, max};
 ghost use Rattle.pfs_engine.specs.Calls.{work_of_event};
+ghost use Rattle.pfs_engine.specs.Ways.{work_of_both};
 
-/// The work of the latest `advance`, `packet` or `step` of an engine. That of a step is of the purges due; where a packet comes
-/// the slices are those of the purges, and the items and the looks those of the packet.
+/// The work of the latest `advance`, `packet`, `step` or `way` of an engine. That of a step is of the purges due; where a packet comes
+/// the slices are those of the purges, and the items and the looks those of the packet. That of a way is of its events together.
 #[derive(Clone, Copy, Debug, PartialEq, Eq)]
 pub struct Work {
     /// Of a packet: how many items it was compared with.
@@ -15,7 +16,7 @@ pub struct Work {
     pub slices: u64,
     /// Of `advance`: the most states that one slice examined.
     pub most_states: u64,
-    /// Of `advance`: the most source nodes that one slice examined.
+    /// Of `advance`: the most source nodes that one slice examined, and at no more it looked, if the store counts looks.
     pub most_nodes: u64,
 }
 
@@ -57,6 +58,19 @@ impl Work {
             visits: coming.visits,
             looks: coming.looks,
             ..purges
+        }
+    }
+
+    /// The work of two events, one behind the other.
+    pub(crate) fn of_both(one: Work, two: Work) -> Work
+        ensures { result ≡ work_of_both one two }
+    {
+        Work {
+            visits: one.visits.saturating_add(two.visits),
+            looks: one.looks.saturating_add(two.looks),
+            slices: one.slices.saturating_add(two.slices),
+            most_states: one.most_states.max(two.most_states),
+            most_nodes: one.most_nodes.max(two.most_nodes),
         }
     }
 

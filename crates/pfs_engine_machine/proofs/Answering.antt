@@ -15,13 +15,13 @@ use Rattle.pfs_conf_values.specs.declared.items.RuleNo.{RuleNo}
 use Rattle.pfs_store_contract.specs.Admission.{is_answered, world_after_admission}
 use Rattle.pfs_store_contract.specs.Calls.{packet_limit}
 use Rattle.pfs_store_contract.specs.Handshakes.{hits_connections, hits_rate}
-use Rattle.pfs_store_contract.specs.Touching.{completes_at, is_taken, world_after_touch}
+use Rattle.pfs_store_contract.specs.Touching.{completes_at, is_asking, is_taken, world_after_touch}
 use Rattle.pfs_store_contract.specs.Worlds.{state_with}
 use Rattle.pfs_store_contract.specs.declared.records.Limit.{Limit}
 use Rattle.pfs_store_contract.specs.declared.records.State.{State}
 use Rattle.pfs_engine_machine.specs.Kept.{IsKept, IsWithinShared}
 use Rattle.pfs_engine_machine.specs.Guards.{Guard, asked, brings_cookie, gets_cookie}
-use Rattle.pfs_engine_machine.specs.Machine.{Held, answer_behind_guard, answer_to_packet, answer_of_action, answer_of_exceeded, answer_of_key, answer_of_limits, answer_of_rule, answer_of_state, answer_of_handshake, deciding_rule, exceeded_of, held_behind_guard, held_for, held_of, held_refused, outcome_of_new, outcome_of_pass}
+use Rattle.pfs_engine_machine.specs.Machine.{Held, answer_behind_guard, answer_to_packet, answer_of_action, answer_of_exceeded, answer_of_key, answer_of_limits, answer_of_rule, answer_of_state, answer_of_handshake, deciding_rule, exceeded_of, held_behind_guard, held_for, held_of, held_refused, outcome_of_held, outcome_of_new, outcome_of_pass}
 use Rattle.pfs_engine_machine.specs.Refusals.{IsDropped, IsDroppedBehindGuard}
 use Rattle.pfs_engine_machine.specs.declared.events.Exceeded.{Exceeded}
 use Rattle.pfs_engine_machine.specs.declared.events.Outcome.{Outcome}
@@ -76,6 +76,7 @@ answered_has conf m p cookie now Q a = state_answers conf m p cookie now Q a (st
 abbrev is_of_held : Outcome → Bool
 is_of_held (outcome.State r) = true
 is_of_held (outcome.Taken r) = true
+is_of_held (outcome.Asking r) = true
 is_of_held (outcome.New r) = false
 is_of_held (outcome.Answered r) = false
 is_of_held (outcome.Pass r) = false
@@ -88,18 +89,26 @@ is_of_held outcome.Skip = false
 is_of_held (outcome.Expire n) = false
 is_of_held (outcome.Add became) = false
 is_of_held (outcome.Delete n) = false
+is_of_held (outcome.Killed n) = false
 is_of_held (outcome.Held amounts) = false
 
-handshake_held : (conf : Conf) (m : Held) (s : State) (now : ℕ) (taken completes : Bool) → is_of_held (answer_of_handshake conf m s now taken completes).0 ≡ true
-handshake_held conf m s now taken completes = by taken (if completes then exceeded_of (hits_connections conf m.world s) (hits_rate conf m.world s) else None)
+told_held : (rule : RuleNo) (taken asks : Bool) → is_of_held (outcome_of_held rule taken asks) ≡ true
+told_held rule true true = refl
+told_held rule true false = refl
+told_held rule false asks = refl
+
+handshake_held : (conf : Conf) (m : Held) (s : State) (now : ℕ) (unhindered : Outcome) (completes : Bool) → is_of_held unhindered ≡ true
+    → is_of_held (answer_of_handshake conf m s now unhindered completes).0 ≡ true
+handshake_held conf m s now unhindered completes of = by (if completes then exceeded_of (hits_connections conf m.world s) (hits_rate conf m.world s) else None)
   where
-    by : (taken : Bool) (limits : Option Exceeded) → is_of_held (answer_of_exceeded conf m s.number s.dir s.rule s.source now taken limits).0 ≡ true
-    by taken (Some e) = refl
-    by true None = refl
-    by false None = refl
+    by : (limits : Option Exceeded) → is_of_held (answer_of_exceeded conf m s.number s.dir s.rule s.source now unhindered limits).0 ≡ true
+    by (Some e) = refl
+    by None = of
 
 state_held : (conf : Conf) (m : Held) (p : PacketView) (cookie : Bool) (now : ℕ) (s : State) → is_of_held (answer_of_state conf m p cookie now (Some s)).0 ≡ true
-state_held conf m p cookie now s = handshake_held conf (held_of (world_after_touch conf m.world s p now) m.tables) s now (is_taken p s) (completes_at p s)
+state_held conf m p cookie now s =
+    handshake_held conf (held_of (world_after_touch conf m.world s p now) m.tables) s now (outcome_of_held s.rule (is_taken p s) (is_asking p s)) (completes_at p s)
+    (told_held s.rule (is_taken p s) (is_asking p s))
 
 -- ---- a state that is refused, and one that is made with shared nodes
 
@@ -194,6 +203,7 @@ maker-pass r false = refl
 not-held : (o : Outcome) (rule : RuleNo) → is_of_held o ≡ true → maker_of o ≡ Some rule → ⊥
 not-held (outcome.State r) rule h e = cc
 not-held (outcome.Taken r) rule h e = cc
+not-held (outcome.Asking r) rule h e = cc
 not-held (outcome.New r) rule h e = false≢true h
 not-held (outcome.Answered r) rule h e = false≢true h
 not-held (outcome.Pass r) rule h e = false≢true h
@@ -206,6 +216,7 @@ not-held outcome.Skip rule h e = false≢true h
 not-held (outcome.Expire n) rule h e = false≢true h
 not-held (outcome.Add became) rule h e = false≢true h
 not-held (outcome.Delete n) rule h e = false≢true h
+not-held (outcome.Killed n) rule h e = false≢true h
 not-held (outcome.Held amounts) rule h e = false≢true h
 
 -- an outcome that makes a state of a rule tells that rule

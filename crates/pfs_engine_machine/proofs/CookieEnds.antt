@@ -189,6 +189,7 @@ ends-arrival : (conf : Conf) (key : FlowKey) (until : ℕ) (g : Guard) (h : Held
 ends-arrival conf key until g h now arrival.Skip other k = k
 ends-arrival conf key until g h now (arrival.Packet p) other k = ends-packet conf key until g h.world p now other k
 ends-arrival conf key until g h now (arrival.Table table done) other k = k
+ends-arrival conf key until g h now (arrival.Kill hosts) other k = k
 ends-arrival conf key until g h now arrival.Held other k = k
 
 -- at a moment, or at the last one, if that is later

@@ -55,6 +55,7 @@ answered-nothing conf g h p now (outcome.State rule) e k = absurd (false≢true 
 answered-nothing conf g h p now (outcome.New rule) e k = absurd (false≢true k)
 answered-nothing conf g h p now (outcome.Answered rule) e k = absurd (false≢true k)
 answered-nothing conf g h p now (outcome.Taken rule) e k = absurd (false≢true k)
+answered-nothing conf g h p now (outcome.Asking rule) e k = absurd (false≢true k)
 answered-nothing conf g h p now (outcome.Pass rule) e k = absurd (false≢true k)
 answered-nothing conf g h p now (outcome.Block rule) e k = absurd (false≢true k)
 answered-nothing conf g h p now (outcome.Drop rule limit) e k = absurd (false≢true k)
@@ -63,6 +64,7 @@ answered-nothing conf g h p now outcome.Skip e k = absurd (false≢true k)
 answered-nothing conf g h p now (outcome.Expire n) e k = absurd (false≢true k)
 answered-nothing conf g h p now (outcome.Add became) e k = absurd (false≢true k)
 answered-nothing conf g h p now (outcome.Delete n) e k = absurd (false≢true k)
+answered-nothing conf g h p now (outcome.Killed n) e k = absurd (false≢true k)
 answered-nothing conf g h p now (outcome.Held amounts) e k = absurd (false≢true k)
 
 guarded-nothing : (conf : Conf) (g : Guard) (h : Held) (p : PacketView) (now : ℕ) → leaves_nothing (answer_behind_guard conf g h p now).0 ≡ true
@@ -83,6 +85,7 @@ arrived-nothing conf g h first now (arrival.Packet p) k = guarded-nothing conf g
 arrived-nothing conf g h first now (arrival.Table table (command.Expire seconds)) k = absurd (false≢true k)
 arrived-nothing conf g h first now (arrival.Table table (command.Add e)) k = absurd (false≢true k)
 arrived-nothing conf g h first now (arrival.Table table (command.Delete e)) k = absurd (false≢true k)
+arrived-nothing conf g h first now (arrival.Kill hosts) k = absurd (false≢true k)
 arrived-nothing conf g h first now arrival.Held k = refl
 
 pub nothing-is-held : (conf : Conf) → NothingIsHeld conf
@@ -138,6 +141,7 @@ since-arrival : (conf : Conf) (g : Guard) (h : Held) (now : ℕ) (what : Arrival
 since-arrival conf g h now arrival.Skip k = k
 since-arrival conf g h now (arrival.Packet p) k = since-packet conf g h.world p now k
 since-arrival conf g h now (arrival.Table table done) k = k
+since-arrival conf g h now (arrival.Kill hosts) k = k
 since-arrival conf g h now arrival.Held k = k
 
 since-later : (g : Guard) (now later : ℕ) → now ≤ later → IsSince g now → IsSince g later

@@ -14,11 +14,12 @@ use Rattle.pfs_conf_values.specs.Configs.{Conf, options_of, rate_seconds}
 use Rattle.pfs_conf_values.specs.Invariants.{IsConfig}
 use Rattle.pfs_conf_values.specs.declared.actions.Rate.{Rate}
 use Rattle.pfs_store_contract.specs.Admission.{leaves_node, world_after_admission, world_after_refusal, new_node, new_state, nodes_with}
+use Rattle.pfs_store_contract.specs.Calls.{stays_elsewhere}
 use Rattle.pfs_store_contract.specs.Counts.{has_node, is_node, is_of_node, node_scope_of, node_states, same_scope}
 use Rattle.pfs_store_contract.specs.Handshakes.{hits_connections, hits_rate, over_rate}
 use Rattle.pfs_store_contract.specs.Leaving.{world_without}
 use Rattle.pfs_store_contract.specs.Purging.{node_round, node_share, purge, state_round, state_share, state_slice, stays}
-use Rattle.pfs_store_contract.specs.Touching.{completes_at, is_taken, may_reopen, node_score, nodes_scored, nodes_touched, score_in, world_after_touch}
+use Rattle.pfs_store_contract.specs.Touching.{completes_at, is_asking, is_taken, may_reopen, node_score, nodes_scored, nodes_touched, score_in, world_after_touch}
 use Rattle.pfs_store_contract.specs.Worlds.{World, state_with}
 use Rattle.pfs_store_contract.specs.declared.records.Limit.{Limit}
 use Rattle.pfs_store_contract.specs.declared.records.Node.{Node}
@@ -29,7 +30,7 @@ use Rattle.pfs_track.specs.declared.scores.Score.{Score}
 use Rattle.pfs_engine_machine.proofs.Counts.{any-push, count-filter_le, count-push}
 use Rattle.pfs_engine_machine.specs.Kept.{moment_of, own_scope}
 use Rattle.pfs_engine_machine.specs.Guards.{Guard, brings_cookie, gets_cookie}
-use Rattle.pfs_engine_machine.specs.Machine.{Held, Machine, answer_behind_guard, answer_to_arrival, machine_at_moment, answer_to_packet, answer_of_exceeded, answer_of_key, answer_of_state, answer_of_handshake, due, exceeded_of, first_moment, held_for, held_of, world_after_purges, start, step, machine_after, outcomes_of}
+use Rattle.pfs_engine_machine.specs.Machine.{Held, Machine, answer_behind_guard, answer_to_arrival, machine_at_moment, answer_to_packet, answer_of_exceeded, answer_of_key, answer_of_state, answer_of_handshake, due, exceeded_of, first_moment, held_for, held_of, outcome_of_held, world_after_purges, start, step, machine_after, outcomes_of}
 use Rattle.pfs_engine_machine.specs.Rates.{Handshake, completed_state, score_through, handshake_at, handshaking_state, handshakes, history_score, is_from, moments_of, with_handshake}
 use Rattle.pfs_engine_machine.specs.Runs.{IsInOrder}
 use Rattle.pfs_engine_machine.specs.declared.events.Event.{Event}
@@ -253,6 +254,7 @@ acted-in : (conf : Conf) (rule : ℕ) (source : Addr) (x : Rate) (first now : �
     → RemembersIn conf rule source x.seconds now (heard rule source x.seconds history now (handshaking_state h.world what)) (answer_to_arrival conf g h first now what).1.world
 acted-in conf rule source x first now history g h i arrival.Skip r = r
 acted-in conf rule source x first now history g h i (arrival.Table table done) r = r
+acted-in conf rule source x first now history g h i (arrival.Kill hosts) r = without-in conf rule source x now history h.world (stays_elsewhere hosts) i r
 acted-in conf rule source x first now history g h i arrival.Held r = r
 acted-in conf rule source x first now history g h i (arrival.Packet p) r = guarded-in conf rule source x now history g h p i r
 
@@ -343,13 +345,14 @@ score-in conf x now history w p s i found act_done r =
     ∙ score-this s.rule.0 s.source x.seconds now history (node_states conf (own_scope s.rule.0) s.source w.states) w.nodes r.nodes (r.noded some)
 
 -- the outcome says whether the score is over the limit
-rate-hit : (conf : Conf) (h : Held) (s : State) (now : ℕ) (taken conn rate : Bool)
-    → rate_hit (answer_of_exceeded conf h s.number s.dir s.rule s.source now taken (exceeded_of conn rate)).0 ≡ rate
-rate-hit conf h s now taken true true = refl
-rate-hit conf h s now taken true false = refl
-rate-hit conf h s now taken false true = refl
-rate-hit conf h s now true false false = refl
-rate-hit conf h s now false false false = refl
+rate-hit : (conf : Conf) (h : Held) (s : State) (now : ℕ) (taken asks conn rate : Bool)
+    → rate_hit (answer_of_exceeded conf h s.number s.dir s.rule s.source now (outcome_of_held s.rule taken asks) (exceeded_of conn rate)).0 ≡ rate
+rate-hit conf h s now taken asks true true = refl
+rate-hit conf h s now taken asks true false = refl
+rate-hit conf h s now taken asks false true = refl
+rate-hit conf h s now true true false false = refl
+rate-hit conf h s now true false false false = refl
+rate-hit conf h s now false asks false false = refl
 
 hit-in : (conf : Conf) (x : Rate) (now : ℕ) (h : Held) (p : PacketView) (cookie : Bool) (s : State) → IsRated conf s.rule.0 x → completed_state p (state_with (key_of p) h.world) ≡ Some s
     → rate_hit (answer_to_packet conf h p cookie now).0 ≡ nat_lt (1000 * x.limit) (score_in s.source (world_after_touch conf h.world s p now).nodes (node_scope_of conf s.rule.0)).value
@@ -359,8 +362,8 @@ hit-in conf x now h p cookie s i e =
     let score : Score = score_in s.source v.world.nodes (node_scope_of conf s.rule.0) in
     ap (λ (m : Held). rate_hit (answer_of_key conf m p cookie now).0) (completing_meets conf h p now s q.1)
     ∙ ap (λ (found : Option State). rate_hit (answer_of_state conf h p cookie now found).0) q.0
-    ∙ ap (λ (b : Bool). rate_hit (answer_of_handshake conf v s now (is_taken p s) b).0) q.1
-    ∙ rate-hit conf v s now (is_taken p s) (hits_connections conf v.world s) (hits_rate conf v.world s)
+    ∙ ap (λ (b : Bool). rate_hit (answer_of_handshake conf v s now (outcome_of_held s.rule (is_taken p s) (is_asking p s)) b).0) q.1
+    ∙ rate-hit conf v s now (is_taken p s) (is_asking p s) (hits_connections conf v.world s) (hits_rate conf v.world s)
     ∙ ap (λ (r : Option Rate). over_rate r score.value) i.is
 
 -- a packet that completes a handshake gets no cookie
@@ -378,6 +381,7 @@ score-at : (conf : Conf) (x : Rate) (now : ℕ) (history : Score) (w : World) (w
     → RemembersIn conf s.rule.0 s.source x.seconds now history w → score_compared conf w now what s ≡ score_after x.seconds history now
 score-at conf x now history w arrival.Skip s i e r = cc
 score-at conf x now history w (arrival.Table table done) s i e r = cc
+score-at conf x now history w (arrival.Kill hosts) s i e r = cc
 score-at conf x now history w arrival.Held s i e r = cc
 score-at conf x now history w (arrival.Packet p) s i e r =
     let q = completed-is p (state_with (key_of p) w) s e in score-in conf x now history w p s i q.0 q.1 r
@@ -386,6 +390,7 @@ hit-at : (conf : Conf) (x : Rate) (first now : ℕ) (g : Guard) (h : Held) (what
     → rate_hit (answer_to_arrival conf g h first now what).0 ≡ nat_lt (1000 * x.limit) (score_compared conf h.world now what s).value
 hit-at conf x first now g h arrival.Skip s i e = cc
 hit-at conf x first now g h (arrival.Table table done) s i e = cc
+hit-at conf x first now g h (arrival.Kill hosts) s i e = cc
 hit-at conf x first now g h arrival.Held s i e = cc
 hit-at conf x first now g h (arrival.Packet p) s i e = guarded-hit conf x now g h p s i e
 

@@ -19,13 +19,13 @@ use Rattle.pfs_store_contract.proofs.MomentLaws.{left-up_to_now, world_touched-u
 use Rattle.pfs_store_contract.specs.Counts.{has_node, is_of_node, is_of_rule, node_connections, node_scope_of, node_states, rule_states, scope_nodes}
 use Rattle.pfs_store_contract.specs.Handshakes.{flush_of, hits_connections, hits_rate, stays_at_kill}
 use Rattle.pfs_store_contract.specs.Leaving.{world_without}
-use Rattle.pfs_store_contract.specs.Touching.{completes_at, is_taken, goes_forward, nodes_touched, numbered_state_after, world_after_touch}
+use Rattle.pfs_store_contract.specs.Touching.{completes_at, is_asking, is_taken, goes_forward, nodes_touched, numbered_state_after, world_after_touch}
 use Rattle.pfs_store_contract.specs.Worlds.{IsUpToNow, World, state_with}
 use Rattle.pfs_store_contract.specs.declared.records.Node.{Node}
 use Rattle.pfs_store_contract.specs.declared.records.NodeScope.{NodeScope}
 use Rattle.pfs_store_contract.specs.declared.records.State.{State}
 use Rattle.pfs_engine_machine.specs.Kept.{HasNode, HasSource, IsKept, IsPhaseOf, IsWithin, KeysDiffer, Rise, TracksAlone, own_scope}
-use Rattle.pfs_engine_machine.specs.Machine.{Held, answer_of_exceeded, answer_of_state, exceeded_of, held_of, answer_of_kill, tables_after_addition}
+use Rattle.pfs_engine_machine.specs.Machine.{Held, answer_of_exceeded, answer_of_state, exceeded_of, held_of, answer_of_kill, outcome_of_held, tables_after_addition}
 use Rattle.pfs_engine_machine.specs.Refusals.{is_tcp}
 use Rattle.pfs_engine_machine.specs.declared.events.Exceeded.{Exceeded}
 use Rattle.pfs_engine_machine.specs.declared.events.Exceeded.TheVariants as exceeded
@@ -239,7 +239,8 @@ kept_killed conf m p now s limits found k =
 kept_by_handshake : (conf : Conf) (m : Held) (p : PacketView) (now : ℕ) (s : State) (conn rate : Bool) → state_with (key_of p) m.world ≡ Some s
     → IsKept conf m now → conn ≡ hits_connections conf (world_after_touch conf m.world s p now) s
     → (completes : Bool) → completes_at p s ≡ completes
-    → IsKept conf (answer_of_exceeded conf (held_of (world_after_touch conf m.world s p now) m.tables) s.number s.dir s.rule s.source now (is_taken p s) (if completes then exceeded_of conn rate else None)).1 now
+    → IsKept conf (answer_of_exceeded conf (held_of (world_after_touch conf m.world s p now) m.tables) s.number s.dir s.rule s.source now
+    (outcome_of_held s.rule (is_taken p s) (is_asking p s)) (if completes then exceeded_of conn rate else None)).1 now
 kept_by_handshake conf m p now s conn rate found k is false done = kept_touched conf m p now s found (inl done) k
 kept_by_handshake conf m p now s true true found k is true done = kept_killed conf m p now s exceeded.Both found k
 kept_by_handshake conf m p now s true false found k is true done = kept_killed conf m p now s exceeded.Connections found k
@@ -259,7 +260,7 @@ made_held conf m p cookie now s = by (if completes_at p s then exceeded_of (hits
     after : World
     after = world_after_touch conf m.world s p now
 
-    by : (limits : Option Exceeded) → (answer_of_exceeded conf (held_of after m.tables) s.number s.dir s.rule s.source now (is_taken p s) limits).1.world.made ≡ m.world.made
+    by : (limits : Option Exceeded) → (answer_of_exceeded conf (held_of after m.tables) s.number s.dir s.rule s.source now (outcome_of_held s.rule (is_taken p s) (is_asking p s)) limits).1.world.made ≡ m.world.made
     by (Some e) = refl
     by None = refl
 

@@ -16,10 +16,12 @@ use Rattle.pfs_conf_values.specs.declared.limits.LimitName.TheVariants as limit_
 use Rattle.pfs_conf_values.specs.Invariants.{IsConfig}
 use Rattle.pfs_conf_values.specs.declared.tables.TableDef.{TableDef}
 use Rattle.pfs_store_contract.proofs.MomentLaws.{empty_world-up_to_now, later-up_to_now, left-up_to_now, node_slice-up_to_now}
+use Rattle.pfs_store_contract.specs.Calls.{stays_elsewhere, world_elsewhere}
 use Rattle.pfs_store_contract.specs.Counts.{is_connection, is_node, is_of_node, is_of_rule, node_states, same_scope}
 use Rattle.pfs_store_contract.specs.Leaving.{node_after_leaving, world_with_stay}
 use Rattle.pfs_store_contract.specs.Purging.{is_among, node_round, node_share, node_slice, node_stays, purge, state_round, state_share, state_slice, stays}
 use Rattle.pfs_store_contract.specs.Worlds.{World}
+use Rattle.pfs_store_contract.specs.declared.kills.FromTo.{FromTo}
 use Rattle.pfs_store_contract.specs.declared.records.Node.{Node}
 use Rattle.pfs_store_contract.specs.declared.records.NodeScope.{NodeScope}
 use Rattle.pfs_store_contract.specs.declared.records.State.{State}
@@ -104,6 +106,10 @@ kept_left conf m p pending at now k =
 
 pub kept_state_slice : (conf : Conf) (m : Held) (at now : ℕ) → IsKept conf m now → IsKept conf (held_of (state_slice conf m.world at) m.tables) now
 kept_state_slice conf m at now k = kept_left conf m (stays conf m.world.states at (take (state_share conf) (state_round m.world))) _ at now k
+
+-- those stay that do not go from hosts to hosts
+pub kept_elsewhere : (conf : Conf) (m : Held) (hosts : FromTo) (at now : ℕ) → IsKept conf m now → IsKept conf (held_of (world_elsewhere conf m.world hosts at) m.tables) now
+kept_elsewhere conf m hosts at now k = kept_left conf m (stays_elsewhere hosts) _ at now k
 
 -- ---- nodes leave
 

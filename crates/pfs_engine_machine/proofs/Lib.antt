@@ -23,6 +23,7 @@ pub mod OptionLaws
 mod PacketChanges
 pub mod Purging
 pub mod Quiet
+pub mod RecordRuns
 mod Remembering
 pub mod Renewals
 pub mod Reopening

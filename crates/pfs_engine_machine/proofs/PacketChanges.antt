@@ -7,13 +7,13 @@ use Rattle.pfs_store_contract.specs.Admission.{world_after_admission, world_afte
 use Rattle.pfs_store_contract.specs.Calls.{packet_limit}
 use Rattle.pfs_store_contract.specs.Handshakes.{stays_at_kill, flush_of, hits_connections, hits_rate}
 use Rattle.pfs_store_contract.specs.Leaving.{world_without}
-use Rattle.pfs_store_contract.specs.Touching.{completes_at, is_taken, world_after_touch}
+use Rattle.pfs_store_contract.specs.Touching.{completes_at, is_asking, is_taken, world_after_touch}
 use Rattle.pfs_store_contract.specs.Worlds.{World, state_with}
 use Rattle.pfs_store_contract.specs.declared.records.Limit.{Limit}
 use Rattle.pfs_store_contract.specs.declared.records.State.{State}
 use Rattle.pfs_engine_machine.proofs.Answering as answering
 use Rattle.pfs_engine_machine.proofs.Reopening.{met_has}
-use Rattle.pfs_engine_machine.specs.Machine.{Held, answer_of_exceeded, answer_of_handshake, answer_of_key, answer_of_state, answer_to_packet, exceeded_of, held_for, held_of}
+use Rattle.pfs_engine_machine.specs.Machine.{Held, answer_of_exceeded, answer_of_handshake, answer_of_key, answer_of_state, answer_to_packet, exceeded_of, held_for, held_of, outcome_of_held}
 use Rattle.pfs_engine_machine.specs.declared.events.Exceeded.{Exceeded}
 use Rattle.pfs_engine_machine.specs.declared.events.Outcome.{Outcome}
 
@@ -25,11 +25,11 @@ pub record Changes (conf : Conf) (w : World) (p : PacketView) (cookie : Bool) (n
   pub touches : (s : State) → state_with (key_of p) w ≡ Some s → Q (world_after_touch conf w s p now)
   pub kills : (v : World) (stays : State → Bool) → Q v → Q (world_without conf v stays now)
 
-handshake_has : (conf : Conf) (h : Held) (s : State) (now : ℕ) (taken completes : Bool) (Q : World → Type 0)
-    → ((v : World) (stays : State → Bool) → Q v → Q (world_without conf v stays now)) → Q h.world → Q (answer_of_handshake conf h s now taken completes).1.world
-handshake_has conf h s now taken completes Q kills k = by (if completes then exceeded_of (hits_connections conf h.world s) (hits_rate conf h.world s) else None)
+handshake_has : (conf : Conf) (h : Held) (s : State) (now : ℕ) (unhindered : Outcome) (completes : Bool) (Q : World → Type 0)
+    → ((v : World) (stays : State → Bool) → Q v → Q (world_without conf v stays now)) → Q h.world → Q (answer_of_handshake conf h s now unhindered completes).1.world
+handshake_has conf h s now unhindered completes Q kills k = by (if completes then exceeded_of (hits_connections conf h.world s) (hits_rate conf h.world s) else None)
   where
-    by : (limits : Option Exceeded) → Q (answer_of_exceeded conf h s.number s.dir s.rule s.source now taken limits).1.world
+    by : (limits : Option Exceeded) → Q (answer_of_exceeded conf h s.number s.dir s.rule s.source now unhindered limits).1.world
     by (Some e) = kills h.world (stays_at_kill conf.profile (flush_of (options_of conf s.rule.0).overload) s.number s.dir s.rule s.source) k
     by None = k
 
@@ -47,7 +47,7 @@ key_has conf h p cookie now Q c = go (state_with (key_of p) h.world) refl
     })
     go (Some s) found =
         subst (λ (o : Option State). Q (answer_of_state conf h p cookie now o).1.world) (sym found)
-        (handshake_has conf (held_of (world_after_touch conf h.world s p now) h.tables) s now (is_taken p s) (completes_at p s) Q c.kills (c.touches s found))
+        (handshake_has conf (held_of (world_after_touch conf h.world s p now) h.tables) s now (outcome_of_held s.rule (is_taken p s) (is_asking p s)) (completes_at p s) Q c.kills (c.touches s found))
 
 -- ---- a fact that each change keeps
 

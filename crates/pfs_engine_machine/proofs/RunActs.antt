@@ -34,6 +34,7 @@ arrivals-done : (conf : Conf) (g : Guard) (h : Held) (first now : ℕ) (what : A
 arrivals-done conf g h first now arrival.Skip rest = refl
 arrivals-done conf g h first now (arrival.Packet p) rest = packet-done conf g h first now p rest
 arrivals-done conf g h first now (arrival.Table table done) rest = refl
+arrivals-done conf g h first now (arrival.Kill hosts) rest = refl
 arrivals-done conf g h first now arrival.Held rest = refl
 
 pub acts-done : (conf : Conf) (m : Machine) (es : List Event) → (machine_after conf m es).held ≡ acts_done conf m.held (acts_from conf m es)

@@ -8,7 +8,7 @@ use Rattle.pfs_conf_values.specs.Configs.{Conf, limit_of, options_of}
 use Rattle.pfs_conf_values.specs.declared.actions.Rate.{Rate}
 use Rattle.pfs_conf_values.specs.declared.limits.LimitName.TheVariants as limit_name
 use Rattle.pfs_store_contract.specs.Admission.{world_after_admission, world_after_refusal, new_node, new_state, nodes_with}
-use Rattle.pfs_store_contract.specs.Calls.{packet_limit}
+use Rattle.pfs_store_contract.specs.Calls.{packet_limit, stays_elsewhere}
 use Rattle.pfs_store_contract.specs.Counts.{has_node, node_scope_of}
 use Rattle.pfs_store_contract.specs.Leaving.{node_after_leaving, world_with_stay, world_without}
 use Rattle.pfs_store_contract.specs.Purging.{is_among, node_numbers, node_round, node_share, node_slice, node_stays, round, state_numbers, state_round, state_share, state_slice, stays}
@@ -23,7 +23,7 @@ use Rattle.pfs_engine_machine.proofs.PacketChanges.{answered_keeps}
 use Rattle.pfs_engine_machine.proofs.HeldNumbers.{among-same, made-more, numbers-left, numbers-renewed, numbers-touched, was}
 use Rattle.pfs_engine_machine.proofs.Limits.{meets_none, nodes_room, refused_has}
 use Rattle.pfs_engine_machine.proofs.Rounds.{length-filter-le}
-use Rattle.pfs_engine_machine.specs.Acts.{RunAct, Arrive, Change, Purge, act_done, acts_done}
+use Rattle.pfs_engine_machine.specs.Acts.{RunAct, Arrive, Change, Kill, Purge, act_done, acts_done}
 
 abbrev pub state_limit : Conf → ℕ
 state_limit conf = limit_of conf limit_name.States
@@ -144,6 +144,7 @@ small-done conf m (Purge s) k = small-nodes conf (state_slice conf m.world s) s 
 small-done conf m (Arrive now p cookie) k =
     answered_keeps conf (IsSmall conf) (record { touches = small-touched conf; kills = small-without conf; admits = small-admitted conf; refuses = small-refused conf }) m p cookie now k
 small-done conf m (Change first now table done) k = k
+small-done conf m (Kill now hosts) k = small-without conf m.world (stays_elsewhere hosts) now k
 
 pub small-done_all : (conf : Conf) (m : Held) (acts : List RunAct) → IsSmall conf m.world → IsSmall conf (acts_done conf m acts).world
 small-done_all conf m [] k = k

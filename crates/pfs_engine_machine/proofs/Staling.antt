@@ -9,6 +9,7 @@ use Rattle.pfs_conf_values.specs.Configs.{Conf, timeout_of}
 use Rattle.pfs_conf_values.specs.Invariants.{IsConfig}
 use Rattle.pfs_conf_values.specs.declared.timeouts.TimeoutName.TheVariants as timeout
 use Rattle.pfs_store_contract.specs.Admission.{new_node, new_state, nodes_with}
+use Rattle.pfs_store_contract.specs.Calls.{stays_elsewhere}
 use Rattle.pfs_store_contract.specs.Counts.{has_node, node_scope_of}
 use Rattle.pfs_store_contract.specs.Leaving.{world_with_stay}
 use Rattle.pfs_store_contract.specs.Purging.{has_expired, is_among, is_over, node_numbers, node_share, purge, round, share, state_numbers, state_share, state_slice}
@@ -26,7 +27,7 @@ use Rattle.pfs_engine_machine.proofs.HeldNumbers.{any-number, gone, numbers-left
 use Rattle.pfs_engine_machine.proofs.Rounds.{IsDue, due-end, due-filter, due-slice, due-start, share-enough}
 use Rattle.pfs_engine_machine.proofs.RunActs.{done_all-append}
 use Rattle.pfs_engine_machine.proofs.Small.{IsSmall, node_limit, small-done, small-done_all, small-empty, small-states, state_limit}
-use Rattle.pfs_engine_machine.specs.Acts.{RunAct, Arrive, Change, Purge, after, act_done, acts_done, purges}
+use Rattle.pfs_engine_machine.specs.Acts.{RunAct, Arrive, Change, Kill, Purge, after, act_done, acts_done, purges}
 use Rattle.pfs_engine_machine.specs.Staleness.{IsOver, NodesGo}
 
 abbrev pub interval_of : Conf → ℕ
@@ -141,6 +142,10 @@ state-goes conf n m (Arrive now p cookie ∷ acts) one small h all =
 state-goes conf n m (Change first now table done ∷ acts) one small h all =
     state-goes conf n (act_done conf m (Change first now table done)) acts one small h
     (λ before rest t e. all (Change first now table done ∷ before) rest t (ap (λ (xs : List RunAct). Change first now table done ∷ xs) e))
+state-goes conf n m (Kill now hosts ∷ acts) one small h all =
+    state-goes conf n (act_done conf m (Kill now hosts)) acts one (small-done conf m (Kill now hosts) small)
+    ((state-packets conf (purges acts) n).kills m.world (stays_elsewhere hosts) now h)
+    (λ before rest t e. all (Kill now hosts ∷ before) rest t (ap (λ (xs : List RunAct). Kill now hosts ∷ xs) e))
 
 -- in any 2 * interval purges in a row, the state of a number that is made by then, and expired at each of them, goes
 pub numbered-go : (conf : Conf) (earlier meanwhile : List RunAct) (n : ℕ) → IsConfig conf → purges meanwhile ≡ 2 * interval_of conf
@@ -234,6 +239,10 @@ node-goes conf n m (Arrive now p cookie ∷ acts) one small h all =
 node-goes conf n m (Change first now table done ∷ acts) one small h all =
     node-goes conf n (act_done conf m (Change first now table done)) acts one small h
     (λ before rest t e. all (Change first now table done ∷ before) rest t (ap (λ (xs : List RunAct). Change first now table done ∷ xs) e))
+node-goes conf n m (Kill now hosts ∷ acts) one small h all =
+    node-goes conf n (act_done conf m (Kill now hosts)) acts one (small-done conf m (Kill now hosts) small)
+    ((node-packets conf (purges acts) n).kills m.world (stays_elsewhere hosts) now h)
+    (λ before rest t e. all (Kill now hosts ∷ before) rest t (ap (λ (xs : List RunAct). Kill now hosts ∷ xs) e))
 
 pub nodes-go : (conf : Conf) (events : List Event) → IsConfig conf → NodesGo conf events
 nodes-go conf events sound earlier meanwhile later n rounds all held =

@@ -10,6 +10,7 @@ use Rattle.pfs_addr_values.specs.Sameness.{same_key}
 use Rattle.pfs_conf_values.specs.Configs.{Conf}
 use Rattle.pfs_conf_values.specs.Invariants.{IsConfig}
 use Rattle.pfs_store_contract.specs.Admission.{new_state}
+use Rattle.pfs_store_contract.specs.Calls.{stays_elsewhere}
 use Rattle.pfs_store_contract.specs.Leaving.{world_without}
 use Rattle.pfs_store_contract.specs.Purging.{has_expired, is_among, state_numbers, state_round, state_share, stays}
 use Rattle.pfs_store_contract.specs.Touching.{numbered_state_after, state_after_packet, world_after_touch}
@@ -28,7 +29,7 @@ use Rattle.pfs_engine_machine.proofs.HeldNumbers.{any-number}
 use Rattle.pfs_engine_machine.proofs.RunActs.{done_all-append}
 use Rattle.pfs_engine_machine.proofs.Small.{IsSmall, small-done_all, small-empty}
 use Rattle.pfs_engine_machine.proofs.Staling.{IsExpiredThroughout, numbered-go}
-use Rattle.pfs_engine_machine.specs.Acts.{RunAct, Arrive, Change, Purge, after, act_done, acts_done}
+use Rattle.pfs_engine_machine.specs.Acts.{RunAct, Arrive, Change, Kill, Purge, after, act_done, acts_done}
 use Rattle.pfs_engine_machine.specs.Staleness.{StatesGo, brings}
 
 -- ---- numbers rise
@@ -51,6 +52,7 @@ numbered-all conf m (Purge s ∷ acts) h =
 numbered-all conf m (Arrive now p cookie ∷ acts) h =
     numbered-all conf (act_done conf m (Arrive now p cookie)) acts (answered_keeps conf AreNumbered (numbered-packets conf) m p cookie now h)
 numbered-all conf m (Change first now table done ∷ acts) h = numbered-all conf (act_done conf m (Change first now table done)) acts h
+numbered-all conf m (Kill now hosts ∷ acts) h = numbered-all conf (act_done conf m (Kill now hosts)) acts ((numbered-packets conf).kills m.world (stays_elsewhere hosts) now h)
 
 above : (low high : ℕ) (ss : List State) → Rise low ss high → AllByRecursion (λ (t : State). low < t.number) ss
 above low high [] r = tt
@@ -131,6 +133,7 @@ before-done conf s m (Arrive now p cookie) apart h =
     let met = met_has conf m p now (IsAsBefore s) h (λ stay. before-left conf s m.world stay now h) in
     key_has conf (held_for conf m p now) p cookie now (IsAsBefore s) (before-packet conf s (held_for conf m p now).world p cookie now apart met)
 before-done conf s m (Change first now table done) apart h = h
+before-done conf s m (Kill now hosts) apart h = before-left conf s m.world (stays_elsewhere hosts) now h
 
 before-all : (conf : Conf) (s : State) (m : Held) (acts rest : List RunAct) → AllByRecursion (λ (a : RunAct). brings s.key a ≡ false) (acts ++ rest) → IsAsBefore s m.world
     → IsAsBefore s (acts_done conf m acts).world

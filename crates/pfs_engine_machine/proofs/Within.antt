@@ -6,7 +6,7 @@ use Rattle.pfs_conf_values.specs.Configs.{Conf}
 use Rattle.pfs_conf_values.specs.Invariants.{IsConfig}
 use Rattle.pfs_engine_machine.proofs.GuardLaws.{IsTcpWith, brought-tcp}
 use Rattle.pfs_engine_machine.proofs.KeptPackets.{kept_answered}
-use Rattle.pfs_engine_machine.proofs.KeptTime.{kept_command, kept_later, kept_purge, kept_start}
+use Rattle.pfs_engine_machine.proofs.KeptTime.{kept_command, kept_elsewhere, kept_later, kept_purge, kept_start}
 use Rattle.pfs_engine_machine.specs.Kept.{IsKept, IsWithinLimits, moment_of}
 use Rattle.pfs_engine_machine.specs.Guards.{Guard, brings_cookie, gets_cookie}
 use Rattle.pfs_engine_machine.specs.Machine.{Held, Machine, due, first_moment, machine_at_moment, start, step}
@@ -14,7 +14,7 @@ use Rattle.pfs_engine_machine.specs.Runs.{IsInOrder}
 use Rattle.pfs_engine_machine.specs.declared.events.Event.{Event}
 use Rattle.pfs_engine_machine.specs.declared.events.Arrival.{Arrival}
 use Rattle.pfs_engine_machine.specs.declared.events.Arrival.TheVariants as arrival
-use Rattle.pfs_engine_machine.specs.Acts.{RunAct, Arrive, Change, Purge, StaysWithinLimits, acts_from, arrivals, arrivals_at, act_done, acts_done}
+use Rattle.pfs_engine_machine.specs.Acts.{RunAct, Arrive, Change, Kill, Purge, StaysWithinLimits, acts_from, arrivals, arrivals_at, act_done, acts_done}
 
 -- the moments of the packets among these acts do not fall, from this one on; and those that bring a cookie are of TCP
 abbrev AreOrdered : ℕ → List RunAct → Type 0
@@ -22,18 +22,21 @@ AreOrdered now [] = Unit {0}
 AreOrdered now (Purge s ∷ acts) = AreOrdered now acts
 AreOrdered now (Arrive t p cookie ∷ acts) = (now ≤ t) × IsTcpWith cookie p.proto × AreOrdered t acts
 AreOrdered now (Change f t table done ∷ acts) = AreOrdered now acts
+AreOrdered now (Kill t hosts ∷ acts) = AreOrdered now acts
 
 ordered-lower : (now later : ℕ) (acts : List RunAct) → now ≤ later → AreOrdered later acts → AreOrdered now acts
 ordered-lower now later [] h o = tt
 ordered-lower now later (Purge s ∷ acts) h o = ordered-lower now later acts h o
 ordered-lower now later (Arrive t p cookie ∷ acts) h o = (omega (arith, h, o.0), o.1, o.2)
 ordered-lower now later (Change f t table done ∷ acts) h o = ordered-lower now later acts h o
+ordered-lower now later (Kill t hosts ∷ acts) h o = ordered-lower now later acts h o
 
 ordered-front : (now : ℕ) (xs ys : List RunAct) → AreOrdered now (xs ++ ys) → AreOrdered now xs
 ordered-front now [] ys o = tt
 ordered-front now (Purge s ∷ xs) ys o = ordered-front now xs ys o
 ordered-front now (Arrive t p cookie ∷ xs) ys o = (o.0, o.1, ordered-front t xs ys o.2)
 ordered-front now (Change f t table done ∷ xs) ys o = ordered-front now xs ys o
+ordered-front now (Kill t hosts ∷ xs) ys o = ordered-front now xs ys o
 
 ordered-purges : (now : ℕ) (ss : List ℕ) (rest : List RunAct) → AreOrdered now rest → AreOrdered now (map (λ s. Purge s) ss ++ rest)
 ordered-purges now [] rest o = o
@@ -52,6 +55,7 @@ ordered-arrivals : (conf : Conf) (g : Guard) (h : Held) (first now : ℕ) (what 
 ordered-arrivals conf g h first now arrival.Skip rest o = o
 ordered-arrivals conf g h first now (arrival.Packet p) rest o = ordered-packet conf g h first now p rest o
 ordered-arrivals conf g h first now (arrival.Table table done) rest o = o
+ordered-arrivals conf g h first now (arrival.Kill hosts) rest o = o
 ordered-arrivals conf g h first now arrival.Held rest o = o
 
 acts-ordered : (conf : Conf) (m : Machine) (es : List Event) → IsInOrder m.last es → AreOrdered (moment_of m.last) (acts_from conf m es)
@@ -76,6 +80,8 @@ within_all conf h now (Arrive t p cookie ∷ acts) sound o k =
     within_all conf (act_done conf h (Arrive t p cookie)) t acts sound o.2 (kept_answered conf h p cookie t sound o.1 (kept_later conf h now t o.0 k))
 within_all conf h now (Change f t table done ∷ acts) sound o k =
     within_all conf (act_done conf h (Change f t table done)) now acts sound o (kept_command conf h f t table done now k)
+within_all conf h now (Kill t hosts ∷ acts) sound o k =
+    within_all conf (act_done conf h (Kill t hosts)) now acts sound o (kept_elsewhere conf h hosts t now k)
 
 pub stays-within : (conf : Conf) (events : List Event) → IsConfig conf → IsInOrder None events → StaysWithinLimits conf events
 stays-within conf events sound order earlier later split =

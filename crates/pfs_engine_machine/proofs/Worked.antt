@@ -58,6 +58,7 @@ abbrev conf : ℕ → ℕ → Times → List TableDef → List Item → Conf
 conf states nodes t tables items = record {
   profile = profile.Own;
   syncookies = syncookies.Never;
+  routes = [];
   limits = record { states = states; src_nodes = nodes; tables = 1000; table_entries = 200000 };
   timeouts = t.first ∷ 30 ∷ 86400 ∷ 900 ∷ 45 ∷ t.closed ∷ t.udp ∷ 30 ∷ 60 ∷ 60 ∷ 30 ∷ 60 ∷ t.track ∷ t.interval ∷ 0 ∷ 0 ∷ [];
   tables = tables;
@@ -513,3 +514,25 @@ adaptive_calm : run_of (cookies_by (syncookies.Adaptive 20 10)) (syn 0 1 1 ∷ s
     ≡ (made 0 ∷ made 0 ∷ made 0 ∷ of_state 0 ∷ made 0 ∷ [], (4, 0, 0))
 unfolding outcomes_of machine_after step verdict matches_item table_answer
 adaptive_calm = refl
+
+-- ---- pf leads the handshakes of a connection: at the maker's packets it asks the server, from the ACK on that completes the first one
+
+abbrev ack : ℕ → ℕ → ℕ → Event
+ack now n port = comes now (to_server Tcp n port 80 (flagged false true false))
+
+abbrev answered : ℕ → Outcome
+answered n = outcome.Answered (number n)
+
+abbrev taken : ℕ → Outcome
+taken n = outcome.Taken (number n)
+
+abbrev asking : ℕ → Outcome
+asking n = outcome.Asking (number n)
+
+abbrev proxied : Conf
+proxied = of_openbsd (conf 10 100 usual [] (rule false (of_proto Tcp) (action.Keep (record no_options { synproxy = true })) ∷ []))
+
+server_asked : run_of proxied (syn 0 1 1 ∷ syn 0 1 1 ∷ answer 0 1 1 ∷ ack 0 1 1 ∷ ack 0 1 1 ∷ answer 0 1 1 ∷ ack 0 1 1 ∷ [])
+    ≡ (answered 0 ∷ taken 0 ∷ taken 0 ∷ asking 0 ∷ asking 0 ∷ taken 0 ∷ of_state 0 ∷ [], (1, 0, 0))
+unfolding outcomes_of machine_after step verdict matches_item table_answer
+server_asked = refl

@@ -3,26 +3,29 @@ use Rattle.std.specs.Prelude.{◌≡◌, ℕ, suc, Bool, if◌then◌else◌, Li
 use Rattle.pfs_addr_values.specs.Packets.{PacketView}
 use Rattle.pfs_conf_values.specs.Configs.{Conf}
 use Rattle.pfs_store_contract.specs.Purging.{purge}
+use Rattle.pfs_store_contract.specs.declared.kills.FromTo.{FromTo}
 use Rattle.pfs_engine_machine.specs.Guards.{Guard, brings_cookie, gets_cookie}
 use Rattle.pfs_engine_machine.specs.Kept.{IsWithinLimits}
-use Rattle.pfs_engine_machine.specs.Machine.{Held, Machine, answer_to_command, answer_to_packet, due, first_moment, held_of, machine_at_moment, start, step}
+use Rattle.pfs_engine_machine.specs.Machine.{Held, Machine, answer_to_command, answer_to_kill, answer_to_packet, due, first_moment, held_of, machine_at_moment, start, step}
 use Rattle.pfs_engine_machine.specs.declared.events.Command.{Command}
 use Rattle.pfs_engine_machine.specs.declared.events.Event.{Event}
 use Rattle.pfs_engine_machine.specs.declared.events.Arrival.{Arrival}
 use Rattle.pfs_engine_machine.specs.declared.events.Arrival.TheVariants as arrival
 
--- the purge of a second, a packet that arrives at a moment and brings a cookie, or not, or what is done to a table of this number,
--- in a run that began at the first of these moments, at the second
+-- the purge of a second, a packet that arrives at a moment and brings a cookie, or not, what is done to a table of this number, in
+-- a run that began at the first of these moments, at the second, or that the states leave at a moment which go from hosts to hosts
 pub data RunAct : Type 0 where
   Purge : ℕ → RunAct
   Arrive : ℕ → PacketView → Bool → RunAct
   Change : ℕ → ℕ → ℕ → Command → RunAct
+  Kill : ℕ → FromTo → RunAct
 
 -- what an arrival does to what is held, by the guard and what is held before it: a packet that gets a cookie does nothing to it
 abbrev pub arrivals : Conf → Guard → Held → ℕ → ℕ → Arrival → List RunAct
 arrivals conf g h first now arrival.Skip = []
 arrivals conf g h first now (arrival.Packet p) = if gets_cookie conf g h.world p then [] else Arrive now p (brings_cookie g h.world p) ∷ []
 arrivals conf g h first now (arrival.Table table done) = Change first now table.0 done ∷ []
+arrivals conf g h first now (arrival.Kill hosts) = Kill now hosts ∷ []
 arrivals conf g h first now arrival.Held = []
 
 -- at the moment of a machine
@@ -45,6 +48,7 @@ abbrev pub act_done : Conf → Held → RunAct → Held
 act_done conf h (Purge s) = held_of (purge conf h.world s) h.tables
 act_done conf h (Arrive now p cookie) = (answer_to_packet conf h p cookie now).1
 act_done conf h (Change first now table done) = (answer_to_command conf h first now table done).1
+act_done conf h (Kill now hosts) = (answer_to_kill conf h now hosts).1
 
 abbrev pub acts_done : Conf → Held → List RunAct → Held
 acts_done conf h [] = h
@@ -59,8 +63,9 @@ purges [] = 0
 purges (Purge s ∷ acts) = suc (purges acts)
 purges (Arrive now p cookie ∷ acts) = purges acts
 purges (Change first now table done ∷ acts) = purges acts
+purges (Kill now hosts ∷ acts) = purges acts
 
--- after each purge, each packet that gets no cookie, and each command of a run, what is held is within the limits
+-- after each purge, each packet that gets no cookie, each command and each kill of a run, what is held is within the limits
 abbrev pub StaysWithinLimits : Conf → List Event → Type 0
 StaysWithinLimits conf events =
     (earlier later : List RunAct) → acts_of conf events ≡ earlier ++ later → IsWithinLimits conf (after conf earlier)

@@ -13,3 +13,4 @@ pub mod Shares
 pub mod Sources
 pub mod Staleness
 pub mod Visits
+pub mod Ways

@@ -45,6 +45,7 @@ pub record AreLooksBehind (least : ℕ) (AreLooksThen : ℕ → Type 0) (looks :
 abbrev pub AreLooks : Conf → ℕ → Outcome → ℕ → Type 0
 AreLooks conf of_source (outcome.State rule) looks = looks ≡ 1
 AreLooks conf of_source (outcome.Taken rule) looks = looks ≡ 1
+AreLooks conf of_source (outcome.Asking rule) looks = looks ≡ 1
 AreLooks conf of_source (outcome.Kill rule limits overload killed) looks =
     AreLooksOfKill (flush_of (options_of conf rule.0).overload) killed of_source looks
 AreLooks conf of_source (outcome.New rule) looks = looks ≡ 0
@@ -58,4 +59,5 @@ AreLooks conf of_source outcome.Skip looks = looks ≡ 0
 AreLooks conf of_source (outcome.Expire removed) looks = looks ≡ 0
 AreLooks conf of_source (outcome.Add became) looks = looks ≡ 0
 AreLooks conf of_source (outcome.Delete removed) looks = looks ≡ 0
+AreLooks conf of_source (outcome.Killed killed) looks = looks ≡ 0
 AreLooks conf of_source (outcome.Held amounts) looks = looks ≡ 0

@@ -17,12 +17,13 @@ use Rattle.pfs_conf_values.specs.declared.actions.Overload.{Overload}
 use Rattle.pfs_conf_values.specs.declared.items.RuleNo.{RuleNo}
 use Rattle.pfs_conf_values.specs.declared.limits.LimitName.TheVariants as limit_name
 use Rattle.pfs_store_contract.specs.Admission.{is_answered, limit_met, world_after_admission, world_after_refusal}
-use Rattle.pfs_store_contract.specs.Calls.{world_reopened}
+use Rattle.pfs_store_contract.specs.Calls.{from_to_count, world_elsewhere, world_reopened}
 use Rattle.pfs_store_contract.specs.Handshakes.{flush_of, goes_with, hits_connections, hits_rate, stays_at_kill}
 use Rattle.pfs_store_contract.specs.Leaving.{world_without}
 use Rattle.pfs_store_contract.specs.Purging.{purge}
-use Rattle.pfs_store_contract.specs.Touching.{completes_at, is_taken, world_after_touch}
+use Rattle.pfs_store_contract.specs.Touching.{completes_at, is_asking, is_taken, world_after_touch}
 use Rattle.pfs_store_contract.specs.Worlds.{World, empty_world, state_with}
+use Rattle.pfs_store_contract.specs.declared.kills.FromTo.{FromTo}
 use Rattle.pfs_store_contract.specs.declared.records.Limit.{Limit}
 use Rattle.pfs_store_contract.specs.declared.records.State.{State}
 use Rattle.pfs_engine_machine.specs.Guards.{Guard, asked, brings_cookie, gets_cookie, guard_after_packet, guard_after_seconds, no_guard}
@@ -118,20 +119,20 @@ exceeded_of true false = Some exceeded.Connections
 exceeded_of false true = Some exceeded.Rate
 exceeded_of false false = None
 
--- a packet of a state of this rule goes on, or pf takes it itself
-abbrev pub outcome_of_held : RuleNo → Bool → Outcome
-outcome_of_held rule taken = if taken then outcome.Taken rule else outcome.State rule
+-- a packet of a state of this rule goes on, or pf takes it itself, and asks the other peer then, or not
+abbrev pub outcome_of_held : RuleNo → Bool → Bool → Outcome
+outcome_of_held rule taken asks = if taken then (if asks then outcome.Asking rule else outcome.Taken rule) else outcome.State rule
 
--- a packet of the state of this number, direction, rule and source exceeds these limits, or none, and is taken, or not
-abbrev pub answer_of_exceeded : Conf → Held → ℕ → Dir → RuleNo → Addr → ℕ → Bool → Option Exceeded → Outcome × Held
-answer_of_exceeded conf h number dir rule source now taken (Some limits) = answer_of_kill conf h number dir rule source now limits
-answer_of_exceeded conf h number dir rule source now taken None = (outcome_of_held rule taken, h)
+-- a packet of the state of this number, direction, rule and source exceeds these limits, or none, and then this comes of it
+abbrev pub answer_of_exceeded : Conf → Held → ℕ → Dir → RuleNo → Addr → ℕ → Outcome → Option Exceeded → Outcome × Held
+answer_of_exceeded conf h number dir rule source now unhindered (Some limits) = answer_of_kill conf h number dir rule source now limits
+answer_of_exceeded conf h number dir rule source now unhindered None = (unhindered, h)
 
--- a packet of this state is taken, or not, and completes its handshake, or not
-abbrev pub answer_of_handshake : Conf → Held → State → ℕ → Bool → Bool → Outcome × Held
-answer_of_handshake conf h s now taken completes =
+-- a packet of this state completes its handshake, or not, and where it exceeds no limit this comes of it
+abbrev pub answer_of_handshake : Conf → Held → State → ℕ → Outcome → Bool → Outcome × Held
+answer_of_handshake conf h s now unhindered completes =
     let limits = exceeded_of (hits_connections conf h.world s) (hits_rate conf h.world s) in
-    answer_of_exceeded conf h s.number s.dir s.rule s.source now taken (if completes then limits else None)
+    answer_of_exceeded conf h s.number s.dir s.rule s.source now unhindered (if completes then limits else None)
 
 -- ---- one packet, which brings a cookie, or not
 
@@ -171,7 +172,8 @@ deciding_rule conf h p = verdict (matches_item h.tables p) conf.items
 -- a held state has its key, or none
 abbrev pub answer_of_state : Conf → Held → PacketView → Bool → ℕ → Option State → Outcome × Held
 answer_of_state conf h p cookie now (Some s) =
-    answer_of_handshake conf (held_of (world_after_touch conf h.world s p now) h.tables) s now (is_taken p s) (completes_at p s)
+    answer_of_handshake conf (held_of (world_after_touch conf h.world s p now) h.tables) s now (outcome_of_held s.rule (is_taken p s) (is_asking p s))
+    (completes_at p s)
 answer_of_state conf h p cookie now None = answer_of_rule conf h p cookie now (deciding_rule conf h (asked p cookie))
 
 -- what a packet meets: where it is a SYN for a connection that has closed, its state has left before
@@ -215,7 +217,13 @@ abbrev pub answer_to_command : Conf → Held → ℕ → ℕ → ℕ → Command
 answer_to_command conf h first now table done =
     (outcome_of_command conf h.tables first now table done, held_of h.world (tables_after_command conf h.tables first now table done))
 
--- how much is held
+-- ---- an administrator takes out the states that go from hosts to hosts (pfctl(8), "-k")
+
+abbrev pub answer_to_kill : Conf → Held → ℕ → FromTo → Outcome × Held
+answer_to_kill conf h now hosts = (outcome.Killed (from_to_count h.world hosts), held_of (world_elsewhere conf h.world hosts now) h.tables)
+
+-- ---- an administrator asks how much is held (pfctl(8), "-si")
+
 abbrev pub amounts_of : Held → Amounts
 amounts_of h = record { states = length h.world.states; nodes = length h.world.nodes; entries = entry_count h.tables }
 
@@ -226,6 +234,7 @@ abbrev pub answer_to_arrival : Conf → Guard → Held → ℕ → ℕ → Arriv
 answer_to_arrival conf g h first now arrival.Skip = (outcome.Skip, h)
 answer_to_arrival conf g h first now (arrival.Packet p) = answer_behind_guard conf g h p now
 answer_to_arrival conf g h first now (arrival.Table table done) = answer_to_command conf h first now table.0 done
+answer_to_arrival conf g h first now (arrival.Kill hosts) = answer_to_kill conf h now hosts
 answer_to_arrival conf g h first now arrival.Held = (outcome.Held (amounts_of h), h)
 
 -- the guard after it

@@ -31,6 +31,7 @@ abbrev pub handshaking_state : World → Arrival → Option State
 handshaking_state w arrival.Skip = None
 handshaking_state w (arrival.Packet p) = completed_state p (state_with (key_of p) w)
 handshaking_state w (arrival.Table table done) = None
+handshaking_state w (arrival.Kill hosts) = None
 handshaking_state w arrival.Held = None
 
 -- the state whose handshake an event completes

@@ -46,6 +46,7 @@ IsFree conf w p (outcome.New rule) = ⊥
 IsFree conf w p (outcome.Answered rule) = ⊥
 IsFree conf w p (outcome.State rule) = IsFreeOf conf p rule
 IsFree conf w p (outcome.Taken rule) = IsFreeOf conf p rule
+IsFree conf w p (outcome.Asking rule) = IsFreeOf conf p rule
 IsFree conf w p (outcome.Kill rule limits overload killed) = IsFreeOf conf p rule
 IsFree conf w p (outcome.Drop rule limit) = leaves_node conf w p.source.addr rule.0 limit ≡ false
 IsFree conf w p _ = Unit {0}

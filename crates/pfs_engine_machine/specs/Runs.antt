@@ -26,11 +26,17 @@ abbrev pub MayCome : Conf → Arrival → Type 0
 MayCome conf (arrival.Table table done) = MayChange conf table.0
 MayCome conf _ = Unit {0}
 
+-- a packet comes
+abbrev pub IsPacket : Arrival → Type 0
+IsPacket (arrival.Packet p) = Unit {0}
+IsPacket _ = ⊥
+
 -- an event counts as one packet, or none
 abbrev pub packets_of : Arrival → ℕ
 packets_of (arrival.Packet p) = 1
 packets_of arrival.Skip = 0
 packets_of (arrival.Table table done) = 0
+packets_of (arrival.Kill hosts) = 0
 packets_of arrival.Held = 0
 
 -- how many of these events are packets

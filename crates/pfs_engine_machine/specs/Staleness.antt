@@ -11,7 +11,7 @@ use Rattle.pfs_store_contract.specs.Worlds.{World, holds_number}
 use Rattle.pfs_store_contract.specs.declared.records.Node.{Node}
 use Rattle.pfs_store_contract.specs.declared.records.State.{State}
 use Rattle.pfs_engine_machine.specs.declared.events.Event.{Event}
-use Rattle.pfs_engine_machine.specs.Acts.{RunAct, Arrive, Change, Purge, acts_of, after, purges}
+use Rattle.pfs_engine_machine.specs.Acts.{RunAct, Arrive, Change, Kill, Purge, acts_of, after, purges}
 
 -- these acts come one after another in the run of these events, the second part with twice as many purges as `interval` has seconds
 pub record AreTwoRounds (conf : Conf) (events : List Event) (earlier meanwhile later : List RunAct) : Type 0 where
@@ -28,6 +28,7 @@ abbrev pub brings : FlowKey → RunAct → Bool
 brings key (Purge s) = false
 brings key (Arrive now p cookie) = same_key key (key_of p)
 brings key (Change first now table done) = false
+brings key (Kill now hosts) = false
 
 -- A state that is held before 2 * interval purges in a row, of whose key no packet arrives meanwhile, and that is expired at
 -- each of these purges at which it is still held, is not held after the last of them.

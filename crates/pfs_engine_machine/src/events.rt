@@ -3,7 +3,7 @@
 use pfs_addr_values::Packet;
 use pfs_conf_values::{RuleNo, TableNo};
 use pfs_eval::{Added, Entered, TableEntry};
-use pfs_store_contract::Limit;
+use pfs_store_contract::{FromTo, Limit};
 
 /// What comes at a moment.
 #[derive(Clone, Copy, Debug, PartialEq, Eq)]
@@ -19,6 +19,8 @@ pub enum Arrival {
         /// What is done.
         command: Command,
     },
+    /// The administrator takes out the states that go from hosts to hosts. (pfctl(8), "-k")
+    Kill(FromTo),
     /// The administrator asks how much is held. (pfctl(8), "-si")
     Held,
 }
@@ -66,6 +68,9 @@ pub enum Outcome {
     Answered(RuleNo),
     /// The packet is one of a held state of this rule, and pf took it itself, so that it goes no further. ("synproxy state")
     Taken(RuleNo),
+    /// The packet is one of a held state of this rule, whose maker's handshake with pf is complete. pf took it itself, and asks the
+    /// other peer for a connection by a SYN of its own. ("synproxy state", and "set syncookies")
+    Asking(RuleNo),
     /// The packet passed without a state, by this rule or by none.
     Pass(Option<RuleNo>),
     /// The packet asked for a connection, and pf answered it by a SYN cookie. Nothing is held of it but the cookie: neither states
@@ -97,8 +102,19 @@ pub enum Outcome {
     Add(Entered),
     /// So many entries were taken out: the one that was named, or none.
     Delete(u64),
+    /// So many states were taken out: those that go from hosts to hosts.
+    Killed(u64),
     /// How much is held.
     Held(Amounts),
+}
+
+/// What the machine did with a record: with its packet where it is asked first, and, if it goes on from there, where it leaves.
+#[derive(Clone, Copy, Debug, PartialEq, Eq)]
+pub struct Way {
+    /// What was done first.
+    pub first: Outcome,
+    /// What was done where the packet leaves; none where the first was the end of its way, or where it is for the firewall itself.
+    pub second: Option<Outcome>,
 }
 
 /// How much a machine holds.

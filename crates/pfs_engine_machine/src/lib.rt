@@ -6,10 +6,12 @@ mod cookies;
 mod events;
 mod rates;
 mod staying;
+mod ways;
 
 pub use cookies::cookie_life;
-pub use events::{Amounts, Arrival, Command, Event, Exceeded, Outcome};
+pub use events::{Amounts, Arrival, Command, Event, Exceeded, Outcome, Way};
 pub use pfs_eval::{Added, Entered, TableEntry};
-pub use pfs_store_contract::Limit;
+pub use pfs_store_contract::{FromTo, Limit};
 pub use rates::rate_memory;
 pub use staying::{staleness, within_limits};
+pub use ways::ways_are_runs;

@@ -20,7 +20,7 @@ pub fn staleness(config: &Config, events: &[Event])
     config.keeps_load_rules();
 }
 
-/// After each purge, each packet and each command of a run whose moments do not fall, states, source nodes and
+/// After each purge, each packet, each command and each kill of a run whose moments do not fall, states, source nodes and
 /// table entries are within their limits, and each rule and source within its maxima; a packet that gets
 /// a SYN cookie changes nothing of it. (pf.conf(5), OPTIONS, "set limit", and STATEFUL TRACKING OPTIONS)
 pub fn within_limits(config: &Config, events: &[Event])

@@ -10,6 +10,7 @@ pub mod LinesMade
 pub mod Narrowest
 pub mod Paths
 pub mod Rooms
+pub mod Routes
 pub mod SameAsked
 pub mod SameFlags
 pub mod Skipping

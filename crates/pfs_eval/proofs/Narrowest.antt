@@ -13,7 +13,8 @@ use Rattle.pfs_addr_values.specs.Addresses.{IsAddr, same_family, width_of}
 use Rattle.pfs_addr_values.specs.Prefixes.{Network, IsNetwork, cleared_addr, covers, network_of}
 use Rattle.pfs_addr_values.proofs.PrefixLaws.{cleared_family, cleared_width, covers_true, network_covers, network_of_is_network}
 use Rattle.pfs_eval.specs.Blooms.{may_have}
-use Rattle.pfs_eval.specs.Entries.{Entry, narrower, narrowest, says_yes, answer_of, is_prefix_of, mark_at, holds_prefix}
+use Rattle.pfs_eval.specs.Covering.{narrower, narrowest}
+use Rattle.pfs_eval.specs.Entries.{Entry, says_yes, answer_of, is_prefix_of, mark_at, holds_prefix}
 use Rattle.pfs_eval.specs.Holdings.{AreKept}
 use Rattle.pfs_eval.specs.Lengths.{AreLong, AreOn, IsLengthNoted, next}
 use Rattle.pfs_eval.specs.declared.lengths.Lengths.{Lengths}

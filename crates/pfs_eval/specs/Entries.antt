@@ -1,11 +1,12 @@
 -- Entries of a table as it holds them, each with its mark, and the answer of the narrowest.
-use Rattle.std.specs.Prelude.{ℕ, Bool, false, not, ◌&&◌, ◌==◌, nat_le, if◌then◌else◌, Option, Some, None, List, [], ◌∷◌, map}
+use Rattle.std.specs.Prelude.{ℕ, Bool, false, not, ◌&&◌, ◌==◌, if◌then◌else◌, Option, Some, None, List, map}
 use Rattle.std.specs.List.{IsDistinct, list_any}
 use Rattle.std.specs.Map.{lookup}
 use Rattle.pfs_addr_values.specs.declared.addresses.Addr.{Addr}
 use Rattle.pfs_addr_values.specs.Addresses.{width_of}
 use Rattle.pfs_addr_values.specs.Prefixes.{Network, covers}
 use Rattle.pfs_conf_values.specs.Entries.{TextEntry, same_network}
+use Rattle.pfs_eval.specs.Covering.{narrowest}
 use Rattle.pfs_eval.specs.declared.entries.Mark.{Mark}
 use Rattle.pfs_eval.specs.declared.entries.TableEntry.{TableEntry}
 
@@ -20,16 +21,6 @@ AreDistinct entries = IsDistinct same_network (map (λ (e : Entry). e.0) entries
 -- the entry that a rules text says: it was added at no moment
 abbrev pub entry_of_text : TextEntry → Entry
 entry_of_text e = (e.0, record { negated = e.1; moment = None })
-
--- of an entry and one that follows it, the one with more bits
-abbrev pub narrower : Entry → Option Entry → Entry
-narrower e None = e
-narrower e (Some f) = if nat_le f.0.bits e.0.bits then e else f
-
--- of the entries that cover an address, the one with most bits
-abbrev pub narrowest : List Entry → Addr → Option Entry
-narrowest [] a = None
-narrowest (e ∷ es) a = if covers e.0 a then Some (narrower e (narrowest es a)) else narrowest es a
 
 -- yes if there is an entry, and it is not negated
 abbrev pub says_yes : Option Entry → Bool

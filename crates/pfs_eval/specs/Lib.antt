@@ -1,10 +1,12 @@
 pub mod Blooms
+pub mod Covering
 pub mod Entries
 pub mod Holdings
 pub mod Lengths
 pub mod Lines
 pub mod Matching
 pub mod Parameters
+pub mod Routing
 pub mod Skips
 pub mod Tables
 pub mod Verdict

@@ -1,4 +1,4 @@
-//! The tables of a configuration, and the verdict of its rules on a packet.
+//! The tables of a configuration, the verdict of its rules on a packet, and where packets leave.
 #![tactic(auto)]
 
 mod blooms;
@@ -7,10 +7,12 @@ mod comparing;
 mod entries;
 mod lengths;
 mod lines;
+mod routing;
 mod skips;
 mod tables;
 mod walks;
 
 pub use books::Book;
 pub use entries::{Mark, TableEntry};
+pub use routing::interface_to;
 pub use tables::{Added, Entered, Tables};

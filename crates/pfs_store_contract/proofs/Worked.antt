@@ -35,6 +35,7 @@ abbrev conf_of : ℕ → ℕ → ℕ → ℕ → ℕ → ℕ → ℕ → List It
 conf_of states src_nodes udp_first src_track interval start end items = record {
   profile = profile.Own;
   syncookies = syncookies.Never;
+  routes = [];
   limits = record { states = states; src_nodes = src_nodes; tables = 1000; table_entries = 200000 };
   timeouts = 120 ∷ 30 ∷ 86400 ∷ 900 ∷ 45 ∷ 90 ∷ udp_first ∷ 30 ∷ 60 ∷ 60 ∷ 30 ∷ 60 ∷ src_track ∷ interval ∷ start ∷ end ∷ [];
   tables = [];
@@ -169,6 +170,7 @@ tells connections value last = Some (record {
   dir = In;
   completed = true;
   taken = false;
+  asks = false;
   connections = connections;
   score = record { value = value; last = last };
 })

@@ -9,10 +9,11 @@ use Rattle.pfs_conf_values.specs.declared.profiles.Profile.{Profile}
 use Rattle.pfs_track.specs.Scores.{zero_score}
 use Rattle.pfs_store_contract.specs.Admission.{leaves_node, limit_met, world_after_admission, world_after_refusal}
 use Rattle.pfs_store_contract.specs.Counts.{node_scope_of}
-use Rattle.pfs_store_contract.specs.Leaving.{is_beside, is_flushed, world_without}
+use Rattle.pfs_store_contract.specs.Leaving.{is_beside, is_flushed, is_from_to, world_without}
 use Rattle.pfs_store_contract.specs.Purging.{node_round, node_share, node_slice, state_round, state_share, state_slice}
-use Rattle.pfs_store_contract.specs.Touching.{completes_at, connections_in, is_taken, reopens, score_in, world_after_touch}
+use Rattle.pfs_store_contract.specs.Touching.{completes_at, connections_in, is_asking, is_taken, reopens, score_in, world_after_touch}
 use Rattle.pfs_store_contract.specs.Worlds.{World}
+use Rattle.pfs_store_contract.specs.declared.kills.FromTo.{FromTo}
 use Rattle.pfs_store_contract.specs.declared.records.Limit.{Limit}
 use Rattle.pfs_store_contract.specs.declared.records.Slice.{Slice}
 use Rattle.pfs_store_contract.specs.declared.records.State.{State}
@@ -65,8 +66,8 @@ abbrev pub world_reopened : Conf → World → PacketView → ℕ → Option Sta
 world_reopened conf w p now None = w
 world_reopened conf w p now (Some s) = if reopens conf p s then world_killed conf w s.number now else w
 
--- the rule, the source, the direction in which it was made, whether the handshake completed, whether pf takes the packet itself, and the
--- connections and the score after it
+-- the rule, the source, the direction in which it was made, whether the handshake completed, whether pf takes the packet itself, whether it
+-- asks the other peer, and the connections and the score after it
 abbrev pub touch_of : Conf → World → PacketView → ℕ → State → Touched
 touch_of conf w p now s = record {
   rule = s.rule;
@@ -74,6 +75,7 @@ touch_of conf w p now s = record {
   dir = s.dir;
   completed = completes_at p s;
   taken = is_taken p s;
+  asks = is_asking p s;
   connections = connections_in conf s.source (world_after_touch conf w s p now).states (node_scope_of conf s.rule.0);
   score = score_in s.source (world_after_touch conf w s p now).nodes (node_scope_of conf s.rule.0);
 }
@@ -101,6 +103,19 @@ flushed_count profile w dir source rule = length (filter (is_flushed profile dir
 -- the states that a flush takes for those of a source, of whatever rules
 abbrev pub source_states : Profile → Dir → Addr → List State → ℕ
 source_states profile dir source states = length (filter (is_beside profile dir source) states)
+
+-- ---- an administrator takes states out
+
+-- those stay that do not go from these hosts to those
+abbrev pub stays_elsewhere : FromTo → State → Bool
+stays_elsewhere hosts s = not (is_from_to hosts s)
+
+abbrev pub world_elsewhere : Conf → World → FromTo → ℕ → World
+world_elsewhere conf w hosts now = world_without conf w (stays_elsewhere hosts) now
+
+-- how many leave
+abbrev pub from_to_count : World → FromTo → ℕ
+from_to_count w hosts = length (filter (is_from_to hosts) w.states)
 
 -- ---- how many a slice examines and takes out
 

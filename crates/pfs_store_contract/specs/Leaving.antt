@@ -1,7 +1,8 @@
 -- States leave: by a purge, killed, or flushed. A node that loses its last state is kept for its retention from then on. (pf.conf(5),
 -- STATEFUL TRACKING OPTIONS)
-use Rattle.std.specs.Prelude.{ℕ, ◌+◌, ◌==◌, ◌&&◌, nat_lt, Bool, if◌then◌else◌, Option, Some, None, List, filter, map}
+use Rattle.std.specs.Prelude.{ℕ, ◌+◌, ◌==◌, ◌&&◌, nat_lt, Bool, true, if◌then◌else◌, Option, Some, None, List, filter, map}
 use Rattle.pfs_addr_values.specs.declared.addresses.Addr.{Addr}
+use Rattle.pfs_addr_values.specs.Prefixes.{Network, covers}
 use Rattle.pfs_addr_values.specs.Sameness.{same_addr}
 use Rattle.pfs_addr_values.specs.declared.packets.Dir.{Dir}
 use Rattle.pfs_addr_values.specs.declared.packets.Dir.TheVariants as dir
@@ -14,6 +15,7 @@ use Rattle.pfs_conf_values.specs.declared.timeouts.TimeoutName.TheVariants as ti
 use Rattle.pfs_conf_values.specs.declared.items.RuleNo.{RuleNo}
 use Rattle.pfs_store_contract.specs.Worlds.{World, holds_number}
 use Rattle.pfs_store_contract.specs.Counts.{node_states, is_of_rule, is_of_source}
+use Rattle.pfs_store_contract.specs.declared.kills.FromTo.{FromTo}
 use Rattle.pfs_store_contract.specs.declared.records.Node.{Node}
 use Rattle.pfs_store_contract.specs.declared.records.NodeScope.{NodeScope}
 use Rattle.pfs_store_contract.specs.declared.records.NodeScope.TheVariants as node_scope
@@ -56,3 +58,18 @@ is_beside profile.OpenBsd74 dir source s = same_addr (end_on dir s.key).addr sou
 abbrev pub is_flushed : Profile → Dir → Addr → Option RuleNo → State → Bool
 is_flushed profile dir source None s = is_beside profile dir source s
 is_flushed profile dir source (Some rule) s = is_of_rule rule.0 s && is_beside profile dir source s
+
+-- the end of a key on the side to which packets of a direction go
+abbrev pub end_beyond : Dir → FlowKey → Endpoint
+end_beyond dir.In key = key.b
+end_beyond dir.Out key = key.a
+
+-- a prefix, if there is one, covers an address
+abbrev pub is_covered : Option Network → Addr → Bool
+is_covered None a = true
+is_covered (Some p) a = covers p a
+
+-- the states that go from these hosts to those: by the source of the packet that made them, and by its destination, as it was sent
+-- (pfctl(8), "-k")
+abbrev pub is_from_to : FromTo → State → Bool
+is_from_to hosts s = covers hosts.from s.source && is_covered hosts.to (end_beyond s.dir s.key).addr

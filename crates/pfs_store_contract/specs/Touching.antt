@@ -9,7 +9,7 @@ use Rattle.pfs_conf_values.specs.Configs.{Conf, options_of}
 use Rattle.pfs_conf_values.specs.Profiles.{is_openbsd}
 use Rattle.pfs_conf_values.specs.declared.actions.Rate.{Rate}
 use Rattle.pfs_track.specs.Scores.{score_after, zero_score}
-use Rattle.pfs_track.specs.StatePhases.{completes, has_closed, phase_after, takes}
+use Rattle.pfs_track.specs.StatePhases.{asks_peer, completes, has_closed, phase_after, takes}
 use Rattle.pfs_track.specs.declared.scores.Score.{Score}
 use Rattle.pfs_store_contract.specs.Worlds.{World}
 use Rattle.pfs_store_contract.specs.Counts.{is_node, node_connections, node_scope_of}
@@ -35,6 +35,10 @@ reopens conf p s = may_reopen conf p && has_closed s.phase
 -- pf takes a packet of a state itself, so that it goes no further
 abbrev pub is_taken : PacketView → State → Bool
 is_taken p s = takes s.phase (goes_forward p s) p.flags
+
+-- pf takes a packet of a state, and asks the other peer for a connection by a SYN of its own
+abbrev pub is_asking : PacketView → State → Bool
+is_asking p s = asks_peer s.phase (goes_forward p s) p.flags
 
 -- the state after its packet: the moment of its last packet stays where pf takes this one
 abbrev pub state_after_packet : PacketView → ℕ → State → State

@@ -1,10 +1,12 @@
 //! The contract of a store of states and source nodes: what every kind of store is to its callers, and what each call does.
 #![tactic(auto)]
 
+mod kills;
 mod proxies;
 mod records;
 mod store;
 
+pub use kills::FromTo;
 pub use proxies::{asks_in, is_answered};
 pub use records::{
     Found, Limit, Node, NodeScope, Slice, State, StateNo, Staying, Touched, Watched,

@@ -95,6 +95,8 @@ pub struct Touched {
     pub completed: bool,
     /// Whether pf takes the packet itself, so that it goes no further.
     pub taken: bool,
+    /// Whether pf asks the other peer for a connection then, by a SYN of its own. ("synproxy state")
+    pub asks: bool,
     /// The connections of the source's node after it; 0 for a rule that tracks no sources.
     pub connections: u64,
     /// The score of the source's node after it; 0 at moment 0 for a rule that tracks no sources.

@@ -5,7 +5,7 @@ ghost use Rattle.pfs_addr_values.specs.Keys.{key_of};
 ghost use Rattle.pfs_addr_values.specs.Packets.{run_limit};
 ghost use Rattle.pfs_conf_values.specs.Configs.{Conf, options_at};
 ghost use Rattle.pfs_track.specs.StatePhases.{has_closed};
-ghost use Rattle.pfs_store_contract.specs.Calls.{IsFreeRefusal, answer_at, flushed_count, node_slice_of, packet_limit, renewal_of, source_states, state_number, state_rule, state_slice_of, touch_of, world_at, world_flushed, world_killed, world_touched};
+ghost use Rattle.pfs_store_contract.specs.Calls.{IsFreeRefusal, answer_at, flushed_count, from_to_count, node_slice_of, packet_limit, renewal_of, source_states, state_number, state_rule, state_slice_of, touch_of, world_at, world_elsewhere, world_flushed, world_killed, world_touched};
 ghost use Rattle.pfs_store_contract.specs.Counts.{half_open};
 ghost use Rattle.pfs_store_contract.specs.Purging.{node_slice, state_slice};
 ghost use Rattle.pfs_store_contract.specs.Quiet.{NodesStay, StatesStay, world_after_quiet};
@@ -13,6 +13,7 @@ ghost use Rattle.pfs_store_contract.specs.Worlds.{IsUpToNow, World, holds_number
 ghost use Rattle.pfs_store_contract.specs.declared.records.Found.{Found};
 ghost use Rattle.pfs_store_contract.specs.declared.records.State.{State};
 
+use crate::kills::FromTo;
 use crate::records::{Found, Limit, Slice, StateNo, Staying, Touched, Watched};
 use pfs_addr_values::{Addr, Dir, FlowKey, Meter, NoMemory, Packet};
 use pfs_conf_values::RuleNo;
@@ -20,8 +21,8 @@ use pfs_conf_values::RuleNo;
 /// States and source nodes, however they are kept.
 ///
 /// Clauses see what is held as one `World`, and each change as an equation of the world after it. Moments are in
-/// seconds. A look is one reading of a state's record. A kind of store that counts looks ticks the meter at each; every
-/// other kind leaves the meter alone. Only `admit` takes memory.
+/// seconds. A look is one reading of a state's record, and in the slices of source nodes one of a node's record. A kind of store that
+/// counts looks ticks the meter at each; every other kind leaves the meter alone. Only `admit` takes memory.
 pub trait Store {
     // what is held
     ghost world: { Self → World };
@@ -74,7 +75,7 @@ pub trait Store {
     /// sources and the source has no node in its scope, a node is made and stays, which may leave from `now` on.
     ///
     /// `NoMemory` where memory for a state or a node was refused; then what is held is unchanged. Where a limit is met memory is
-    /// taken for that node alone. Fewer than 1,000,000,000 numbers were used before. It looks at no record.
+    /// taken for that node alone. Fewer than 2,000,000,000 numbers were used before. It looks at no record.
     /// (pf.conf(5), OPTIONS, "set limit", and STATEFUL TRACKING OPTIONS; the order of the limits is own, and likely OpenBSD's)
     fn admit(
         &mut self,
@@ -179,6 +180,20 @@ pub trait Store {
         ensures most { meter.new ≤ meter.old + run_limit }
         ensures config { config self.new ≡ config self.old };
 
+    /// Takes out the states that go from these hosts to those, as the packets say that made them, and returns how many they are. A
+    /// node that loses its last state is kept for its retention from `now` on. It goes through all states: it looks at each record
+    /// that leaves, and at no more than one for each state that is held. (pfctl(8), "-k")
+    fn kill_from_to(&mut self, hosts: &FromTo, now: u64, meter: &mut Meter) -> u64
+        requires moment { now ≤ 2 ^ 63 }
+        requires meter { meter.old ≤ 2 ^ 63 }
+        ensures answer { result ≡ from_to_count (world self.old) hosts.now }
+        ensures world { world self.new ≡ world_elsewhere (config self.old) (world self.old) hosts.now now }
+        ensures looks { counts ≡ true → meter.old + result ≤ meter.new }
+        ensures few_looks { counts ≡ true → meter.new ≤ meter.old + length (world self.old).states }
+        ensures uncounted { counts ≡ false → meter.new ≡ meter.old }
+        ensures most { meter.new ≤ meter.old + run_limit }
+        ensures config { config self.new ≡ config self.old };
+
     /// Examines the next states of the round, or the first of a new one: of L, the limit of states, and `interval` at most
     /// 1 + L / `interval`. Those leave that are expired at `now` under the counts before the call. A node that loses its last
     /// state is kept for its retention from `now` on. It looks at each record that it examines.
@@ -194,11 +209,15 @@ pub trait Store {
         ensures config { config self.new ≡ config self.old };
 
     /// Examines the next source nodes of their round, or the first of a new one, at most so many as `purge_states` does by
-    /// the limit of source nodes. Those leave that have no state, and whose retention is over at `now`. It looks at
-    /// no record of a state. (pf.conf(5), OPTIONS, "src.track"; the rounds are own)
-    fn purge_nodes(&mut self, now: u64) -> Slice
+    /// the limit of source nodes. Those leave that have no state, and whose retention is over at `now`. It looks at the record of
+    /// each node that it examines, and at none of a state. (pf.conf(5), OPTIONS, "src.track"; the rounds are own)
+    fn purge_nodes(&mut self, now: u64, meter: &mut Meter) -> Slice
+        requires meter { meter.old ≤ 2 ^ 63 }
         ensures answer { result ≡ node_slice_of (config self.old) (world self.old) now }
         ensures world { world self.new ≡ node_slice (config self.old) (world self.old) now }
+        ensures looks { counts ≡ true → meter.new ≡ meter.old + result.examined }
+        ensures uncounted { counts ≡ false → meter.new ≡ meter.old }
+        ensures most { meter.new ≤ meter.old + run_limit }
         ensures config { config self.new ≡ config self.old };
 
     /// Does the slice of `purge_states`. It also returns up to when states stay, under the counts before it: those that it
@@ -227,23 +246,28 @@ pub trait Store {
     /// Does the slice of `purge_nodes`. It also returns up to when source nodes stay, where they get no state and lose none:
     /// those that it examined, by their numbers, or more; and whether the round is over. A kind of store that does not know it
     /// returns the moment 0. (pf.conf(5), OPTIONS, "src.track"; the rounds are own)
-    fn watch_nodes(&mut self, now: u64) -> Watched
+    fn watch_nodes(&mut self, now: u64, meter: &mut Meter) -> Watched
+        requires meter { meter.old ≤ 2 ^ 63 }
         ensures answer { result.slice ≡ node_slice_of (config self.old) (world self.old) now }
         ensures world { world self.new ≡ node_slice (config self.old) (world self.old) now }
         ensures staying { NodesStay (config self.old) (world self.old).states result.staying (world self.new).nodes }
         ensures over { result.over ≡ true → (world self.new).pending_nodes ≡ [] }
         ensures fits { 0 < result.staying.until → length (world self.new).pending_nodes ≤ length (world self.new).nodes }
+        ensures looks { counts ≡ true → meter.new ≡ meter.old + result.slice.examined }
+        ensures uncounted { counts ≡ false → meter.new ≡ meter.old }
+        ensures most { meter.new ≤ meter.old + run_limit }
         ensures config { config self.new ≡ config self.old }
     {
         Watched {
-            slice: self.purge_nodes(now),
+            slice: self.purge_nodes(now, meter),
             staying: Staying::unknown(),
             over: false,
         }
     }
 
     /// Passes over some of so many seconds in which nothing leaves, and returns over how many. Both rounds go on by so
-    /// many slices, as if each of them had been done. A kind of store that cannot returns 0. It looks at no record. (own)
+    /// many slices, as if each of them had been done. A kind of store that cannot returns 0. It looks at no record, but its
+    /// cost may grow with what is held. (own)
     fn pass_over(&mut self, seconds: u64) -> u64
         ensures most { result ≤ seconds }
         ensures world { world self.new ≡ world_after_quiet (config self.old) result (world self.old) }

@@ -71,13 +71,8 @@ nodes-dropped k (t ∷ ts) = go (t.node.number == k) (nodes-dropped k ts)
     go true e = e
     go false e = ap (λ xs. t.node ∷ xs) e
 
--- ---- the node that is next
+-- ---- the node of a tally
 
 pub node-of : (o : Option Tally) (ts : List Tally) → IfSome o (λ t. find (has_node_number t.node.number) ts ≡ Some t) → IfSome o (λ t. find (λ (n : Node). n.number == t.node.number) (nodes_of ts) ≡ Some t.node)
 node-of None ts h = h
 node-of (Some t) ts h = find-part (λ (u : Tally). u.node) (λ (n : Node). n.number == t.node.number) ts ∙ ap (λ (o : Option Tally). option_map (λ (u : Tally). u.node) o) h
-
-pub counted-of : (conf : Conf) (xs : List State) (o : Option Tally) (ts : List Tally) → AllByRecursion (IsCounted conf xs) ts → IfSome o (λ t. find (has_node_number t.node.number) ts ≡ Some t)
-    → IfSome o (λ t. t.states ≡ node_states conf t.node.scope t.node.source xs)
-counted-of conf xs None ts i h = h
-counted-of conf xs (Some t) ts i h = ap (λ (u : Tally). u.states) (found-all (IsCounted conf xs) (has_node_number t.node.number) t ts i h)

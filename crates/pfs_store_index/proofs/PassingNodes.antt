@@ -1,5 +1,5 @@
--- A walk by nodes that stay: of their tallies, and of the nodes.
-use Rattle.std.proofs.Common.{◌≡◌, ◌∙◌, ◌==◌, ◌&&◌, ℕ, Bool, true, false, if◌then◌else◌, List, [], ◌∷◌, length, filter, nat_le, refl, ap, sym, arith}
+-- A walk over nodes: of their tallies, and of the nodes.
+use Rattle.std.proofs.Common.{◌≡◌, ◌∙◌, ◌==◌, ◌&&◌, ℕ, Bool, true, false, if◌then◌else◌, Option, None, Some, option_map, List, [], ◌∷◌, length, filter, nat_le, refl, ap, sym, arith}
 use Rattle.std.specs.List.{AllByRecursion}
 use Rattle.pfs_conf_values.specs.Configs.{Conf}
 use Rattle.pfs_store_contract.specs.Counts.{node_states}
@@ -10,12 +10,14 @@ use Rattle.pfs_store_contract.specs.declared.records.State.{State}
 use Rattle.pfs_store_records.specs.Keeping.{number_of_node}
 use Rattle.pfs_store_records.specs.Records.{between}
 use Rattle.pfs_store_records.specs.Retaining.{IsKeptUntil, is_past}
-use Rattle.pfs_store_records.specs.Tallies.{nodes_of, stateless}
+use Rattle.pfs_store_records.specs.Tallies.{has_node_number, nodes_of, stateless}
 use Rattle.pfs_store_index.specs.Ties.{IsCounted}
-use Rattle.pfs_store_records.specs.Walks.{IsPassing}
+use Rattle.pfs_store_records.specs.Walks.{IsPassing, StopsWalkAt}
 use Rattle.pfs_store_records.specs.declared.nodes.Tally.{Tally}
 use Rattle.pfs_store_index.proofs.Retained.{node_number}
 use Rattle.pfs_store_records.proofs.NodeLaws.{numbers-nodes}
+use Rattle.pfs_store_records.proofs.Searches.{found-all}
+use Rattle.pfs_store_index.proofs.Dropping.{node-of}
 
 states_are : (conf : Conf) (xs : List State) (now : ℕ) (t : Tally) → IsCounted conf xs t → is_over conf xs now t.node ≡ is_past now t
 states_are conf xs now t c = ap (λ k. (k == 0) && nat_le t.node.expires now) (sym (ap (λ (u : Tally). u.states) c))
@@ -36,6 +38,16 @@ passing-nodes conf xs now above most share stayed last ts c w = record {
   passed = rw (numbers-nodes ts) w.passed;
   rest = rw (numbers-nodes ts) w.rest;
   within = w.within;
+}
+
+pub stops-nodes : (conf : Conf) (xs : List State) (now last most stayed share : ℕ) (o : Option Tally) (ts : List Tally) → AllByRecursion (IsCounted conf xs) ts
+    → StopsWalkAt number_of_node (is_past now) ts last most stayed share o → StopsWalkAt node_number (is_over conf xs now) (nodes_of ts) last most stayed share (option_map (λ (t : Tally). t.node) o)
+stops-nodes conf xs now last most stayed share None ts c h = λ l. rw (numbers-nodes ts) (h l)
+stops-nodes conf xs now last most stayed share (Some t) ts c h = record {
+  within = h.within;
+  next = rw (numbers-nodes ts) h.next;
+  found = node-of (Some t) ts h.found;
+  passes = states_are conf xs now t (found-all (IsCounted conf xs) (has_node_number t.node.number) t ts c h.found) ∙ h.passes;
 }
 
 pub kept-nodes : (conf : Conf) (xs : List State) (a l until : ℕ) (ts : List Tally) → AllByRecursion (IsCounted conf xs) ts

@@ -17,12 +17,13 @@ use Rattle.pfs_track.specs.Scores.{score_after}
 use Rattle.pfs_store_contract.specs.Admission.{new_node, nodes_with}
 use Rattle.pfs_store_contract.proofs.SliceLaws.{lifetime-unread}
 use Rattle.pfs_store_contract.specs.Counts.{has_node, is_node, node_scope_of, node_states, rule_states}
-use Rattle.pfs_store_contract.specs.Calls.{source_states, stays_unflushed}
-use Rattle.pfs_store_contract.specs.Leaving.{is_beside, is_flushed, node_after_leaving, node_retention, world_without}
+use Rattle.pfs_store_contract.specs.Calls.{source_states, stays_elsewhere, stays_unflushed}
+use Rattle.pfs_store_contract.specs.Leaving.{is_beside, is_flushed, is_from_to, node_after_leaving, node_retention, world_without}
 use Rattle.pfs_store_contract.specs.Plain.{AreCounts}
 use Rattle.pfs_store_contract.specs.Purging.{has_expired, is_among, node_numbers, node_share, node_slice, node_stays, round, state_numbers, state_share, state_slice, stays}
 use Rattle.pfs_store_contract.specs.Touching.{completes_at, nodes_scored, nodes_touched, numbered_state_after, node_after_handshake, world_after_touch}
 use Rattle.pfs_store_contract.specs.Worlds.{holds_number, lists}
+use Rattle.pfs_store_contract.specs.declared.kills.FromTo.{FromTo}
 use Rattle.pfs_store_contract.specs.declared.records.Node.{Node}
 use Rattle.pfs_store_contract.specs.declared.records.NodeScope.{NodeScope}
 use Rattle.pfs_store_contract.specs.declared.records.State.{State}
@@ -32,7 +33,7 @@ use Rattle.pfs_store_index.specs.Rounds.{waiting}
 use Rattle.pfs_store_contract.specs.Quiet.{StateStays}
 use Rattle.pfs_store_index.specs.Staying.{StatesHold}
 use Rattle.pfs_store_index.specs.Stored.{due_at, AreUnread, IsNumbered, IsStored, has_pair, is_due, world_of}
-use Rattle.pfs_store_index.proofs.Turning.{in_range}
+use Rattle.pfs_store_index.proofs.Turning.{all-numbers, in_range}
 use Rattle.pfs_store_index.proofs.Leavings.{state_number}
 use Rattle.pfs_store_index.proofs.Meetings.{blind, map-blind}
 use Rattle.pfs_store_records.proofs.Searches.{all-push, map-push}
@@ -84,17 +85,21 @@ numbers-scored ns a now (Some sc) (Some rate) = each ns
         go false = refl
 
 -- at most as many as were made
-few-above : (low made : ℕ) (xs : List State) → IsRisingBy state_number xs → Above state_number low xs → IsNumbered made (state_numbers xs) → low ≤ made → length xs + low ≤ made
-few-above low made [] r a h l = omega arith
-few-above low made (x ∷ xs) r (a, more) (h, hs) l =
-    let m = few-above x.number made xs (rest-rising state_number x xs r) (head-above state_number x xs r) hs h.1 in omega (arith, m, a)
+module _ {X : Type 0} (number : X → ℕ) where
+  few-above : (low made : ℕ) (xs : List X) → IsRisingBy number xs → Above number low xs → IsNumbered made (map number xs) → low ≤ made → length xs + low ≤ made
+  few-above low made [] r a h l = omega arith
+  few-above low made (x ∷ xs) r (a, more) (h, hs) l =
+      let m = few-above (number x) made xs (rest-rising number x xs r) (head-above number x xs r) hs h.1 in omega (arith, m, a)
 
-above-zero : (made : ℕ) (xs : List State) → IsNumbered made (state_numbers xs) → Above state_number 0 xs
-above-zero made [] h = tt
-above-zero made (x ∷ xs) (h, hs) = (omega (arith, h.0), above-zero made xs hs)
+  above-zero : (made : ℕ) (xs : List X) → IsNumbered made (map number xs) → Above number 0 xs
+  above-zero made [] h = tt
+  above-zero made (x ∷ xs) (h, hs) = (omega (arith, h.0), above-zero made xs hs)
+
+  pub few-numbers : (made : ℕ) (xs : List X) → IsRisingBy number xs → IsNumbered made (map number xs) → length xs ≤ made
+  few-numbers made xs r h = omega (arith, few-above 0 made xs r (above-zero made xs h) h (omega arith))
 
 pub few-numbered : (made : ℕ) (xs : List State) → IsRisingBy state_number xs → IsNumbered made (state_numbers xs) → length xs ≤ made
-few-numbered made xs r h = omega (arith, few-above 0 made xs r (above-zero made xs h) h (omega arith))
+few-numbered made xs r h = few-numbers state_number made xs r h
 
 pub made-above : (made : ℕ) (numbers : List ℕ) → IsNumbered made numbers → IsAbove (made + 1) numbers
 made-above made [] h = tt
@@ -475,18 +480,22 @@ flushed-stays p d a rule made xs h =
             no true = refl
             no false = refl
 
--- how many are flushed
-pub flushed-count : (p : Profile) (d : Dir) (a : Addr) (rule : Option RuleNo) (xs : List State) → length xs - length (filter (stays_unflushed p d a rule) xs) ≡ length (filter (is_flushed p d a rule) xs)
-flushed-count p d a rule xs = omega (arith, both xs)
+-- how many leave
+pub left-count : (leaves : State → Bool) (xs : List State) → length xs - length (filter (λ s. not (leaves s)) xs) ≡ length (filter leaves xs)
+left-count leaves xs = omega (arith, both xs)
   where
-    both : (ys : List State) → length (filter (is_flushed p d a rule) ys) + length (filter (stays_unflushed p d a rule) ys) ≡ length ys
+    both : (ys : List State) → length (filter leaves ys) + length (filter (λ s. not (leaves s)) ys) ≡ length ys
     both [] = refl
-    both (y ∷ ys) = go (is_flushed p d a rule y) (both ys)
+    both (y ∷ ys) = go (leaves y) (both ys)
       where
-        go : (b : Bool) → length (filter (is_flushed p d a rule) ys) + length (filter (stays_unflushed p d a rule) ys) ≡ length ys
-            → length (if b then y ∷ filter (is_flushed p d a rule) ys else filter (is_flushed p d a rule) ys) + length (if not b then y ∷ filter (stays_unflushed p d a rule) ys else filter (stays_unflushed p d a rule) ys) ≡ length (y ∷ ys)
+        go : (b : Bool) → length (filter leaves ys) + length (filter (λ s. not (leaves s)) ys) ≡ length ys
+            → length (if b then y ∷ filter leaves ys else filter leaves ys) + length (if not b then y ∷ filter (λ s. not (leaves s)) ys else filter (λ s. not (leaves s)) ys) ≡ length (y ∷ ys)
         go true e = omega (arith, e)
         go false e = omega (arith, e)
+
+-- how many are flushed
+pub flushed-count : (p : Profile) (d : Dir) (a : Addr) (rule : Option RuleNo) (xs : List State) → length xs - length (filter (stays_unflushed p d a rule) xs) ≡ length (filter (is_flushed p d a rule) xs)
+flushed-count p d a rule xs = left-count (is_flushed p d a rule) xs
 
 pub flushed-le : (p : Profile) (d : Dir) (a : Addr) (rule : Option RuleNo) (xs : List State) → length (filter (is_flushed p d a rule) xs) ≤ source_states p d a xs
 flushed-le p d a rule [] = omega arith
@@ -498,6 +507,35 @@ flushed-le p d a rule (x ∷ xs) = go (flushed-le p d a rule xs) (is_flushed p d
     go m true t false u = absurd (cc (flushed-source p d a rule x t, u))
     go m false t true u = rw (t, u) (omega (arith, m))
     go m false t false u = rw (t, u) m
+
+-- ---- all states
+
+-- all numbers wait above 0
+pub all-waiting : (made : ℕ) (xs : List State) → IsNumbered made (state_numbers xs) → length (waiting 0 made (state_numbers xs)) ≡ length xs
+all-waiting made xs h = ap length (all-numbers made (state_numbers xs) h) ∙ numbers-length (λ (s : State). s.number) xs
+
+-- every state is among those examined in the end
+pub killed-stays : (hosts : FromTo) (made : ℕ) (xs : List State) → IsNumbered made (state_numbers xs)
+    → filter (stays_by state_number (is_from_to hosts) (waiting 0 made (state_numbers xs))) xs ≡ filter (stays_elsewhere hosts) xs
+killed-stays hosts made xs h =
+    ap (λ ns. filter (stays_by state_number (is_from_to hosts) ns) xs) (all-numbers made (state_numbers xs) h)
+    ∙ filter-agree (stays_by state_number (is_from_to hosts) (state_numbers xs)) (stays_elsewhere hosts) xs (each xs (members xs))
+  where
+    among : List State → State → Type 0
+    among ys y = is_among (state_numbers ys) y.number ≡ true
+
+    later : (y : State) (ys zs : List State) → AllByRecursion (among ys) zs → AllByRecursion (among (y ∷ ys)) zs
+    later y ys [] k = tt
+    later y ys (z ∷ zs) (k, ks) = (ap (λ b. (y.number == z.number) || b) k ∙ or_true (y.number == z.number), later y ys zs ks)
+
+    members : (ys : List State) → AllByRecursion (among ys) ys
+    members [] = tt
+    members (y ∷ ys) = (ap (λ b. b || is_among (state_numbers ys) y.number) (same_self y.number), later y ys ys (members ys))
+
+    each : (ys : List State) → AllByRecursion (among xs) ys
+        → AllByRecursion (λ (y : State). stays_by state_number (is_from_to hosts) (state_numbers xs) y ≡ stays_elsewhere hosts y) ys
+    each [] m = tt
+    each (y ∷ ys) (m, ms) = (ap (λ b. not (b && is_from_to hosts y)) m, each ys ms)
 
 -- ---- a number is held where it waits just above the one before
 

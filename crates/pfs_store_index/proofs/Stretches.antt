@@ -6,7 +6,7 @@ use Rattle.pfs_store_contract.specs.Calls.{other_than}
 use Rattle.pfs_store_contract.specs.Purging.{is_among, state_numbers}
 use Rattle.pfs_store_contract.specs.declared.records.State.{State}
 use Rattle.pfs_store_records.specs.Records.{between}
-use Rattle.pfs_store_records.specs.Walks.{IsLeaver, IsNext, IsPassing, IsWalk}
+use Rattle.pfs_store_records.specs.Walks.{IsLeaver, IsNext, IsPassing, IsStop, IsWalk}
 use Rattle.pfs_store_index.specs.Rounds.{IsExamined, waiting}
 use Rattle.pfs_store_index.proofs.Leavings.{state_number}
 use Rattle.pfs_store_records.proofs.Rising.{IsRisingBy, same_number}
@@ -148,6 +148,23 @@ module _ {X : Type 0} (number : X → ℕ) (leaves : X → Bool) (above most sha
   -- where none waits after it, or no more may be examined
   pub passing-examined : (stayed < share → waiting last most (map number xs) ≡ []) → IsExamined share stayed 0 (waiting above most (map number xs)) (waiting last most (map number xs))
   passing-examined h = examined-passed share stayed (waiting above last (map number xs)) (waiting above most (map number xs)) (waiting last most (map number xs)) w.count w.passed w.rest w.within h
+
+  -- where it stopped at one that leaves, which is the last
+  module _ (x : X) (xs' : List X) (s : IsStop number leaves xs last most stayed share x) (r : IsRisingBy number xs) (e : xs' ≡ filter (λ (y : X). not (number y == number x)) xs) where
+    left : xs' ≡ filter (survives number leaves (number x)) xs
+    left = e ∙ survive-removed number leaves (number x) x xs r s.found s.passes
+
+    pub stop-taken : take (stayed + 1) (waiting above most (map number xs)) ≡ take stayed (waiting above most (map number xs)) ++ number x ∷ []
+    stop-taken = (at_next stayed (number x) (waiting above most (map number xs)) (waiting last most (map number xs)) w.rest s.next).taken
+
+    pub stop-stays : xs' ≡ filter (stays_by number leaves (take (stayed + 1) (waiting above most (map number xs)))) xs
+    stop-stays = step-stays number leaves (number x) stayed (waiting above most (map number xs)) xs xs xs' passing-stays left stop-taken
+
+    pub stop-examined : IsExamined share (stayed + 1) (share - stayed - 1) (waiting above most (map number xs)) (waiting (number x) most (map number xs'))
+    stop-examined =
+        let n = at_next stayed (number x) (waiting above most (map number xs)) (waiting last most (map number xs)) w.rest s.next in
+        examined-next share stayed (waiting above most (map number xs)) (waiting (number x) most (map number xs')) s.within n.within
+        (ap (λ (ys : List X). waiting (number x) most (map number ys)) left ∙ all-next number leaves last most (number x) _ xs r n.first)
 
 -- ---- one stretch after another
 

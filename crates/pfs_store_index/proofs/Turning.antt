@@ -88,7 +88,7 @@ whole-passed share whole left numbers pending h e =
 pub in_range : (made n : ℕ) → 1 ≤ n → n ≤ made → between 0 made n ≡ true
 in_range made n l m = grind (arith, nat_tests)
 
-all-numbers : (made : ℕ) (numbers : List ℕ) → AllByRecursion (λ n. (1 ≤ n) × (n ≤ made)) numbers → filter (between 0 made) numbers ≡ numbers
+pub all-numbers : (made : ℕ) (numbers : List ℕ) → AllByRecursion (λ n. (1 ≤ n) × (n ≤ made)) numbers → filter (between 0 made) numbers ≡ numbers
 all-numbers made [] h = refl
 all-numbers made (n ∷ ns) (h, hs) = rw (in_range made n h.0 h.1) (ap (λ ks. n ∷ ks) (all-numbers made ns hs))
 

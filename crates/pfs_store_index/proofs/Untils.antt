@@ -1,6 +1,6 @@
 -- Up to when what was examined stays: of one more, of those of two stretches, and where some leave.
-use Rattle.std.proofs.Common.{◌≡◌, ◌∙◌, ◌≤◌, ◌==◌, ◌||◌, ℕ, Bool, true, false, not, Option, Some, None, List, [], ◌∷◌, ◌++◌, filter, min, slice_get, refl, ap, sym, subst, arith, if◌then◌else◌, ◌+◌, drop, take, take-add}
-use Rattle.std.specs.List.{find, AllByRecursion}
+use Rattle.std.proofs.Common.{◌≡◌, ◌∙◌, ◌≤◌, ◌==◌, ◌||◌, ℕ, Bool, true, false, not, Option, Some, List, [], ◌∷◌, ◌++◌, filter, min, refl, ap, sym, subst, arith, if◌then◌else◌, ◌+◌, drop, take, take-add}
+use Rattle.std.specs.List.{AllByRecursion}
 use Rattle.pfs_store_contract.specs.Calls.{other_than}
 use Rattle.pfs_conf_values.specs.Configs.{Conf}
 use Rattle.pfs_store_contract.specs.Purging.{is_among, node_numbers, state_numbers}
@@ -14,7 +14,7 @@ use Rattle.pfs_store_index.specs.Staying.{NodeHolds, NodesHold, StatesHold}
 use Rattle.pfs_store_index.proofs.Retained.{node_number}
 use Rattle.pfs_store_index.proofs.Leavings.{state_number}
 use Rattle.pfs_store_index.proofs.Stretches.{among-append, among-between}
-use Rattle.pfs_store_records.proofs.Rising.{Apart, IsRisingBy, flip_eq, has_number, head-apart, head-is, rest-rising, same_number}
+use Rattle.pfs_store_records.proofs.Rising.{flip_eq}
 use Rattle.pfs_store_index.proofs.RisingWalks.{at_next}
 
 module _ {X : Type 0} (number : X → ℕ) (Stays : ℕ → X → Type 0) where
@@ -37,22 +37,6 @@ module _ {X : Type 0} (number : X → ℕ) (Stays : ℕ → X → Type 0) where
       go : (b : Bool) → Hold examined until (filter p xs) → Hold examined until (if b then x ∷ filter p xs else filter p xs)
       go true more = (h, more)
       go false more = more
-
-  one-apart : (n until : ℕ) (xs : List X) → Apart number n xs → HoldOne n until xs
-  one-apart n until [] a = tt
-  one-apart n until (x ∷ xs) (a, more) = ((λ e. let f = flip_eq (number x) n false a in absurd (cc (e, f))), one-apart n until xs more)
-
-  -- the one that is found is the only one of its number
-  pub one-found : (n until : ℕ) (s : X) (xs : List X) → IsRisingBy number xs → find (has_number number n) xs ≡ Some s → Stays until s → HoldOne n until xs
-  one-found n until s [] r f h = tt
-  one-found n until s (x ∷ xs) r f h = go (one-found n until s xs (rest-rising number x xs r)) (number x == n) refl
-    where
-      go : (find (has_number number n) xs ≡ Some s → Stays until s → HoldOne n until xs) → (b : Bool) → (number x == n) ≡ b → HoldOne n until (x ∷ xs)
-      go more true t =
-          let q = head-is number n x s xs t f in
-          let a : Apart number n xs = subst (λ k. Apart number k xs) (same_number n (number x) t) (head-apart number x xs r) in
-          ((λ e. subst (Stays until) (sym q) h), one-apart n until xs a)
-      go more false t = ((λ e. let g = flip_eq (number x) n false t in absurd (cc (e, g))), more (rw t at f) h)
 
   -- where it has left, there is none of its number
   pub one-gone : (n until : ℕ) (xs : List X) → HoldOne n until (filter (λ x. not (number x == n)) xs)
@@ -183,9 +167,3 @@ nodes-more conf states i j u v r ws zs p xs xs' d e m h k =
     let b : NodesHold conf states (take i ws ++ take j (drop i ws)) (min u v) xs' =
     hold-both node_number (NodeStays conf states) (less_kept conf states) (take i ws) (take j (drop i ws)) u v xs' h' k' in
     subst (λ n. NodesHold conf states (take (i + j) ws) n xs') (sym m) (subst (λ ns. NodesHold conf states ns (min u v) xs') (sym (take-add i j ws)) b)
-
--- ---- the round is over
-
-pub over-none : (pending : List ℕ) → slice_get pending 0 ≡ None → pending ≡ []
-over-none [] h = refl
-over-none (p ∷ ps) h = absurd cc

@@ -22,16 +22,13 @@ pub record IsExamined (share examined left : ℕ) (before after : List ℕ) : Ty
 abbrev pub waiting_of : (State → Bool) → ℕ → ℕ → List State → List ℕ
 waiting_of test above most states = map (λ (s : State). s.number) (filter (λ (s : State). test s && between above most s.number) states)
 
--- a state, or a node, stays when one number is examined: it has another, or does not leave
+-- a state stays when one number is examined: it has another, or does not leave
 abbrev pub state_survives : (State → Bool) → ℕ → State → Bool
 state_survives leaves n s = not ((n == s.number) && leaves s)
 
--- a state stays when these numbers are examined
+-- a state, or a node, stays when these numbers are examined
 abbrev pub states_survive : (State → Bool) → List ℕ → State → Bool
 states_survive leaves examined s = not (is_among examined s.number && leaves s)
-
-abbrev pub node_survives : (Node → Bool) → ℕ → Node → Bool
-node_survives leaves n node = not ((n == node.number) && leaves node)
 
 abbrev pub nodes_survive : (Node → Bool) → List ℕ → Node → Bool
 nodes_survive leaves examined node = not (is_among examined node.number && leaves node)

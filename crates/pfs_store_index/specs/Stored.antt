@@ -44,7 +44,7 @@ is_due conf counts held now s = state_has_expired (seconds_of conf counts held) 
 abbrev pub AreUnread : Conf → ℕ → Type 0
 AreUnread conf first = (rule : ℕ) → first ≤ rule → has_pair conf rule ≡ false
 
--- what every store keeps
+-- what every store keeps; a run makes few states, so that their numbers fit into 32 bits
 pub record IsStored (h : Holding) (cursor mark node_cursor node_mark made room : ℕ) : Type 0 where
   pub order : cursor ≤ mark
   pub mark_made : mark ≤ made

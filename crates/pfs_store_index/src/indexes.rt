@@ -20,13 +20,14 @@ ghost use Rattle.pfs_store_records.specs.Changes.{IsScope};
 ghost use Rattle.pfs_store_records.specs.Records.{IsAbove, IsRising, between, placed_at, states_of};
 ghost use Rattle.pfs_store_records.specs.Sourced.{IsSourced};
 ghost use Rattle.pfs_store_records.specs.Tallies.{nodes_of};
-ghost use Rattle.pfs_store_records.specs.Walks.{IsPassing};
+ghost use Rattle.pfs_store_records.specs.Walks.{IsPassing, StopsWalkAt, looks_of};
 ghost use Rattle.pfs_store_index.specs.Holdings.{IsUncompleted, is_reached};
-ghost use Rattle.pfs_store_index.specs.Rounds.{waiting, waiting_of};
+ghost use Rattle.pfs_store_index.specs.Rounds.{waiting_of, waiting};
 ghost use Rattle.pfs_store_index.specs.Ties.{HasRule, entry_of};
 
 use crate::filing::Filing;
 use crate::placing::place;
+use crate::rounds::next_between;
 use crate::sources::Source;
 use crate::stepping::stepped;
 use indexmap::IndexMap;
@@ -248,25 +249,27 @@ impl<S: BuildHasher> Indexes<S> {
         }
     }
 
-    /// The tally of the node of the least number above one, and up to another.
-    pub(crate) fn next_node(&self, above: u64, most: u64) -> Option<Tally>
+    /// The least number of a state above one, and up to another.
+    pub(crate) fn next_state(&self, above: u64, most: u64) -> Option<u64>
         requires { above ≤ most }
-        ensures number { option_map (λ t. t.node.number) result ≡ slice_get (waiting above most (node_numbers self.now.nodes)) 0 }
-        ensures node { IfSome result (λ t. find (λ n. n.number == t.node.number) self.now.nodes ≡ Some t.node) }
-        ensures states { IfSome result (λ t. t.states ≡ node_states self.now.config t.node.scope t.node.source self.now.states) }
+        ensures { result ≡ slice_get (waiting above most (state_numbers self.now.states)) 0 }
     {
-        self.nodes.next_between(above, most)
+        next_between(self.records.order(), above, most)
     }
 
-    /// Passes by the nodes that are still to be examined in a round, from the least number on, as long as none of them leaves
-    /// at a second, and by so many at most.
-    pub(crate) fn pass_nodes(&self, round: Round, share: u64, now: u64) -> Passed
+    /// Walks over the nodes that are still to be examined in a round, from the least number on: over so many at most, and up to
+    /// the first that leaves at a second. Each is one look.
+    pub(crate) fn pass_nodes(&self, round: Round, share: u64, now: u64, meter: &mut Meter) -> Passed
         requires range { round.cursor ≤ round.mark }
+        requires room { meter.old + share < 2 ^ 64 }
         ensures passing { IsPassing (λ n. n.number) (is_over self.now.config self.now.states now) self.now.nodes round.cursor round.mark share result.stayed result.last }
         ensures until { AllByRecursion (λ n. between round.cursor result.last n.number ≡ true →
             NodeStays self.now.config self.now.states result.until n) self.now.nodes }
+        ensures leaver { StopsWalkAt (λ n. n.number) (is_over self.now.config self.now.states now) self.now.nodes result.last round.mark result.stayed share
+            (option_map (λ t. t.node) result.leaver) }
+        ensures looks { meter.new ≡ meter.old + looks_of result.stayed result.leaver }
     {
-        self.nodes.pass(round, share, now)
+        self.nodes.walk(round, share, now, meter)
     }
 
     /// The record of a number: one look.
@@ -407,6 +410,7 @@ impl<S: BuildHasher> Indexes<S> {
                 dir: state.dir,
                 completed: step.completed,
                 taken: step.taken,
+                asks: step.asks,
                 connections: met.connections,
                 score: met.score,
             },

@@ -1,10 +1,12 @@
-//! The store that finds what it holds by indexes: a packet's cost grows with the logarithm of what is held.
+//! The store that finds what it holds by indexes: a packet's cost grows with the logarithm of what is held, that of a slice with its
+//! share, and that of seconds that are passed over with what is held.
 #![tactic(auto)]
 
 mod expiring;
 mod filing;
 mod flushing;
 mod indexes;
+mod killing;
 mod laws;
 mod limits;
 mod placing;

@@ -1,20 +1,19 @@
 //! The walks of the purge: a slice of the round of the states, and a slice of that of the nodes.
 
-ghost use Rattle.std.specs.Prelude.{◌≡◌, ◌+◌, ◌-◌, ◌<◌, ◌≤◌, ◌^◌, ◌==◌, ◌&&◌, [], IfSome, Some, drop, filter, length, map, min, nat_le, take, true};
-ghost use Rattle.std.specs.List.{AllByRecursion, find};
+ghost use Rattle.std.specs.Prelude.{◌≡◌, ◌+◌, ◌-◌, ◌<◌, ◌≤◌, ◌^◌, [], IfSome, drop, filter, length, map, min, take, true};
+ghost use Rattle.std.specs.List.{AllByRecursion};
 ghost use Rattle.std.specs.Map.{keys_of};
 ghost use Rattle.pfs_conf_values.specs.Configs.{timeout_of};
 ghost use Rattle.pfs_conf_values.specs.declared.timeouts.TimeoutName.TheVariants as timeout;
-ghost use Rattle.pfs_store_contract.specs.Counts.{node_states};
 ghost use Rattle.pfs_store_contract.specs.Leaving.{node_after_leaving};
 ghost use Rattle.pfs_store_contract.specs.Plain.{AreCounts};
 ghost use Rattle.pfs_store_contract.specs.Purging.{is_among, is_over, node_numbers, node_stays, share, state_numbers, stays};
 ghost use Rattle.pfs_store_contract.specs.Quiet.{IsTold, StateStays};
-ghost use Rattle.pfs_store_records.specs.Records.{IsRising, between};
+ghost use Rattle.pfs_store_records.specs.Records.{between};
 ghost use Rattle.pfs_store_records.specs.Walks.{IsWalk, StayUntil, looks_of};
-ghost use Rattle.pfs_store_index.specs.Staying.{NodeHolds, NodesHold, StatesHold};
+ghost use Rattle.pfs_store_index.specs.Staying.{NodesHold, StatesHold};
 ghost use Rattle.pfs_store_index.specs.Stored.{AreUnread, IsNumbered, due_at, is_due};
-ghost use Rattle.pfs_store_index.specs.Rounds.{IsExamined, node_survives, nodes_survive, states_survive, waiting};
+ghost use Rattle.pfs_store_index.specs.Rounds.{IsExamined, nodes_survive, states_survive, waiting};
 
 use crate::expiring::Scaled;
 use crate::indexes::Indexes;
@@ -22,7 +21,7 @@ use crate::rounds::is_over as is_round_over;
 use pfs_addr_values::Meter;
 use pfs_conf_values::{Config, TimeoutName};
 use pfs_store_contract::{Slice, Staying, Watched};
-use pfs_store_records::{Places, Round, Tally, Walk, is_over, kept_until};
+use pfs_store_records::{Places, Round, Walk};
 use std::hash::BuildHasher;
 
 /// What a walk did: the round after it, how many it examined, how many of them left, and up to when the others stay.
@@ -259,8 +258,11 @@ pub(crate) fn walk_nodes<S: BuildHasher>(
     round: Round,
     share: u64,
     now: u64,
+    meter: &mut Meter,
 ) -> Steps
     requires order { round.cursor ≤ round.mark }
+    requires share { share ≤ 2 ^ 32 }
+    requires room { meter.old ≤ 2 ^ 63 }
     ensures config { indexes.new.config ≡ indexes.old.config }
     ensures states { indexes.new.states ≡ indexes.old.states }
     ensures examined { result.slice.examined ≡ length (take share (waiting round.cursor round.mark (node_numbers indexes.old.nodes))) }
@@ -273,6 +275,7 @@ pub(crate) fn walk_nodes<S: BuildHasher>(
     ensures removed { result.slice.removed ≡ length indexes.old.nodes - length indexes.new.nodes }
     ensures until { NodesHold indexes.old.config indexes.old.states
         (take share (waiting round.cursor round.mark (node_numbers indexes.old.nodes))) result.until indexes.new.nodes }
+    ensures looks { meter.new ≡ meter.old + result.slice.examined }
 {
     let held = indexes.node_count();
     let mut done = Stretch::none(round.cursor, share);
@@ -281,21 +284,24 @@ pub(crate) fn walk_nodes<S: BuildHasher>(
             cursor: done.cursor,
             mark: round.mark,
         };
-        let next = examine_nodes(indexes, rest, done.left, now);
+        let next = examine_nodes(indexes, rest, done.left, now, meter);
         done = done.then(&next);
     }
     done.steps(round.mark, held, indexes.node_count())
 }
 
-/// Examines the next nodes of a round, so many at most: passes by those that stay in one walk, and examines the one after them.
+/// Examines the next nodes of a round, so many at most, in one walk up to the first that leaves: it has no state, and the moment
+/// has come from which it may.
 fn examine_nodes<S: BuildHasher>(
     indexes: &mut Indexes<S>,
     round: Round,
     share: u64,
     now: u64,
+    meter: &mut Meter,
 ) -> Stretch
     requires order { round.cursor ≤ round.mark }
     requires some { 0 < share }
+    requires room { meter.old + share < 2 ^ 64 }
     ensures config { indexes.new.config ≡ indexes.old.config }
     ensures states { indexes.new.states ≡ indexes.old.states }
     ensures nodes { indexes.new.nodes
@@ -306,24 +312,18 @@ fn examine_nodes<S: BuildHasher>(
     ensures less { result.left < share }
     ensures until { NodesHold indexes.old.config indexes.old.states
         (take result.examined (waiting round.cursor round.mark (node_numbers indexes.old.nodes))) result.until indexes.new.nodes }
+    ensures looks { meter.new ≡ meter.old + result.examined }
 {
-    let passed = indexes.pass_nodes(round, share, now);
-    if passed.stayed == share {
-        return Stretch {
-            cursor: passed.last,
-            examined: passed.stayed,
-            left: 0,
-            until: passed.until,
-        };
-    }
-    match indexes.next_node(passed.last, round.mark) {
+    indexes.node_numbers_rise();
+    let passed = indexes.pass_nodes(round, share, now, meter);
+    match passed.leaver {
         Some(tally) => {
-            let until = examine_node(indexes, &tally, now);
+            indexes.drop_node(tally.node);
             Stretch {
                 cursor: tally.node.number,
                 examined: passed.stayed + 1,
                 left: share - passed.stayed - 1,
-                until: passed.until.min(until),
+                until: passed.until,
             }
         }
         None => Stretch {
@@ -332,25 +332,5 @@ fn examine_nodes<S: BuildHasher>(
             left: 0,
             until: passed.until,
         },
-    }
-}
-
-/// Examines a node: it leaves where it has no state, and the moment has come from which it may. It returns up to when it stays otherwise.
-fn examine_node<S: BuildHasher>(indexes: &mut Indexes<S>, tally: &Tally, now: u64) -> u64
-    requires held { find (λ n. n.number == tally.now.node.number) indexes.old.nodes ≡ Some tally.now.node }
-    requires states { tally.now.states ≡ node_states indexes.old.config tally.now.node.scope tally.now.node.source indexes.old.states }
-    ensures config { indexes.new.config ≡ indexes.old.config }
-    ensures states { indexes.new.states ≡ indexes.old.states }
-    ensures nodes { indexes.new.nodes
-        ≡ filter (node_survives (is_over indexes.old.config indexes.old.states now) tally.now.node.number) indexes.old.nodes }
-    ensures until { NodeHolds indexes.old.config indexes.old.states tally.now.node.number result indexes.new.nodes }
-    ensures rising { IsRising (node_numbers indexes.old.nodes) }
-{
-    indexes.node_numbers_rise();
-    if is_over(tally, now) {
-        indexes.drop_node(tally.node);
-        u64::MAX
-    } else {
-        kept_until(tally)
     }
 }

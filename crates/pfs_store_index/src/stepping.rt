@@ -2,7 +2,7 @@
 
 ghost use Rattle.std.specs.Prelude.{◌≡◌};
 ghost use Rattle.pfs_store_contract.specs.Admission.{new_phase};
-ghost use Rattle.pfs_store_contract.specs.Touching.{completes_at, goes_forward, is_taken, state_after_packet};
+ghost use Rattle.pfs_store_contract.specs.Touching.{completes_at, goes_forward, is_asking, is_taken, state_after_packet};
 
 use pfs_addr_values::Packet;
 use pfs_conf_values::{Config, RuleNo};
@@ -24,12 +24,14 @@ pub(crate) fn new_phase(config: &Config, rule: RuleNo, packet: &Packet, cookie: 
     }
 }
 
-/// A state after a packet of it, whether its handshake completes with it, and whether pf takes it itself.
+/// A state after a packet of it, whether its handshake completes with it, whether pf takes it itself, and whether it asks the
+/// other peer then.
 #[derive(Clone, Copy)]
 pub(crate) struct Step {
     pub(crate) after: State,
     pub(crate) completed: bool,
     pub(crate) taken: bool,
+    pub(crate) asks: bool,
 }
 
 /// What a packet of a state does.
@@ -37,9 +39,11 @@ pub(crate) fn stepped(state: &State, packet: &Packet, now: u64) -> Step
     ensures state { result.after ≡ state_after_packet packet.now now state.now }
     ensures completes { result.completed ≡ completes_at packet.now state.now }
     ensures taken { result.taken ≡ is_taken packet.now state.now }
+    ensures asks { result.asks ≡ is_asking packet.now state.now }
 {
     let forward = goes_forward(packet, state);
     let taken = state.phase.takes(forward, packet.flags());
+    let asks = state.phase.asks_peer(forward, packet.flags());
     let (phase, completed) = state.phase.step(forward, packet.flags());
     let after = State {
         phase,
@@ -50,6 +54,7 @@ pub(crate) fn stepped(state: &State, packet: &Packet, now: u64) -> Step
         after,
         completed,
         taken,
+        asks,
     }
 }
 

@@ -13,13 +13,16 @@ ghost use Rattle.pfs_store_index.specs.Holdings.{is_reached};
 use crate::expiring::counted_rules;
 use crate::flushing::{Flushed, flush};
 use crate::indexes::Indexes;
+use crate::killing::kill_from_to;
 use crate::limits::{limit_met, scope_left};
 use crate::purging::{share_of, walk_nodes, walk_states};
 use crate::rounds::{next_between, turned, under_way};
 use crate::stepping::new_phase;
 use pfs_addr_values::{Addr, Dir, FlowKey, Meter, NoMemory, Packet};
 use pfs_conf_values::{Config, LimitName, RuleNo, RulesHasher};
-use pfs_store_contract::{Found, Limit, Slice, State, StateNo, Staying, Store, Touched, Watched};
+use pfs_store_contract::{
+    Found, FromTo, Limit, Slice, State, StateNo, Staying, Store, Touched, Watched,
+};
 use pfs_store_records::Round;
 use std::alloc::Global;
 use std::hash::BuildHasher;
@@ -27,7 +30,8 @@ use std::marker::Model;
 
 /// A store that finds states by their keys, by their numbers and by their sources, and source nodes by scope and
 /// source. The cost of a call grows with the logarithm of what is held, except for the states of a source that are
-/// flushed and for the slices of the purge. It counts looks.
+/// flushed, for the slices of the purge, where an administrator takes states out, and for `pass_over`, which grows with what is held:
+/// it walks over the numbers of a round of states and of one of nodes, twice at most. It counts looks.
 ///
 /// Clauses see an `Indexed`: the configuration that it was made for, its world, and the records of the states.
 #[derive(Drop)]
@@ -272,12 +276,19 @@ impl<S: BuildHasher> Store for IndexStore<S> {
         held.saturating_sub(self.indexes.state_count())
     }
 
+    fn kill_from_to(&mut self, hosts: &FromTo, now: u64, meter: &mut Meter) -> u64 {
+        self.indexes.state_numbers_rise();
+        let held = self.indexes.state_count();
+        kill_from_to(&mut self.indexes, hosts, self.made, now, meter);
+        held.saturating_sub(self.indexes.state_count())
+    }
+
     fn purge_states(&mut self, now: u64, meter: &mut Meter) -> Slice {
         self.watch_states(now, meter).slice
     }
 
-    fn purge_nodes(&mut self, now: u64) -> Slice {
-        self.watch_nodes(now).slice
+    fn purge_nodes(&mut self, now: u64, meter: &mut Meter) -> Slice {
+        self.watch_nodes(now, meter).slice
     }
 
     fn watch_states(&mut self, now: u64, meter: &mut Meter) -> Watched {
@@ -293,11 +304,12 @@ impl<S: BuildHasher> Store for IndexStore<S> {
         steps.watched(self.indexes.records().order(), round, self.made)
     }
 
-    fn watch_nodes(&mut self, now: u64) -> Watched {
+    fn watch_nodes(&mut self, now: u64, meter: &mut Meter) -> Watched {
+        self.indexes.node_numbers_rise();
         let config = self.indexes.config();
         let share = share_of(config, config.limit(LimitName::SrcNodes));
         let round = under_way(self.indexes.nodes().order(), self.nodes_round, self.made);
-        let steps = walk_nodes(&mut self.indexes, round, share, now);
+        let steps = walk_nodes(&mut self.indexes, round, share, now, meter);
         self.nodes_round = steps.round;
         let told = steps.watched(self.indexes.nodes().order(), round, self.made);
         let staying = if self.indexes.all_have_states() {

@@ -2,15 +2,15 @@
 
 ghost use Rattle.std.specs.Prelude.{◌≡◌, ◌+◌, ◌≤◌, ◌^◌, ℕ, List, filter, length, map, vec_capacity};
 ghost use Rattle.pfs_store_contract.specs.Counts.{node_states};
-ghost use Rattle.pfs_store_contract.specs.Leaving.{end_on, is_beside, is_flushed, node_after_leaving, node_retention, world_without};
-ghost use Rattle.pfs_store_contract.specs.Calls.{other_than, stays_unflushed};
+ghost use Rattle.pfs_store_contract.specs.Leaving.{end_on, is_beside, is_flushed, is_from_to, node_after_leaving, node_retention, world_without};
+ghost use Rattle.pfs_store_contract.specs.Calls.{other_than, stays_elsewhere, stays_unflushed};
 ghost use Rattle.pfs_store_plain.specs.Rooms.{AreScores};
 ghost use Rattle.pfs_store_contract.specs.Worlds.{holds_number, lists};
 
 use crate::counts::{OfNode, Test, count};
 use pfs_addr_values::{Addr, Dir, Endpoint, FlowKey};
 use pfs_conf_values::{Config, Profile, RuleNo};
-use pfs_store_contract::{Node, NodeScope, State};
+use pfs_store_contract::{FromTo, Node, NodeScope, State};
 use pfs_store_rules::node_retention;
 
 /// All states but that of a number.
@@ -77,6 +77,30 @@ impl Test for Unflushed {
 
     fn passes(&self, state: &State) -> bool {
         !self.0.passes(state)
+    }
+}
+
+/// The states that go from hosts to hosts.
+#[derive(Clone, Copy)]
+pub(crate) struct Going<'a>(pub &'a FromTo);
+
+impl Test for Going<'_> {
+    ghost passes = { λ t s. is_from_to t.0.now s };
+
+    fn passes(&self, state: &State) -> bool {
+        self.0.is_of(state)
+    }
+}
+
+/// The states that do not go from hosts to hosts.
+#[derive(Clone, Copy)]
+pub(crate) struct Elsewhere<'a>(pub &'a FromTo);
+
+impl Test for Elsewhere<'_> {
+    ghost passes = { λ t s. stays_elsewhere t.0.now s };
+
+    fn passes(&self, state: &State) -> bool {
+        !self.0.is_of(state)
     }
 }
 

@@ -9,14 +9,14 @@ ghost use Rattle.pfs_store_plain.specs.Rooms.{AreScores};
 ghost use Rattle.pfs_store_contract.specs.Worlds.{empty_world};
 
 use crate::counts::{HalfOpen, count, has_node};
-use crate::leaving::{Flushed, OtherThan, Unflushed, holds_number, leave};
+use crate::leaving::{Elsewhere, Flushed, Going, OtherThan, Unflushed, holds_number, leave};
 use crate::limits::limit_met;
 use crate::purging::{slice_nodes, slice_states};
 use crate::touching::{self, state_with};
 use pfs_addr_values::{Addr, Dir, FlowKey, Meter, NoMemory, Packet};
 use pfs_conf_values::{Config, RuleNo};
 use pfs_store_contract::{
-    Found, Limit, Node, NodeScope, Slice, State, StateNo, Store, Touched, is_answered,
+    Found, FromTo, Limit, Node, NodeScope, Slice, State, StateNo, Store, Touched, is_answered,
 };
 use pfs_store_rules::node_scope;
 use pfs_track::{Score, StatePhase};
@@ -259,6 +259,19 @@ impl Store for PlainStore {
         killed
     }
 
+    fn kill_from_to(&mut self, hosts: &FromTo, now: u64, _meter: &mut Meter) -> u64 {
+        let killed = count(&self.states, &Going(hosts));
+        leave(
+            &self.config,
+            &mut self.states,
+            self.nodes.as_mut_slice(),
+            &mut self.pending_states,
+            &Elsewhere(hosts),
+            now,
+        );
+        killed
+    }
+
     fn purge_states(&mut self, now: u64, _meter: &mut Meter) -> Slice {
         slice_states(
             &self.config,
@@ -270,7 +283,7 @@ impl Store for PlainStore {
         )
     }
 
-    fn purge_nodes(&mut self, now: u64) -> Slice {
+    fn purge_nodes(&mut self, now: u64, _meter: &mut Meter) -> Slice {
         slice_nodes(
             &self.config,
             &self.states,

@@ -7,7 +7,7 @@ ghost use Rattle.pfs_conf_values.specs.Bounds.{IsRate};
 ghost use Rattle.pfs_track.specs.StatePhases.{has_closed};
 ghost use Rattle.pfs_store_contract.specs.Counts.{node_scope_of};
 ghost use Rattle.pfs_store_plain.specs.Rooms.{AreScores};
-ghost use Rattle.pfs_store_contract.specs.Touching.{completes_at, connections_in, goes_forward, is_taken, node_score, nodes_scored, nodes_touched, numbered_state_after, node_after_handshake, score_in, state_after_packet};
+ghost use Rattle.pfs_store_contract.specs.Touching.{completes_at, connections_in, goes_forward, is_asking, is_taken, node_score, nodes_scored, nodes_touched, numbered_state_after, node_after_handshake, score_in, state_after_packet};
 ghost use Rattle.pfs_store_contract.specs.Calls.{touch_of, world_touched};
 ghost use Rattle.pfs_store_contract.specs.Worlds.{IsUpToNow, lists, state_with};
 ghost use Rattle.pfs_store_contract.specs.declared.records.State.{State};
@@ -84,6 +84,7 @@ fn touch_state(
 {
     let completed = completes_at(packet, &state);
     let taken = is_taken(packet, &state);
+    let asks = is_asking(packet, &state);
     renew(states, state.number, packet, now);
     if completed {
         score_handshake(config, nodes, &state, now);
@@ -95,6 +96,7 @@ fn touch_state(
         dir: state.dir,
         completed,
         taken,
+        asks,
         connections: connections_in(config, states, scope, state.source),
         score: score_in(nodes, scope, state.source),
     }
@@ -117,6 +119,15 @@ fn is_taken(packet: &Packet, state: &State) -> bool
     state
         .phase
         .takes(goes_forward(packet, state), packet.flags())
+}
+
+/// Whether pf asks the other peer for a connection at a packet of a state.
+fn is_asking(packet: &Packet, state: &State) -> bool
+    ensures { result ≡ is_asking packet.now state.now }
+{
+    state
+        .phase
+        .asks_peer(goes_forward(packet, state), packet.flags())
 }
 
 fn goes_forward(packet: &Packet, state: &State) -> bool

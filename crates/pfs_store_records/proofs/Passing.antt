@@ -1,16 +1,17 @@
 -- A walk by nodes that stay: of the entries in a range, and of their tallies.
-use Rattle.std.proofs.Common.{◌≡◌, ◌∙◌, ◌≤◌, ℕ, Bool, true, false, Option, Some, List, [], ◌∷◌, ◌++◌, length, map, filter, ap, sym, subst, arith}
-use Rattle.std.specs.List.{AllByRecursion}
+use Rattle.std.proofs.Common.{◌≡◌, ◌∙◌, ◌<◌, ◌≤◌, ◌==◌, ℕ, Bool, true, false, Option, None, Some, List, [], ◌∷◌, ◌++◌, length, map, filter, is_some, ap, sym, subst, arith}
+use Rattle.std.specs.List.{AllByRecursion, find}
 use Rattle.std.specs.List.Sorted.{IsStrictlySortedBy}
 use Rattle.std.specs.Map.{keys_of}
 use Rattle.std.specs.Ordering.{nat_cmp}
-use Rattle.pfs_store_records.specs.Keeping.{AreInPlace, IsPlaced, values_at}
+use Rattle.slab.specs.Slab.{ContainsKey, Slab}
+use Rattle.pfs_store_records.specs.Keeping.{AreInPlace, IsPlaced, number_of_node, tally_in, values_at}
 use Rattle.pfs_store_records.specs.Records.{between}
 use Rattle.pfs_store_records.specs.Retaining.{IsKeptUntil}
-use Rattle.pfs_store_records.specs.Walks.{IsPassing}
+use Rattle.pfs_store_records.specs.Walks.{IsPassing, StopsWalkAt}
 use Rattle.pfs_store_records.specs.declared.nodes.Tally.{Tally}
-use Rattle.pfs_store_records.proofs.Ordered.{numbers-held}
-use Rattle.pfs_store_records.proofs.Walking.{Each, Walking, drop-front, each-more, head-in, length-keys, span, span-keys, split-keys, take-front}
+use Rattle.pfs_store_records.proofs.Ordered.{find_placed, first_between, found, look-between, numbers-held}
+use Rattle.pfs_store_records.proofs.Walking.{Each, Walking, drop-front, each-more, head-in, length-keys, span, span-entries, span-keys, split-keys, take-front}
 
 -- ---- entries in a range
 
@@ -63,6 +64,44 @@ module _ {P V : Type 0} (number : V → ℕ) (At : V → P → Type 0) where
 
       length_is : stayed ≡ length (filter (between above last) (keys_of es))
       length_is = w.count ∙ sym (length-keys (span above last es)) ∙ ap length (span-keys above last es)
+
+-- ---- where a walk stops
+
+module _ (At : Tally → ℕ → Type 0) where
+  -- the place of the next entry has a node
+  pub next-node-there : (slab : Slab Tally) (es rest : List (ℕ × ℕ)) (last most k p : ℕ) → AreInPlace number_of_node At (tally_in slab) es → (k, p) ∷ rest ≡ span last most es → ContainsKey slab p
+  next-node-there slab es rest last most k p kept x =
+      let l = look-between last most k p rest es kept.ordered (x ∙ sym (span-entries last most es)) in
+      let f = found number_of_node At (tally_in slab) k p es kept.placed l in
+      ap is_some f.1
+
+  -- the node of the next entry passes
+  pub stops-next : (test : Tally → Bool) (slab : Slab Tally) (es rest : List (ℕ × ℕ)) (last most stayed share k p : ℕ) (t : Tally)
+      → AreInPlace number_of_node At (tally_in slab) es → (k, p) ∷ rest ≡ span last most es → tally_in slab p ≡ Some t → test t ≡ true → stayed < share
+      → StopsWalkAt number_of_node test (values_at (tally_in slab) es) last most stayed share (Some t)
+  stops-next test slab es rest last most stayed share k p t kept x g h s =
+      let e = x ∙ sym (span-entries last most es) in
+      let l = look-between last most k p rest es kept.ordered e in
+      let f = found number_of_node At (tally_in slab) k p es kept.placed l in
+      let b : t ≡ f.0 = cc (f.1, g) in
+      let n : number_of_node t ≡ k = ap number_of_node b ∙ f.2 in
+      record {
+        within = s;
+        next = sym (ap Some n ∙ first_between number_of_node At last most (tally_in slab) k p rest es kept.placed e);
+        found = subst (λ (m : ℕ). find (λ (u : Tally). number_of_node u == m) (values_at (tally_in slab) es) ≡ Some t) (sym n)
+            (find_placed number_of_node At (tally_in slab) k es p kept.placed l ∙ g);
+        passes = h;
+      }
+
+  -- none is left
+  pub stops-none : (test : Tally → Bool) (slab : Slab Tally) (es : List (ℕ × ℕ)) (last most stayed share : ℕ) → AreInPlace number_of_node At (tally_in slab) es
+      → [] ≡ span last most es → StopsWalkAt number_of_node test (values_at (tally_in slab) es) last most stayed share None
+  stops-none test slab es last most stayed share kept x s =
+      rw (numbers-held number_of_node At (tally_in slab) es kept.placed) (sym (ap keys_of x ∙ span-keys last most es))
+
+-- or the share is used up
+pub stops-used : (test : Tally → Bool) (ts : List Tally) (last most stayed share : ℕ) → share ≤ stayed → StopsWalkAt number_of_node test ts last most stayed share None
+stops-used test ts last most stayed share h s = absurd (omega (arith, h, s))
 
 -- ---- tallies
 

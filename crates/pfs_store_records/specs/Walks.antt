@@ -1,5 +1,5 @@
--- A walk over the records in a range of numbers, from the least on: up to the first whose state passes a test, or to a share
--- of them; the test is that it has expired. (own)
+-- A walk over the records in a range of numbers, from the least on: up to the first that passes a test, or to a share of them; the
+-- test of a state is that it has expired, that of a source node that it leaves. (own)
 use Rattle.std.specs.Prelude.{◌≡◌, ℕ, ◌+◌, ◌<◌, ◌≤◌, ◌==◌, Bool, true, false, Option, Some, None, List, [], filter, length, map, slice_get, take, drop}
 use Rattle.std.specs.List.{AllByRecursion, find}
 use Rattle.pfs_conf_values.specs.declared.items.RuleNo.{RuleNo}
@@ -40,6 +40,18 @@ pub record IsPassing {X : Type 0} (number : X → ℕ) (test : X → Bool) (xs :
   pub rest : filter (between last most) (map number xs) ≡ drop stayed (filter (between above most) (map number xs))
   pub within : stayed ≤ share
 
+-- a walk stopped at this element before its share was used up: it is that of the next number, and passes
+pub record IsStop {X : Type 0} (number : X → ℕ) (test : X → Bool) (xs : List X) (last most stayed share : ℕ) (x : X) : Type 0 where
+  pub within : stayed < share
+  pub next : slice_get (filter (between last most) (map number xs)) 0 ≡ Some (number x)
+  pub found : find (λ (y : X). number y == number x) xs ≡ Some x
+  pub passes : test x ≡ true
+
+-- where it stopped at none, its share is used up, or no element is left in the range
+abbrev pub StopsWalkAt : {X : Type 0} → (X → ℕ) → (X → Bool) → List X → ℕ → ℕ → ℕ → ℕ → Option X → Type 0
+StopsWalkAt number test xs last most stayed share (Some x) = IsStop number test xs last most stayed share x
+StopsWalkAt number test xs last most stayed share None = stayed < share → filter (between last most) (map number xs) ≡ []
+
 -- the walk passed by so many states, the last of them of this number, and none of them passes
 pub record IsWalk (test : State → Bool) (states : List State) (above most share stayed last : ℕ) (stopped : Option State) : Type 0 where
   pub from : above ≤ last
@@ -55,7 +67,7 @@ pub record IsWalk (test : State → Bool) (states : List State) (above most shar
 abbrev pub StayUntil : (State → ℕ) → List State → ℕ → ℕ → ℕ → Type 0
 StayUntil moment states above last until = AllByRecursion (λ (s : State). between above last s.number ≡ true → until ≤ moment s) states
 
--- the looks of a walk: one for each state that it passed by, and one for that at which it stopped
-abbrev pub looks_of : ℕ → Option State → ℕ
+-- the looks of a walk: one for each that it passed by, and one for that at which it stopped
+abbrev pub looks_of : {X : Type 0} → ℕ → Option X → ℕ
 looks_of stayed None = stayed
-looks_of stayed (Some s) = stayed + 1
+looks_of stayed (Some x) = stayed + 1

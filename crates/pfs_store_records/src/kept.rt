@@ -1,5 +1,5 @@
 //! A state as its record keeps it: without its source, which follows from its key and its direction, and with a number
-//! of 32 bits.
+//! of 32 bits: a run makes at most 2,000,000,000 states.
 
 ghost use Rattle.std.specs.Prelude.{◌≡◌, ◌<◌, ◌^◌};
 ghost use Rattle.pfs_store_records.specs.Sourced.{IsSourced, source_at};

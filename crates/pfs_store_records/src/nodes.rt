@@ -1,8 +1,10 @@
-//! The source nodes with the counts of their states, found by scope and source, and by number.
+//! The source nodes with the counts of their states, found by scope and source, and walked by number: a walk ticks the meter for each
+//! that it reads.
 
-ghost use Rattle.std.specs.Prelude.{◌≡◌, ◌+◌, ◌-◌, ◌^◌, ◌==◌, ◌<◌, ◌≤◌, ◌++◌, ◌∷◌, [], IfSome, None, OnErr, OnOk, Some, filter, length, map, option_map, slice_get, true};
+ghost use Rattle.std.specs.Prelude.{◌≡◌, ◌+◌, ◌-◌, ◌^◌, ◌==◌, ◌<◌, ◌≤◌, ◌++◌, ◌∷◌, [], None, OnErr, OnOk, Some, filter, length, map, option_map, true};
 ghost use Rattle.std.specs.List.{AllByRecursion, find, list_any};
 ghost use Rattle.std.specs.Map.{keys_of};
+ghost use Rattle.slab.specs.Slab.{ContainsKey};
 ghost use Rattle.pfs_store_contract.specs.Counts.{scope_nodes};
 ghost use Rattle.pfs_store_contract.specs.Purging.{node_numbers};
 ghost use Rattle.pfs_store_records.specs.Changes.{CanChange, at_node, changed_by};
@@ -11,7 +13,7 @@ ghost use Rattle.pfs_store_records.specs.Records.{IsAbove, IsRising, between};
 ghost use Rattle.pfs_store_records.specs.Retaining.{IsKeptUntil, is_past};
 ghost use Rattle.pfs_store_records.specs.Tallies.{IsOrderly, has_node_number, is_tally, nodes_of, other_node, stateless};
 ghost use Rattle.pfs_store_records.specs.declared.nodes.Tally.{Tally};
-ghost use Rattle.pfs_store_records.specs.Walks.{IsPassing};
+ghost use Rattle.pfs_store_records.specs.Walks.{IsPassing, StopsWalkAt, looks_of};
 
 use crate::changes::{Change, changed};
 use crate::places::Places;
@@ -21,7 +23,7 @@ use crate::scope_counts::ScopeCounts;
 use crate::sought::Tracked;
 use crate::walks::Round;
 use indexmap::IndexMap;
-use pfs_addr_values::{Addr, NoMemory};
+use pfs_addr_values::{Addr, Meter, NoMemory};
 use pfs_store_contract::{Node, NodeScope};
 use slab::Slab;
 use std::alloc::Global;
@@ -39,19 +41,21 @@ pub struct Tally {
     pub connections: u64,
 }
 
-/// How far a walk by nodes came that all stay.
+/// How far a walk over nodes came.
 #[derive(Debug, Clone, Copy, PartialEq, Eq)]
 pub struct Passed {
-    /// How many it passed by.
+    /// How many it passed by, none of which leaves.
     pub stayed: u64,
     /// The number of the last of them, or that above which the walk began.
     pub last: u64,
     /// A moment, in seconds, up to which none of them leaves that gets no state and loses none, or an earlier one.
     pub until: u64,
+    /// The node at which it stopped, which leaves.
+    pub leaver: Option<Tally>,
 }
 
 /// The source nodes by rising number, each with its counts. They are found by a hash of scope and source, of the hasher
-/// that is given.
+/// that is given. To read one in a walk by number is a look, and ticks the meter.
 #[derive(Drop)]
 pub struct Nodes<S: BuildHasher> {
     slab: Slab<Tally>,
@@ -135,27 +139,17 @@ impl<S: BuildHasher> Nodes<S> {
         }
     }
 
-    /// The tally of the node of the least number above `above`, and up to `most`. It takes no memory.
-    pub fn next_between(&self, above: u64, most: u64) -> Option<Tally>
-        requires { above ≤ most }
-        ensures number { option_map (λ t. t.node.number) result
-            ≡ slice_get (filter (between above most) (node_numbers (nodes_of self.now))) 0 }
-        ensures tally { IfSome result (λ t. find (has_node_number t.node.number) self.now ≡ Some t) }
-    {
-        match self.order.between(above, most).next() {
-            Some((_, place)) => self.slab.get(place as usize).copied(),
-            None => None,
-        }
-    }
-
-    /// Passes by the nodes that are still to be examined in a round, from the least number on, as long as none of them leaves
-    /// at the second `now`, and by at most `share`. All are found by one search by number. It takes no memory.
-    pub fn pass(&self, round: Round, share: u64, now: u64) -> Passed
+    /// Walks over the nodes that are still to be examined in a round, from the least number on: over at most `share` of them, and
+    /// up to the first that leaves at the second `now`. Each is one look, and all are found by one search. It takes no memory.
+    pub fn walk(&self, round: Round, share: u64, now: u64, meter: &mut Meter) -> Passed
         requires range { round.cursor ≤ round.mark }
+        requires room { meter.old + share < 2 ^ 64 }
         ensures passing { IsPassing number_of_node (is_past now) self.now round.cursor round.mark share result.stayed result.last }
         ensures until { AllByRecursion (λ t. between round.cursor result.last (number_of_node t) ≡ true → IsKeptUntil result.until t) self.now }
+        ensures leaver { StopsWalkAt number_of_node (is_past now) self.now result.last round.mark result.stayed share result.leaver }
+        ensures looks { meter.new ≡ meter.old + looks_of result.stayed result.leaver }
     {
-        pass_range(&self.slab, &self.order, round, share, now)
+        walk_range(&self.slab, &self.order, round, share, now, meter)
     }
 
     /// Adds a node, whose number is above all others and whose scope and source no other has, with its counts. It
@@ -257,34 +251,57 @@ fn uncounted(stateless: u64, tally: &Tally) -> u64
     }
 }
 
+/// Reads the node at a place for a walk: the one look.
+fn look<'a>(slab: &'a Slab<Tally>, place: usize, meter: &mut Meter) -> &'a Tally
+    requires held { ContainsKey slab.now place }
+    requires room { meter.old < 2 ^ 64 - 1 }
+    ensures value { tally_in slab.now place ≡ Some result.now }
+    ensures looks { meter.new ≡ meter.old + 1 }
+{
+    meter.tick();
+    &slab[place]
+}
+
 #[inline(never)]
-fn pass_range(slab: &Slab<Tally>, order: &Places, round: Round, share: u64, now: u64) -> Passed
+fn walk_range(
+    slab: &Slab<Tally>,
+    order: &Places,
+    round: Round,
+    share: u64,
+    now: u64,
+    meter: &mut Meter,
+) -> Passed
     requires kept { AreInPlace number_of_node Anywhere (tally_in slab.now) order.now.entries }
     requires range { round.cursor ≤ round.mark }
+    requires room { meter.old + share < 2 ^ 64 }
     ensures passing { IsPassing number_of_node (is_past now) (values_at (tally_in slab.now) order.now.entries) round.cursor round.mark share result.stayed result.last }
     ensures until { AllByRecursion (λ t. between round.cursor result.last (number_of_node t) ≡ true → IsKeptUntil result.until t) (values_at (tally_in slab.now) order.now.entries) }
+    ensures leaver { StopsWalkAt number_of_node (is_past now) (values_at (tally_in slab.now) order.now.entries) result.last round.mark result.stayed share result.leaver }
+    ensures looks { meter.new ≡ meter.old + looks_of result.stayed result.leaver }
 {
     let mut rest = order.between(round.cursor, round.mark);
     let mut stayed = 0;
     let mut last = round.cursor;
     let mut until = u64::MAX;
-    while stayed < share {
+    let leaver = loop {
+        if stayed == share {
+            break None;
+        }
         let Some((number, place)) = rest.next() else {
-            break;
+            break None;
         };
-        let Some(tally) = slab.get(place as usize) else {
-            break;
-        };
+        let tally = look(slab, place as usize, meter);
         if is_over(tally, now) {
-            break;
+            break Some(*tally);
         }
         until = until.min(kept_until(tally));
         stayed += 1;
         last = number;
-    }
+    };
     Passed {
         stayed,
         last,
         until,
+        leaver,
     }
 }

@@ -226,7 +226,7 @@ fn without(half_open: u64, phase: StatePhase) -> u64
     }
 }
 
-/// A place in 32 bits. It returns `NoMemory` where it does not fit.
+/// A place in 32 bits: those of the at most 2,000,000,000 states of a run fit. It returns `NoMemory` where one does not.
 pub(crate) fn short(place: usize) -> Result<u32, NoMemory>
     ensures { IfOk result (λ p. p ≡ place) }
 {

@@ -1,5 +1,5 @@
 //! The cases, by what they are about: limits on states, limits on connections, purges, old entries, and what an administrator adds,
-//! takes out and asks.
+//! takes out, kills and asks.
 
 use crate::packets::{A1, A2};
 use crate::rows::{Came, Case};
@@ -49,7 +49,7 @@ pub const NOT_REMOVED: &str = "delete - removed=0";
 const FLUSHED: &str = "kill:max-src-conn @1 overload=added killed=2";
 
 /// How many scenarios there are.
-pub const SCENARIO_COUNT: usize = 12;
+pub const SCENARIO_COUNT: usize = 13;
 
 /// The cases of a scenario, which events and replays are tried with, and a first line of rules for each of them; none past the last.
 pub fn scenario(number: usize) -> Option<(&'static str, &'static [Case])> {
@@ -66,6 +66,7 @@ pub fn scenario(number: usize) -> Option<(&'static str, &'static [Case])> {
         9 => Some((UNSCALED, ENTRIES)),
         10 => Some((UNSCALED, AMOUNTS)),
         11 => Some(("", SCALED)),
+        12 => Some((UNSCALED, KILLS)),
         _ => None,
     }
 }
@@ -832,6 +833,89 @@ const ENTRIES: &[Case] = &[
             (1, Came::Add("bad", "198.51.100.1"), A1, 0, "add - held"),
             (1, Came::Delete("bad", "198.51.100.1"), A1, 0, REMOVED),
             (1, Came::Syn, A1, 1002, "new @1"),
+        ],
+        end: (1, 1, 0),
+    },
+];
+
+const A1_TO_ANY: Came = Came::Kill("198.51.100.1", "");
+
+const BOTH_WAYS: &str = "pass in proto udp\npass out flags any";
+
+/// States that the administrator takes out.
+const KILLS: &[Case] = &[
+    Case {
+        shows: "the states of a source leave, and no others",
+        rules: BOTH_WAYS,
+        rows: &[
+            (0, UDP, A1, 1, "new @0"),
+            (0, UDP, A1, 2, "new @0"),
+            (0, UDP, A2, 1, "new @0"),
+            (0, Came::Kill("2001:db8::/32", ""), A1, 0, "kill - killed=0"),
+            (0, A1_TO_ANY, A1, 0, "kill - killed=2"),
+            (0, A1_TO_ANY, A1, 0, "kill - killed=0"),
+            (0, UDP, A1, 1, "new @0"),
+            (0, Came::Ask, A1, 0, "held - states=2 nodes=0 entries=0"),
+        ],
+        end: (2, 0, 0),
+    },
+    Case {
+        shows: "source and destination are those of the packet that made the state, whichever way it went",
+        rules: BOTH_WAYS,
+        rows: &[
+            (0, UDP, A1, 1, "new @0"),
+            (0, Came::SynAck, A2, 1000, "new @1"),
+            (
+                0,
+                Came::Kill("198.51.100.0/24", "198.51.100.2"),
+                A1,
+                0,
+                "kill - killed=0",
+            ),
+            (
+                0,
+                Came::Kill("192.0.2.0/24", "192.0.2.0/24"),
+                A1,
+                0,
+                "kill - killed=0",
+            ),
+            (
+                0,
+                Came::Kill("192.0.2.0/24", "198.51.100.0/24"),
+                A1,
+                0,
+                "kill - killed=1",
+            ),
+            (
+                0,
+                Came::Kill("0.0.0.0/0", "192.0.2.1"),
+                A1,
+                0,
+                "kill - killed=1",
+            ),
+        ],
+        end: (0, 0, 0),
+    },
+    Case {
+        shows: "a state that was taken out counts for no limit",
+        rules: "pass in proto udp keep state (max-src-states 1)",
+        rows: &[
+            (0, UDP, A1, 1, "new @0"),
+            (0, UDP, A1, 2, "drop:max-src-states @0"),
+            (0, A1_TO_ANY, A1, 0, "kill - killed=1"),
+            (0, UDP, A1, 2, "new @0"),
+        ],
+        end: (1, 1, 0),
+    },
+    Case {
+        shows: "a source node that loses its last state is kept for its retention from then on",
+        rules: "set timeout { src.track 20, interval 1, udp.first 5 }\n\
+            pass in proto udp all keep state (max-src-nodes 1)",
+        rows: &[
+            (0, UDP, A1, 1, "new @0"),
+            (3, A1_TO_ANY, A1, 0, "kill - killed=1"),
+            (22, UDP, A2, 1, "drop:max-src-nodes @0"),
+            (23, UDP, A2, 1, "new @0"),
         ],
         end: (1, 1, 0),
     },

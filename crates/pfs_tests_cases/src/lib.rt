@@ -23,7 +23,7 @@ pub use crate::packets::{
     A1, A2, ACK, FIN_ACK, NONE, RST, S6, SERVER, SERVER6, SYN, SYN_ACK, Sent, between, packet,
 };
 pub use crate::rows::{Came, Case, Row};
-pub use crate::scripts::{Script, entry};
+pub use crate::scripts::{Script, entry, hosts};
 pub use crate::texts::{ANCHORED, EVERYTHING, HEADER, SHOWN, UNSCALED, configured};
 
 /// Two values are the same; a third is shown where they are not. The crate that calls it has a function `checks::same`.

@@ -5,7 +5,7 @@ use pfs_conf_values::RuleNo;
 use pfs_engine_machine::{Added, Amounts, Entered, Exceeded, Limit, Outcome};
 
 /// The outcome that a line of a report tells, of its words behind the number of the line; an error where there is no such line. What a
-/// report calls `proxy` is `proxy:new` here where it made a state.
+/// report calls `proxy` is `proxy:new` here where it made a state, and `proxy:asks` where pf asks the other peer for a connection.
 pub fn outcome_of(words: &str) -> Result<Outcome, CaseError> {
     read(words).ok_or(CaseError::Unreadable)
 }
@@ -17,6 +17,7 @@ fn read(words: &str) -> Option<Outcome> {
         "expire" => Some(Outcome::Expire(removed(rest)?)),
         "delete" => Some(Outcome::Delete(removed(rest)?)),
         "add" => Some(Outcome::Add(entered(rest)?)),
+        "kill" => Some(Outcome::Killed(number(rest.strip_prefix("- killed=")?)?)),
         "held" => Some(Outcome::Held(amounts(rest)?)),
         "pass" => Some(Outcome::Pass(rule_or_none(rest)?)),
         "cookie" if rest == "-" => Some(Outcome::Cookie),
@@ -24,6 +25,7 @@ fn read(words: &str) -> Option<Outcome> {
         "state" => Some(Outcome::State(rule(rest)?)),
         "new" => Some(Outcome::New(rule(rest)?)),
         "proxy" => Some(Outcome::Taken(rule(rest)?)),
+        "proxy:asks" => Some(Outcome::Asking(rule(rest)?)),
         "proxy:new" => Some(Outcome::Answered(rule(rest)?)),
         "block" => Some(Outcome::Block(rule(rest)?)),
         _ => match word.strip_prefix("drop:") {

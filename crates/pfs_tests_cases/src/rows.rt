@@ -27,6 +27,8 @@ pub enum Came {
     Add(&'static str, &'static str),
     /// That very entry is taken out of such a table.
     Delete(&'static str, &'static str),
+    /// The states are taken out that go from hosts of this prefix, to hosts of that one, or to any where it is empty.
+    Kill(&'static str, &'static str),
     /// The administrator asks how much is held.
     Ask,
 }

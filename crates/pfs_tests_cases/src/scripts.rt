@@ -5,9 +5,9 @@ use crate::outcomes::outcome_of;
 use crate::packets::{ACK, FIN_ACK, RST, SYN, SYN_ACK, Sent, packet};
 use crate::rows::{Came, Row};
 use pfs_addr::parse_prefix;
-use pfs_addr_values::Addr;
+use pfs_addr_values::{Addr, Prefix};
 use pfs_conf_values::{RuleNo, TableNo};
-use pfs_engine_machine::{Arrival, Command, Event, Outcome, TableEntry};
+use pfs_engine_machine::{Arrival, Command, Event, FromTo, Outcome, TableEntry};
 use std::alloc::Global;
 
 /// Events, and what the machine makes of them.
@@ -45,6 +45,9 @@ impl Script {
             Came::Reset => Sent::Tcp(80, RST),
             Came::Ping => return self.put(time, Arrival::Skip, outcome),
             Came::Ask => return self.put(time, Arrival::Held, outcome),
+            Came::Kill(from, to) => {
+                return self.put(time, Arrival::Kill(hosts(from, to)?), outcome);
+            }
             Came::Expire(seconds) => {
                 return self.command(time, "bad", Command::Expire(seconds), outcome);
             }
@@ -111,6 +114,21 @@ impl Script {
     }
 }
 
+/// Hosts as a record writes them: those of a prefix, and those of another one, or any where it is empty.
+pub fn hosts(from: &str, to: &str) -> Result<FromTo, CaseError> {
+    let from = prefix(from)?;
+    let to = if to.is_empty() {
+        None
+    } else {
+        Some(prefix(to)?)
+    };
+    Ok(FromTo { from, to })
+}
+
+fn prefix(text: &str) -> Result<Prefix, CaseError> {
+    parse_prefix(text.as_bytes()).ok_or(CaseError::Unreadable)
+}
+
 /// An entry as a record writes it: a prefix, directly behind a `!` where it is negated.
 pub fn entry(text: &str) -> Result<TableEntry, CaseError> {
     match text.strip_prefix("!") {
@@ -120,6 +138,6 @@ pub fn entry(text: &str) -> Result<TableEntry, CaseError> {
 }
 
 fn signed(text: &str, negated: bool) -> Result<TableEntry, CaseError> {
-    let prefix = parse_prefix(text.as_bytes()).ok_or(CaseError::Unreadable)?;
+    let prefix = prefix(text)?;
     Ok(TableEntry { prefix, negated })
 }

@@ -3,6 +3,7 @@
 mod comparing;
 mod engines;
 mod profiled;
+mod proxies;
 mod scenarios;
 mod stores;
 mod tallied;

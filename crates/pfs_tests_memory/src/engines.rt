@@ -7,7 +7,7 @@ use crate::telling::{Stop, begin, begin_free, end, plain, refused};
 use pfs_addr_values::{Packet, RUN_LIMIT};
 use pfs_conf::{Config, TableNo};
 use pfs_engine::{Arrival, Engine, Event, Outcome};
-use pfs_engine_machine::{Command, Entered};
+use pfs_engine_machine::{Command, Entered, FromTo};
 use pfs_store::Store;
 use pfs_tests_cases::{
     A1, A2, Came, Case, FLUSH, NOT_REMOVED, REMOVED, RETENTION, Script, UNSCALED, are_allowed,
@@ -64,7 +64,7 @@ const CASES: &[Case] = &[
             (0, Came::Syn, A1, 1000, "cookie -"),
             (0, Came::Syn, A2, 1000, "cookie -"),
             (0, Came::Ack, A1, 1000, "proxy:new @0"),
-            (0, Came::Ack, A1, 1000, "proxy @0"),
+            (0, Came::Ack, A1, 1000, "proxy:asks @0"),
             (15, Came::Syn, A1, 1001, "cookie -"),
             (16, Came::Ack, A2, 1000, "drop:max @0"),
             (45, Came::Ack, A1, 1001, "pass -"),
@@ -89,8 +89,9 @@ const CASES: &[Case] = &[
             (3, Came::Add("bad", "10.0.0.0/8"), A1, 0, "add - added"),
             (4, Came::Expire(3), A1, 0, "expire - removed=2"),
             (4, Came::Ask, A1, 0, "held - states=1 nodes=0 entries=1"),
+            (4, Came::Kill("198.51.100.1", ""), A1, 0, "kill - killed=1"),
         ],
-        end: (1, 0, 1),
+        end: (0, 0, 1),
     },
 ];
 
@@ -218,6 +219,7 @@ fn take_event<S: Store>(
             }
             Ok(())
         }
+        Arrival::Kill(hosts) => kill(rt, engine, hosts, wanted),
         Arrival::Held => ask(rt, engine, wanted),
         Arrival::Skip => Err(Stop::Input),
     }
@@ -268,6 +270,22 @@ fn begin_change(rt: &HostRuntime, wanted: Outcome, call: &str) -> Result<(), Sto
     Ok(())
 }
 
+fn kill<S: Store>(
+    rt: &HostRuntime,
+    engine: &mut Engine<S>,
+    hosts: &FromTo,
+    wanted: Outcome,
+) -> Result<(), Stop> {
+    if engine.last().is_none() {
+        return Err(Stop::Input);
+    }
+    begin_free(rt, "kill")?;
+    let killed = engine.kill(hosts);
+    end(rt)?;
+    plain(rt, Outcome::Killed(killed) == wanted)?;
+    Ok(())
+}
+
 fn ask<S: Store>(rt: &HostRuntime, engine: &Engine<S>, wanted: Outcome) -> Result<(), Stop> {
     begin_free(rt, "amounts")?;
     let told = engine.amounts();
@@ -314,7 +332,8 @@ fn begin_for(rt: &HostRuntime, case: &Case, wanted: Outcome, call: &str) -> Resu
         Outcome::New(_) | Outcome::Answered(_) => println!(rt; "call {call} that makes a state")?,
         Outcome::Cookie => println!(rt; "call {call} that gives a cookie")?,
         Outcome::Add(Entered::New) => println!(rt; "call {call} of an entry that is new")?,
-        Outcome::State(_) | Outcome::Taken(_) | Outcome::Kill { .. } if has_overload(case) => {
+        Outcome::State(_) | Outcome::Taken(_) | Outcome::Asking(_) | Outcome::Kill { .. }
+            if has_overload(case) => {
             println!(rt; "call {call} of a rule with overload")?;
         }
         _ => begin_free(rt, call)?,

@@ -358,7 +358,7 @@ fn purge<S: Store>(rt: &HostRuntime, store: &mut S) -> Result<(), Stop> {
     for second in 0..20u64 {
         let mut meter = Meter::new();
         store.purge_states(second + 1_000_000, &mut meter);
-        store.purge_nodes(second + 1_000_000);
+        store.purge_nodes(second + 1_000_000, &mut meter);
     }
     end(rt)?;
     plain(rt, counts(store) == (0, 0, 14))?;

@@ -9,6 +9,7 @@ mod jobs;
 mod lines;
 mod profiles;
 mod reports;
+mod routes;
 mod runs;
 mod scenarios;
 mod streams;

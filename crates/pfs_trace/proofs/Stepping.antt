@@ -9,10 +9,13 @@ use Rattle.pfs_addr_values.specs.Numbers.{number_of}
 use Rattle.pfs_addr_values.specs.Packets.{PacketView}
 use Rattle.pfs_conf_values.specs.Configs.{Conf, has_name, is_const_table, table_named}
 use Rattle.pfs_conf_values.specs.declared.filters.TableNo.{TableNo}
+use Rattle.pfs_store_contract.specs.declared.kills.FromTo.{FromTo}
 use Rattle.pfs_engine_machine.specs.Machine.{Machine, step}
 use Rattle.pfs_engine_machine.specs.Runs.{MayCome, MayChange}
+use Rattle.pfs_engine_machine.specs.Ways.{first_event, second_packet, way, way_on}
 use Rattle.pfs_engine_machine.specs.declared.events.Command.{Command}
 use Rattle.pfs_engine_machine.specs.declared.events.Event.{Event}
+use Rattle.pfs_engine_machine.specs.declared.events.Outcome.{Outcome}
 use Rattle.pfs_engine_machine.specs.declared.events.Arrival.{Arrival}
 use Rattle.pfs_engine_machine.specs.declared.events.Arrival.TheVariants as arrival
 use Rattle.pfs_trace.specs.declared.faults.TraceFault.{TraceFault}
@@ -20,11 +23,25 @@ use Rattle.pfs_trace.specs.declared.faults.TraceFault.TheVariants as fault
 use Rattle.pfs_trace.specs.declared.events.Verb.{Verb}
 use Rattle.pfs_trace.specs.declared.events.Verb.TheVariants as verb
 use Rattle.pfs_trace.specs.Columns.{column_of}
-use Rattle.pfs_trace.specs.Events.{Change, addition_at, and_then, arrival_at, at_moment, change_at, changing, deletion_at, end_at, event_at, event_by, expiry_at, falls, in_column, nothing_in, number_to, packet_at, question_at, verb_of}
+use Rattle.pfs_trace.specs.Events.{Change, addition_at, and_then, arrival_at, at_moment, change_at, changing, deletion_at, end_at, event_at, event_by, expiry_at, falls, ends_asked_at, in_column, kill_at, nameless_at, nothing_in, number_to, packet_at, question_at, verb_of}
 
-pub last-step : (conf : Conf) (m : Machine) (e : Event) → (step conf m e).1.last ≡ Some e.time
+last-step : (conf : Conf) (m : Machine) (e : Event) → (step conf m e).1.last ≡ Some e.time
 unfolding step
 last-step conf m e = refl
+
+pub last-way : (conf : Conf) (m : Machine) (r : Event) → (way conf m r).1.last ≡ Some r.time
+unfolding way
+last-way conf m r = by (second_packet conf o r.what)
+  where
+    answer : Outcome × Machine
+    answer = step conf m (first_event conf r)
+
+    o : Outcome
+    o = answer.0
+
+    by : (p : Option PacketView) → (way_on conf answer (option_map (λ p. record r { what = arrival.Packet p }) p)).1.last ≡ Some r.time
+    by None = last-step conf m (first_event conf r)
+    by (Some p) = last-step conf answer.1 (record r { what = arrival.Packet p })
 
 -- ---- the moment of a record
 
@@ -133,12 +150,16 @@ end-read (Ok n) more e f h = f h
 
 question-read : (conf : Conf) (row : ℕ) (last : Option ℕ) (time : ℕ) (fields : List (List ℕ)) (e : Event) → question_at row last time fields ≡ Ok e → IsRead conf last time e
 question-read conf row last time fields e q =
-    empty-read row 3 (nothing_in (column_of fields 3)) _ e
-    (empty-read row 4 (nothing_in (column_of fields 4)) _ e
+    end-read (nameless_at row fields) _ e
     (empty-read row 5 (nothing_in (column_of fields 5)) _ e
     (empty-read row 6 (nothing_in (column_of fields 6)) _ e
     (end-read (end_at row fields) _ e
-    (moment-read conf row last time (Some arrival.Held) e (λ w same. let is : arrival.Held ≡ w = cc in subst (MayCome conf) is tt)))))) q
+    (moment-read conf row last time (Some arrival.Held) e (λ w same. let is : arrival.Held ≡ w = cc in subst (MayCome conf) is tt))))) q
+
+kill-read : (conf : Conf) (row : ℕ) (last : Option ℕ) (time : ℕ) (read : Result FromTo TraceFault) (e : Event) → kill_at row last time read ≡ Ok e → IsRead conf last time e
+kill-read conf row last time (Err f) e h = cc
+kill-read conf row last time (Ok hosts) e h =
+    moment-read conf row last time (Some (arrival.Kill hosts)) e (λ w same. let is : arrival.Kill hosts ≡ w = cc in subst (MayCome conf) is tt) h
 
 -- the event of a record: its moment is not before the last one, and is small, and it may come
 pub record IsEvent (conf : Conf) (last : Option ℕ) (e : Event) : Type 0 where
@@ -154,6 +175,7 @@ event-read conf row last fields e q = by_length (length fields == 9) q
     by_kind time (Some verb.Held) h = question-read conf row last time fields e h
     by_kind time (Some verb.Expire) h = change-read conf row last time (expiry_at row fields) e h
     by_kind time (Some verb.Add) h = change-read conf row last time (addition_at row fields) e h
+    by_kind time (Some verb.Kill) h = kill-read conf row last time (ends_asked_at row fields) e h
     by_kind time (Some verb.Delete) h = change-read conf row last time (deletion_at row fields) e h
 
     by_time : (o : Option ℕ) → number_to 4294967295 (column_of fields 1) ≡ o

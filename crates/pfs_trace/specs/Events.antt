@@ -20,6 +20,7 @@ use Rattle.pfs_addr_values.specs.declared.protocols.Proto.{Proto}
 use Rattle.pfs_addr_values.specs.declared.protocols.Proto.TheVariants.{Tcp}
 use Rattle.pfs_conf_values.specs.Configs.{Conf, is_const_table, table_named}
 use Rattle.pfs_conf_values.specs.declared.filters.TableNo.{TableNo}
+use Rattle.pfs_store_contract.specs.declared.kills.FromTo.{FromTo}
 use Rattle.pfs_engine_machine.specs.declared.events.Arrival.{Arrival}
 use Rattle.pfs_engine_machine.specs.declared.events.Arrival.TheVariants as arrival
 use Rattle.pfs_engine_machine.specs.declared.events.Command.{Command}
@@ -148,14 +149,39 @@ abbrev pub change_at : Conf → ℕ → Option ℕ → ℕ → Result Change Tra
 change_at conf row last time read =
     and_then read (λ change. at_moment row last time (option_map (λ t. arrival.Table t change.1) (changing conf (table_named conf change.0))))
 
+-- no table is named, and no protocol: both columns are empty
+abbrev pub nameless_at : ℕ → List (List ℕ) → Result Unit TraceFault
+nameless_at row fields =
+    in_column row 3 (nothing_in (column_of fields 3)) (λ n3.
+    in_column row 4 (nothing_in (column_of fields 4)) (λ n4.
+    Ok tt))
+
+-- a prefix, or nothing
+abbrev pub prefix_or_nothing : List ℕ → Option (Option Network)
+prefix_or_nothing text = if is_empty text then Some None else option_map (λ (p : Network). let some : Option Network = Some p in some) (prefix_of text)
+
+-- hosts from which states go that are taken out, and those to which they go, if they are named
+abbrev pub ends_asked_at : ℕ → List (List ℕ) → Result FromTo TraceFault
+ends_asked_at row fields =
+    and_then (nameless_at row fields) (λ n.
+    in_column row 5 (prefix_of (column_of fields 5)) (λ from.
+    in_column row 6 (nothing_in (column_of fields 6)) (λ n6.
+    in_column row 7 (prefix_or_nothing (column_of fields 7)) (λ to.
+    in_column row 8 (nothing_in (column_of fields 8)) (λ n8.
+    in_column row 9 (nothing_in (column_of fields 9)) (λ n9.
+    Ok (record { from = from; to = to })))))))
+
+-- the event of such a record, of what its fields say
+abbrev pub kill_at : ℕ → Option ℕ → ℕ → Result FromTo TraceFault → Result Event TraceFault
+kill_at row last time read = and_then read (λ hosts. at_moment row last time (Some (arrival.Kill hosts)))
+
 -- the event of a record that asks how much is held
 abbrev pub question_at : ℕ → Option ℕ → ℕ → List (List ℕ) → Result Event TraceFault
 question_at row last time fields =
-    in_column row 3 (nothing_in (column_of fields 3)) (λ n3.
-    in_column row 4 (nothing_in (column_of fields 4)) (λ n4.
+    and_then (nameless_at row fields) (λ n.
     in_column row 5 (nothing_in (column_of fields 5)) (λ n5.
     in_column row 6 (nothing_in (column_of fields 6)) (λ n6.
-    and_then (end_at row fields) (λ n. at_moment row last time (Some arrival.Held))))))
+    and_then (end_at row fields) (λ n. at_moment row last time (Some arrival.Held)))))
 
 -- ---- the event of a record
 
@@ -165,7 +191,8 @@ verb_of word =
     if bytes_eq word (codes "expire") then Some verb.Expire
     else (if bytes_eq word (codes "add") then Some verb.Add
     else (if bytes_eq word (codes "delete") then Some verb.Delete
-    else (if bytes_eq word (codes "held") then Some verb.Held else None)))
+    else (if bytes_eq word (codes "kill") then Some verb.Kill
+    else (if bytes_eq word (codes "held") then Some verb.Held else None))))
 
 -- the event of a record of a packet
 abbrev pub arrival_at : ℕ → Option ℕ → ℕ → List (List ℕ) → Result Event TraceFault
@@ -177,6 +204,7 @@ event_by conf row last time fields None = arrival_at row last time fields
 event_by conf row last time fields (Some verb.Held) = question_at row last time fields
 event_by conf row last time fields (Some verb.Expire) = change_at conf row last time (expiry_at row fields)
 event_by conf row last time fields (Some verb.Add) = change_at conf row last time (addition_at row fields)
+event_by conf row last time fields (Some verb.Kill) = kill_at row last time (ends_asked_at row fields)
 event_by conf row last time fields (Some verb.Delete) = change_at conf row last time (deletion_at row fields)
 
 -- the event of a record under a configuration, in this row after this moment, or the first that is wrong with it: it has not nine

@@ -1,7 +1,7 @@
 -- The events of a trace under a configuration, up to its first faulty record. (own)
 use Rattle.std.specs.Prelude.{◌+◌, ℕ, List, [], ◌∷◌, Option, Some, None, Result, Ok, Err, if◌then◌else◌, nat_lt}
 use Rattle.csv.specs.Reading.{records, default_config, strip_bom}
-use Rattle.pfs_addr_values.specs.Packets.{run_limit}
+use Rattle.pfs_addr_values.specs.Packets.{row_limit}
 use Rattle.pfs_conf_values.specs.Configs.{Conf}
 use Rattle.pfs_engine_machine.specs.declared.events.Event.{Event}
 use Rattle.pfs_trace.specs.declared.faults.TraceFault.{TraceFault}
@@ -22,11 +22,11 @@ abbrev pub ahead_of : Result Event TraceFault → (Event → Trace) → Trace
 ahead_of (Ok e) more = (e ∷ (more e).0, (more e).1)
 ahead_of (Err f) more = ([], Some f)
 
--- the events of the records after so many rows, the last of them at this moment; rows are at most as many as the packets of a run
+-- the events of the records after so many rows, the last of them at this moment; of at most so many records as a trace may have
 unfoldable pub events_from : Conf → ℕ → Option ℕ → List Fields → Trace
 events_from conf rows last [] = ([], None)
 events_from conf rows last (r ∷ rs) =
-    ahead_of (if nat_lt rows run_limit then event_at conf (rows + 1) last r else Err fault.TooManyRows) (λ e. events_from conf (rows + 1) (Some e.time) rs)
+    ahead_of (if nat_lt rows row_limit then event_at conf (rows + 1) last r else Err fault.TooManyRows) (λ e. events_from conf (rows + 1) (Some e.time) rs)
 
 -- the events of a trace's records: the first is the header
 unfoldable pub events_of : Conf → List Fields → Trace

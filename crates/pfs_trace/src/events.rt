@@ -5,16 +5,16 @@ ghost use Rattle.csv.specs.Records.{fields_of};
 ghost use Rattle.pfs_addr_values.specs.Protocols.{is_icmp};
 ghost use Rattle.pfs_addr.specs.Texts.{addr_of, prefix_of};
 ghost use Rattle.pfs_conf_values.specs.Configs.{table_named};
-ghost use Rattle.pfs_trace.specs.Events.{addition_at, arrival_at, change_at, changing, deletion_at, dir_of, end_at, entry_in, event_at, expiry_at, falls, flags_for, named_at, nothing_in, number_to, port_for, question_at, signed, verb_of};
+ghost use Rattle.pfs_trace.specs.Events.{addition_at, arrival_at, change_at, changing, deletion_at, dir_of, end_at, entry_in, event_at, expiry_at, falls, flags_for, ends_asked_at, kill_at, named_at, nameless_at, nothing_in, number_to, port_for, prefix_or_nothing, question_at, signed, verb_of};
 ghost use Rattle.pfs_trace.specs.Reading.{beside};
 
 use crate::columns::column;
 use crate::faults::TraceFault;
 use csv::ByteRecord;
 use pfs_addr::{parse_addr, parse_flags, parse_number, parse_prefix, parse_proto};
-use pfs_addr_values::{Addr, Dir, Endpoint, Flags, Packet, Proto, parse_ifname};
+use pfs_addr_values::{Addr, Dir, Endpoint, Flags, Packet, Prefix, Proto, parse_ifname};
 use pfs_conf_values::{Config, TableName, TableNo};
-use pfs_engine_machine::{Arrival, Command, Event, TableEntry};
+use pfs_engine_machine::{Arrival, Command, Event, FromTo, TableEntry};
 
 /// The event of a record after the moment `last`, or what is wrong with it: first the number of
 /// its fields, then each field from left to right, then its moment, and then the table that it
@@ -37,6 +37,7 @@ pub fn read_event(
         Some(Verb::Expire) => change(row, last, time, config, read_expiry(row, fields)),
         Some(Verb::Add) => change(row, last, time, config, read_addition(row, fields)),
         Some(Verb::Delete) => change(row, last, time, config, read_deletion(row, fields)),
+        Some(Verb::Kill) => kill(row, last, time, read_hosts(row, fields)),
     }
 }
 
@@ -45,6 +46,7 @@ enum Verb {
     Expire,
     Add,
     Delete,
+    Kill,
     Held,
 }
 
@@ -58,6 +60,8 @@ fn read_verb(word: &[u8]) -> Option<Verb>
         Some(Verb::Add)
     } else if word == b"delete".as_slice() {
         Some(Verb::Delete)
+    } else if word == b"kill".as_slice() {
+        Some(Verb::Kill)
     } else if word == b"held".as_slice() {
         Some(Verb::Held)
     } else {
@@ -93,6 +97,23 @@ fn change(
     Ok(Event { time, what })
 }
 
+/// The event of a record by which states are taken out, of what its fields say.
+fn kill(
+    row: u64,
+    last: Option<u64>,
+    time: u64,
+    read: Result<FromTo, TraceFault>,
+) -> Result<Event, TraceFault>
+    ensures { result ≡ kill_at row last time read }
+{
+    let hosts = read?;
+    if has_fallen(last, time) {
+        return Err(TraceFault::TimeFell(row));
+    }
+    let what = Arrival::Kill(hosts);
+    Ok(Event { time, what })
+}
+
 /// The event of a record that asks how much is held.
 fn read_question(
     row: u64,
@@ -102,8 +123,7 @@ fn read_question(
 ) -> Result<Event, TraceFault>
     ensures { result ≡ question_at row last time (fields_of fields.now) }
 {
-    read_nothing(column(fields, 3)).ok_or(TraceFault::Field(row, 3))?;
-    read_nothing(column(fields, 4)).ok_or(TraceFault::Field(row, 4))?;
+    read_nameless(row, fields)?;
     read_nothing(column(fields, 5)).ok_or(TraceFault::Field(row, 5))?;
     read_nothing(column(fields, 6)).ok_or(TraceFault::Field(row, 6))?;
     read_end(row, fields)?;
@@ -180,6 +200,39 @@ fn read_signed(text: &[u8], negated: bool) -> Option<TableEntry>
 {
     let prefix = parse_prefix(text)?;
     Some(TableEntry { prefix, negated })
+}
+
+/// The hosts from which states go that are taken out, and those to which they go, if they are named.
+fn read_hosts(row: u64, fields: &ByteRecord) -> Result<FromTo, TraceFault>
+    ensures { result ≡ ends_asked_at row (fields_of fields.now) }
+{
+    read_nameless(row, fields)?;
+    let from = parse_prefix(column(fields, 5)).ok_or(TraceFault::Field(row, 5))?;
+    read_nothing(column(fields, 6)).ok_or(TraceFault::Field(row, 6))?;
+    let to = read_any_hosts(column(fields, 7)).ok_or(TraceFault::Field(row, 7))?;
+    read_nothing(column(fields, 8)).ok_or(TraceFault::Field(row, 8))?;
+    read_nothing(column(fields, 9)).ok_or(TraceFault::Field(row, 9))?;
+    Ok(FromTo { from, to })
+}
+
+/// That no table is named, and no protocol: both columns are empty.
+fn read_nameless(row: u64, fields: &ByteRecord) -> Result<(), TraceFault>
+    ensures { result ≡ nameless_at row (fields_of fields.now) }
+{
+    read_nothing(column(fields, 3)).ok_or(TraceFault::Field(row, 3))?;
+    read_nothing(column(fields, 4)).ok_or(TraceFault::Field(row, 4))?;
+    Ok(())
+}
+
+/// A prefix, or none where there is no text: then hosts may be any.
+fn read_any_hosts(text: &[u8]) -> Option<Option<Prefix>>
+    ensures { result ≡ prefix_or_nothing text.now }
+{
+    if text.is_empty() {
+        return Some(None);
+    }
+    let prefix = parse_prefix(text)?;
+    Some(Some(prefix))
 }
 
 /// That the last three columns are empty.

@@ -28,6 +28,11 @@ proxy_after p forward flags = record p {
 abbrev pub proxy_takes : ProxyPhase → Bool → Flags → Bool
 proxy_takes p forward flags = not p.complete || forward || flags.syn && flags.ack
 
+-- at a packet of the maker pf asks the other peer for a connection, by a SYN of its own: at the one that completes the maker's
+-- handshake, and again at each one at PROXY_DST
+abbrev pub proxy_asks : ProxyPhase → Bool → Flags → Bool
+proxy_asks p forward flags = forward && (p.complete || proxy_completes p forward flags)
+
 -- a packet of the other peer joins both handshakes: both peers are at ESTABLISHED
 abbrev pub proxy_joins : ProxyPhase → Bool → Bool
 proxy_joins p forward = p.complete && not forward

@@ -6,7 +6,7 @@ use Rattle.pfs_addr_values.specs.declared.protocols.Proto.TheVariants.{Tcp as Ov
 use Rattle.pfs_conf_values.specs.declared.timeouts.TimeoutName.{TimeoutName}
 use Rattle.pfs_track.specs.Datagrams.{first_datagram, udp_step, udp_slot, other_slot}
 use Rattle.pfs_conf_values.specs.declared.timeouts.TimeoutName.TheVariants.{TcpFirst}
-use Rattle.pfs_track.specs.Proxies.{cookie_proxy, first_proxy, proxy_after, proxy_completes, proxy_joins, proxy_takes}
+use Rattle.pfs_track.specs.Proxies.{cookie_proxy, first_proxy, proxy_after, proxy_asks, proxy_completes, proxy_joins, proxy_takes}
 use Rattle.pfs_track.specs.TcpPhases.{first_tcp, joined_tcp, tcp_completes, tcp_has_closed, tcp_is_half_open, tcp_step}
 use Rattle.pfs_track.specs.declared.tcp_phases.TcpPhase.{TcpPhase}
 use Rattle.pfs_track.specs.declared.state_phases.StatePhase.{StatePhase}
@@ -56,6 +56,11 @@ completes _ forward flags = false
 abbrev pub takes : StatePhase → Bool → Flags → Bool
 takes (Proxied p) forward flags = proxy_takes p forward flags
 takes _ forward flags = false
+
+-- pf asks the other peer for a connection at this packet, by a SYN of its own; only where pf leads the handshakes
+abbrev pub asks_peer : StatePhase → Bool → Flags → Bool
+asks_peer (Proxied p) forward flags = proxy_asks p forward flags
+asks_peer _ forward flags = false
 
 -- the timeout whose value is the lifetime
 abbrev pub slot : StatePhase → TimeoutName

@@ -1,7 +1,7 @@
 //! The phase of a TCP connection whose handshakes pf leads itself: first with the maker, then with the other peer.
 
 ghost use Rattle.std.specs.Prelude.{◌≡◌, true};
-ghost use Rattle.pfs_track.specs.Proxies.{cookie_proxy, first_proxy, proxy_completes, proxy_takes};
+ghost use Rattle.pfs_track.specs.Proxies.{cookie_proxy, first_proxy, proxy_asks, proxy_completes, proxy_takes};
 
 use pfs_addr_values::Flags;
 
@@ -44,6 +44,14 @@ impl ProxyPhase {
         ensures { result ≡ proxy_takes self forward flags }
     {
         !self.complete || forward || (flags.syn && flags.ack)
+    }
+
+    /// Whether pf asks the other peer for a connection at a packet, by a SYN of its own: at the maker's packets, from the one on that
+    /// completes its handshake with pf.
+    pub(crate) fn asks(self, forward: bool, flags: Flags) -> bool
+        ensures { result ≡ proxy_asks self forward flags }
+    {
+        forward && (self.complete || self.completes(forward, flags))
     }
 
     /// Whether pf's handshake with the maker completes at a packet: the maker's ACK, with none of SYN, FIN and RST.

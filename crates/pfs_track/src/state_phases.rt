@@ -3,7 +3,7 @@
 ghost use Rattle.std.specs.Prelude.{◌≡◌, false};
 ghost use Rattle.pfs_track.specs.TcpPhases.{joined_tcp, tcp_step};
 ghost use Rattle.pfs_track.specs.declared.state_phases.StatePhase.TheVariants.{Proxied};
-ghost use Rattle.pfs_track.specs.StatePhases.{NeverCounts, completes, cookie_phase, first_phase, has_closed, is_done, is_half_open, joined_phase, phase_after, proxied_phase, slot, takes, tracked};
+ghost use Rattle.pfs_track.specs.StatePhases.{NeverCounts, asks_peer, completes, cookie_phase, first_phase, has_closed, is_done, is_half_open, joined_phase, phase_after, proxied_phase, slot, takes, tracked};
 
 use crate::datagrams::DatagramPhase;
 use crate::protocols::{FullTcp, Other, Phases, Tcp, Udp};
@@ -65,6 +65,19 @@ impl StatePhase {
     {
         match self {
             StatePhase::Proxied(phase) => phase.takes(forward, flags),
+            StatePhase::Tcp(_) | StatePhase::FullTcp(_) => false,
+            StatePhase::Udp(_) | StatePhase::Other(_) => false,
+        }
+    }
+
+    /// Whether pf asks the other peer for a connection at a later packet, by a SYN of its own: only where pf leads the handshakes, at
+    /// the maker's packets, from the one on that completes pf's handshake with the maker. `forward`: the packet goes in the direction,
+    /// in or out, of the one that made the state. It takes no memory. (pf.conf(5), STATEFUL FILTERING, "synproxy state")
+    pub fn asks_peer(self, forward: bool, flags: Flags) -> bool
+        ensures { result ≡ asks_peer self forward flags }
+    {
+        match self {
+            StatePhase::Proxied(phase) => phase.asks(forward, flags),
             StatePhase::Tcp(_) | StatePhase::FullTcp(_) => false,
             StatePhase::Udp(_) | StatePhase::Other(_) => false,
         }

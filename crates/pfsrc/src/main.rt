@@ -5,10 +5,9 @@
 use clap::Error;
 use clap::error::ErrorKind;
 use pfs_cli::{Feed, ReplayFault, Request, Tally, perform, request, sink_of, status};
-use std::alloc::AllocError;
-use std::env;
+use pfs_words::{Input, texts_of, words};
 use std::fs::File;
-use std::io::{self, BufWriter, Read, StdinLock, Write};
+use std::io::{self, BufWriter, Write};
 use std::process::ExitCode;
 
 fn main(rt: HostRuntime) -> ExitCode {
@@ -32,16 +31,6 @@ fn run(rt: &HostRuntime) -> u8 {
     }
 }
 
-/// The words of the command line, the program's name first.
-fn words(rt: &HostRuntime) -> io::Result<Vec<String>> {
-    let words = env::args(rt)?;
-    Ok(words.collect(rt.alloc())?)
-}
-
-fn texts_of<'a>(rt: &HostRuntime, words: &'a [String]) -> Result<Vec<&'a str>, AllocError> {
-    words.iter().map(|word| word.as_str()).collect(rt.alloc())
-}
-
 /// Performs the job over the files that it names, and over standard input where it names none. All files are opened before one
 /// is read.
 fn perform_request(rt: &HostRuntime, request: &Request) -> Result<(), ReplayFault> {
@@ -50,8 +39,8 @@ fn perform_request(rt: &HostRuntime, request: &Request) -> Result<(), ReplayFaul
     };
     let mut out = sink_of(request.by_lines, out);
     let (rules, trace) = request.job.files();
-    let rules = Input::open(rt, rules)?;
-    let trace = Input::open(rt, trace)?;
+    let rules = open(rt, rules)?;
+    let trace = open(rt, trace)?;
     let answer = perform(
         rt.alloc(),
         &request.job,
@@ -65,32 +54,14 @@ fn perform_request(rt: &HostRuntime, request: &Request) -> Result<(), ReplayFaul
     answer
 }
 
-/// What is read: a file, or standard input.
-#[derive(Drop)]
-enum Input {
-    File(File),
-    Standard(StdinLock<'static>),
-}
-
-impl Input {
-    /// The file of this name, or standard input where no file is named.
-    fn open(rt: &HostRuntime, name: Option<&str>) -> Result<Input, ReplayFault> {
-        match name {
-            Some(name) => match File::open(rt, name) {
-                Ok(file) => Ok(Input::File(file)),
-                Err(_) => Err(ReplayFault::Read),
-            },
-            None => Ok(Input::Standard(rt.reader())),
-        }
-    }
-}
-
-impl Read for Input {
-    fn read(&mut self, buf: &mut [u8]) -> io::Result<usize> {
-        match self {
-            Input::File(file) => file.read(buf),
-            Input::Standard(input) => input.read(buf),
-        }
+/// The file of this name, or standard input where no file is named.
+fn open(rt: &HostRuntime, name: Option<&str>) -> Result<Input<File>, ReplayFault> {
+    match name {
+        Some(name) => match File::open(rt, name) {
+            Ok(file) => Ok(Input::File(file)),
+            Err(_) => Err(ReplayFault::Read),
+        },
+        None => Ok(Input::Standard(rt.reader())),
     }
 }
 

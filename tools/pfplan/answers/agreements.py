@@ -13,6 +13,7 @@ from typing import Any
 from pfplan.answers.explaining import Circumstances, line_for
 from pfplan.answers.hiding import Hider
 from pfplan.answers.judging import Judge, Judged, Verdict
+from pfplan.answers.legs import Legs
 from pfplan.common.inputs import HEADER
 from pfplan.common.limits import LIMITING
 from pfplan.common.progress import Progress
@@ -20,10 +21,11 @@ from pfplan.pf.conversion import Ruleset
 from pfplan.pf.numbers_of_pf import PfRule
 from pfplan.pf.profiles import Profile, profile_of
 from pfplan.pf.reading_canonical_text import items_of, settings_of
+from pfplan.pf.routes import Routes
 from pfplan.replays.runs import Replay, run_replay, show_rules
 from pfplan.traces.entries import records_at
 from pfplan.traces.pf_answers import Merged, PfAnswer, read_pf_answer
-from pfplan.traces.records import Answer, End, Record, Traces, line_blocks, read_answer, read_record
+from pfplan.traces.records import ONWARD, Answer, End, Record, Traces, line_blocks, read_answer, read_record
 
 _KEEPS = re.compile(r"\b(keep|synproxy) state\b")
 # What the packets of a connection have in common: the protocol, and both ends.
@@ -120,7 +122,8 @@ class Agreement:
 class Comparing:
     """Reads trace, answers of pf and report side by side."""
 
-    def __init__(self, folder: Path, judge: Judge) -> None:
+    def __init__(self, folder: Path, judge: Judge, routes: Routes) -> None:
+        self._legs = Legs(routes)
         self._trace, self._told, self._report = (folder / it for it in ("trace.csv", "told.csv", "report"))
         self._judge = judge
         self._known: dict[tuple[str, str], Judged] = {}
@@ -138,8 +141,9 @@ class Comparing:
         texts = itertools.chain.from_iterable(line_blocks(self._report))
         line = ""
         for number, (line, text) in enumerate(zip(lines, texts, strict=False), 1):
-            own = said if row == number else ""
-            if own:
+            own: list[str] = []
+            while row == number:
+                own.append(said)
                 row, said = next(told, (0, ""))
             self._take(number, line, own, text.partition(" ")[2])
             if number % 4096 == 0:
@@ -152,8 +156,24 @@ class Comparing:
             self.misfits += count if key[0] and self._judge.is_misfit(_pf_of(key[0])) else 0
         return found
 
-    def _take(self, number: int, line: str, said: str, text: str) -> None:
-        """Judges one packet. Most have answers that were judged before."""
+    def _take(self, number: int, line: str, said: Sequence[str], text: str) -> None:
+        """Judges one packet: on each interface of which pf's log tells."""
+        if len(said) < 2:
+            self._judge_there(number, line, "".join(said), _own_leg(line, text))
+            return
+        for own, leg, is_onward in zip(said, text.split(ONWARD), (False, True)):
+            self._judge_there(number, line, own, leg, is_onward=is_onward)
+
+    def _record(self, line: str, *, is_onward: bool) -> Record:
+        """The record of a packet, as it is on its way out."""
+        record = read_record(line)
+        if not is_onward:
+            return record
+        way, name = self._legs.second((record.direction, record.interface), record.target)
+        return replace(record, direction=way, interface=name)
+
+    def _judge_there(self, number: int, line: str, said: str, text: str, *, is_onward: bool = False) -> None:
+        """Judges it on one interface. Most have answers that were judged before."""
         key = (said, text)
         self.counts[key] += 1
         judged = self._known.get(key)
@@ -164,9 +184,8 @@ class Comparing:
         if text.startswith("kill:"):
             self.kills.setdefault(text.split(" ")[1], number)
         if judged.verdict is Verdict.DIFFERS:
-            self.found.append(
-                Difference(number, read_record(line), _pf_of(said), _answer_of(number, text), judged.kind)
-            )
+            record = self._record(line, is_onward=is_onward)
+            self.found.append(Difference(number, record, _pf_of(said), _answer_of(number, text), judged.kind))
 
 
 def _told_rows(path: Path) -> Iterator[tuple[int, str]]:
@@ -176,6 +195,13 @@ def _told_rows(path: Path) -> Iterator[tuple[int, str]]:
             number, _, rest = line.partition(",")
             if number.isdigit():
                 yield int(number), rest
+
+
+def _own_leg(line: str, text: str) -> str:
+    """What was said on the interface that a row of the log is of: of a packet out behind what was said where it came
+    in."""
+    first, _, second = text.partition(ONWARD)
+    return second or first if line.split(",", 2)[1] == "out" else first
 
 
 def _pf_of(said: str) -> PfAnswer:
@@ -245,7 +271,7 @@ def _ends(record: Record) -> Ends:
 def agreement_of(folder: Path, ruleset: Ruleset, merged: Merged) -> Agreement:
     """Both sides of every packet, and more of each that differs."""
     judge = Judge(ruleset.pf_rules)
-    comparing = Comparing(folder, judge)
+    comparing = Comparing(folder, judge, ruleset.routes)
     progress = Progress("compare", merged.packets, "packets")
     try:
         judged = comparing.run(progress)
@@ -280,7 +306,8 @@ class _Telling:
 
     def all(self, folder: Path, found: Sequence[Difference]) -> list[Difference]:
         """Each difference with all that is known of it."""
-        held, begun = held_before(folder / "rules", folder / "trace.csv", [it.row for it in found], self._entries)
+        rows = list(dict.fromkeys(it.row for it in found))
+        held, begun = held_before(folder / "rules", folder / "trace.csv", rows, self._entries)
         return [self._whole(it, held[it.row], it.row in begun) for it in found]
 
     def _whole(self, found: Difference, held: End, has_beginning: bool) -> Difference:

@@ -11,7 +11,7 @@ from pfplan.answers.episodes import PASSING, Event
 from pfplan.plays.firewalls import Kept, Pfsrc
 from pfplan.traces.entries import add_records
 from pfplan.traces.insertions import Heard
-from pfplan.traces.records import Traces
+from pfplan.traces.records import Answer, Traces, read_answer
 
 AFTER = 3600  # seconds behind the end of the trace that are tried
 
@@ -32,8 +32,9 @@ def ask(rules: Path, trace: Path, event: Event) -> Asked:
     """Replays the trace up to a record that was refused, and tries its packet again at the end of each later second.
 
     A packet that is refused changes nothing that is held, so a try leaves the trace as it was; but under the profile of
-    OpenBSD one that `max` refuses may leave a source node, as if its client had tried. Entries of tables that come by
-    records are put before the first. Trouble as the program's own.
+    OpenBSD one that `max` refuses may leave a source node, as if its client had tried; and one that is refused on its
+    way out renews the state that it has where it came in. Entries of tables that come by records are put before the
+    first. Trouble as the program's own.
     """
     with Pfsrc(rules, Kept()) as firewall:
         seconds = _seconds(trace)
@@ -70,7 +71,8 @@ def ask(rules: Path, trace: Path, event: Event) -> Asked:
 
 def _is_let_in(firewall: Pfsrc, second: int, packet: str) -> bool:
     (line,) = firewall.decide([f"{second},{packet}"])
-    return line.split(" ")[1] in (*PASSING, "cookie")
+    answer = read_answer(line)
+    return isinstance(answer, Answer) and answer.decisive.word in (*PASSING, "cookie")
 
 
 def _seconds(trace: Path) -> Iterator[tuple[int, list[str]]]:

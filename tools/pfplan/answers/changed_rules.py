@@ -17,6 +17,7 @@ from pfplan.common.errors import Status, Trouble, reason_of
 from pfplan.common.limits import OF_ALL, OF_RULES
 from pfplan.pf.profiles import Profile, profile_of
 from pfplan.pf.reading_canonical_text import items_of
+from pfplan.pf.routes import Routes, routes_of
 from pfplan.replays.runs import show_rules
 
 ADAPTIVE = ("adaptive.start", "adaptive.end")
@@ -105,6 +106,11 @@ class RulesText:
     def items(self) -> list[str]:
         """The texts of the rules by number."""
         return items_of(self._shown)
+
+    @property
+    def routes(self) -> Routes:
+        """The routes that it has."""
+        return routes_of(self._shown)
 
     def settings(self) -> list[Number]:
         """The limits, timeouts and shares for all rules, as resolved."""

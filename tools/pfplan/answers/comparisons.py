@@ -3,13 +3,13 @@
 import contextlib
 from collections import Counter
 from collections.abc import Callable, Iterator, Sequence
-from dataclasses import asdict, dataclass, field
+from dataclasses import asdict, dataclass, field, replace
 from itertools import groupby
 from pathlib import Path
 from typing import Any
 
 from pfplan.answers.connections import Key
-from pfplan.answers.doubts import interfaces_in, of_interfaces, of_users
+from pfplan.answers.doubts import of_interfaces, of_routes, of_users
 from pfplan.answers.held_states import states_held
 from pfplan.answers.measures import Measure, measure_of, most_of
 from pfplan.answers.sides import Side, follow, side_of
@@ -21,7 +21,10 @@ from pfplan.pf.reading_canonical_text import flushes_of, items_of
 from pfplan.replays.runs import records_of, replayed, show_rules
 from pfplan.traces.entries import mark_of
 from pfplan.traces.insertions import HeldCounts, asking
-from pfplan.traces.records import Record, read_record
+from pfplan.traces.orders import Effects
+from pfplan.traces.records import ONWARD, Record, read_record
+from pfplan.traces.rows import Rows
+from pfplan.traces.ways import interfaces_in
 
 
 @dataclass(frozen=True)
@@ -62,7 +65,8 @@ class Against:
 
 @dataclass
 class Comparison:
-    """Rulesets under one trace. `against` has one for each ruleset but the first."""
+    """Rulesets under one trace. `against` has one for each ruleset but the first. `orders` tells of the records of an
+    administrator that were merged into the trace, and `effects` what they did under each; rows are the trace's own."""
 
     trace: str
     users: str
@@ -72,10 +76,21 @@ class Comparison:
     moments: int
     timelines: list[Timeline] = field(default_factory=list)
     doubts: list[str] = field(default_factory=list)
+    orders: str = ""
+    effects: list[Effects] = field(default_factory=list)
+
+    @property
+    def records(self) -> int:
+        """How many records the trace has."""
+        return self.measures[0].records - (self.effects[0].records if self.effects else 0)
 
     def to_json(self) -> dict[str, Any]:
         """The numbers for machines (man/pfplan.1)."""
-        sides = [{"rules": name, **it.to_json()} for name, it in zip(self.names, self.measures)]
+        sides: list[dict[str, Any]] = [
+            {"rules": name, **it.to_json()} for name, it in zip(self.names, self.measures)
+        ]
+        for side, it in zip(sides, self.effects):
+            side["administrator"] = it.to_json()
         return {
             "doubts": self.doubts,
             "trace": self.trace,
@@ -117,14 +132,16 @@ class Fates:
 
         return tell
 
-    def finish(self) -> None:
-        """Counts those that not all sides have as a connection."""
+    def finish(self, merged: Rows | None = None) -> None:
+        """Counts those that not all sides have as a connection. `merged` says which rows are the trace's own."""
         for place, fates in self._open.items():
             self._count(place, fates)
         self._open.clear()
         for changed in self.changed:
             changed.sort(key=lambda it: it.row)
             del changed[self._most :]
+            if merged:
+                changed[:] = [replace(it, row=merged.own(it.row) or 0) for it in changed]
 
     def _count(self, place: tuple[Key, int], fates: Sequence[str]) -> None:
         for at, other in enumerate(fates[1:]):
@@ -145,27 +162,43 @@ def count_steps(steps: Steps, side: Side, lines: Sequence[str]) -> None:
         count = sum(1 for _ in group)
         step = steps.at(int(moment))
         for text, times in Counter(side.texts[at : at + count]).items():
-            step.words[side.answers.word_of(text)] += times
-            step.killed += side.answers.killed_of(text) * times
-        taken = {it for it in set(side.texts[at : at + count]) if side.answers.word_of(it) in ("proxy", "cookie")}
+            reply = side.answers.reply_of(text)
+            for word in reply.words:
+                step.words[word] += times
+            step.killed += reply.all_killed * times
+        taken = {
+            it for it in set(side.texts[at : at + count]) if side.answers.reply_of(it).word in ("proxy", "cookie")
+        }
         for text, line in zip(side.texts[at : at + count], lines[at : at + count], strict=True) if taken else ():
             if text in taken:
                 column = line.split(",")
-                word, ends = side.answers.word_of(text), tuple(column[3:8])
-                step.proxied += side.cookies.makes(word, step.moment, column[1], ends, column[8])
+                word, ends = side.answers.reply_of(text).word, tuple(column[3:8])
+                way, _ = side.legs.first((column[1], column[2]), column[4])
+                step.proxied += side.cookies.makes(word, step.moment, way, ends, column[8])
         at += count
 
 
 class Pairs:
-    """Counts, block by block, how the words of each side go with those of the first, and notes where they part."""
+    """Counts, block by block, how the words of each side go with those of the first, and notes where they part.
+
+    `merged` says which rows are of records that were put into the trace: of these it counts what they did.
+    """
 
     def __init__(
-        self, sides: Sequence[Side], rules: Sequence[Sequence[str]], progress: Progress, steps: Sequence[Steps] = ()
+        self,
+        sides: Sequence[Side],
+        rules: Sequence[Sequence[str]],
+        progress: Progress,
+        steps: Sequence[Steps] = (),
+        merged: Rows | None = None,
     ) -> None:
         self._sides = sides
         self._rules = rules
         self._progress = progress
         self._steps = steps
+        self._merged = merged or Rows(())
+        self._own = 0
+        self.effects = [Effects() for _ in sides] if merged else []
         self.texts = [Counter[tuple[str, str]]() for _ in sides[1:]]
         self.partings: list[Parting | None] = [None for _ in sides[1:]]
 
@@ -174,30 +207,39 @@ class Pairs:
         self._progress.at(row + len(lines))
         for steps, side in zip(self._steps, self._sides):
             count_steps(steps, side, lines)
-        first = self._sides[0].texts
-        for at, side in enumerate(self._sides[1:]):
-            counts = Counter(zip(first, side.texts))
+        parted = [self._merged.parted(row + 1, side.texts) for side in self._sides]
+        for effects, (_, others) in zip(self.effects, parted):
+            effects.take(others)
+        own, _ = self._merged.parted(row + 1, list(lines))
+        self._count(own, [texts for texts, _ in parted])
+        self._own += len(own)
+
+    def _count(self, lines: Sequence[str], texts: Sequence[Sequence[str]]) -> None:
+        """Counts records of the trace, and the texts of each side."""
+        for at, others in enumerate(texts[1:]):
+            counts = Counter(zip(texts[0], others))
             parts = self.partings[at] is None and {it for it in counts if _word(it[0]) != _word(it[1])}
             if parts:
-                place = next(i for i, it in enumerate(zip(first, side.texts)) if it in parts)
-                self.partings[at] = self._parting(at + 1, row, place, lines[place])
+                place = next(i for i, it in enumerate(zip(texts[0], others)) if it in parts)
+                self.partings[at] = self._parting(at + 1, place, lines[place], (texts[0][place], others[place]))
             for (one, other), count in counts.items():
                 self.texts[at][_word(one), _word(other)] += count
 
-    def _parting(self, side: int, row: int, place: int, line: str) -> Parting:
-        texts = (self._sides[0].texts[place], self._sides[side].texts[place])
+    def _parting(self, side: int, place: int, line: str, texts: tuple[str, str]) -> Parting:
         rules = (_rule(texts[0], self._rules[0]), _rule(texts[1], self._rules[side]))
-        return Parting(row + place + 1, read_record(line), texts, rules)
+        return Parting(self._own + place + 1, read_record(line), texts, rules)
 
 
 def _word(text: str) -> str:
-    return text.partition(" ")[0]
+    """The word of an answer: of two interfaces that of each, as `new > block`."""
+    return ONWARD.join(it.partition(" ")[0] for it in text.split(ONWARD))
 
 
 def _rule(text: str, rules: Sequence[str]) -> str:
-    """The text of the rule that an answer names; nothing where it names none."""
-    name = text.split(" ")[1]
-    return rules[int(name[1:])] if name != "-" and int(name[1:]) < len(rules) else ""
+    """The text of the rule that an answer names, of two interfaces that of each; nothing where it names none."""
+    names = [it.split(" ")[1] for it in text.split(ONWARD)]
+    found = [rules[int(it[1:])] if it != "-" and int(it[1:]) < len(rules) else "" for it in names]
+    return ONWARD.join(it for it in found if it)
 
 
 def names_of(paths: Sequence[Path]) -> list[str]:
@@ -209,12 +251,14 @@ def names_of(paths: Sequence[Path]) -> list[str]:
 @dataclass(frozen=True)
 class Asked:
     """What is asked of a comparison: about whose connections, of how many moments what is held, how many of the
-    connections that change are named, and whether it is told over time."""
+    connections that change are named, and whether it is told over time; and which rows of the trace are of records that
+    were merged into it."""
 
     users: Sequence[Network] = ()
     moments: int = 0
     most: int = 5
     over_time: bool = False
+    merged: Rows | None = None
 
 
 def compare(
@@ -239,18 +283,21 @@ def compare(
             side_of(it, reports[at], wanted.users, fates.ended(at), hear[at], flushes[at], asked[at].numbers, held[at])
             for at, it in enumerate(names_of(paths))
         ]
-        pairs = Pairs(sides, rules, progress, steps)
+        pairs = Pairs(sides, rules, progress, steps, wanted.merged)
         follow(trace, sides, wanted.users, pairs.take)
-    fates.finish()
+    fates.finish(wanted.merged)
     measures = [measure_of(side, most_of(it.held, measure_of(side).end)) for side, it in zip(sides, heard)]
     lines_of = [[*lines, *([mark_of(it)] if it else [])] for lines, it in zip(shown, entries)]
     lines = [_timeline(it, said.held, any(one.connections for one in measures)) for it, said in zip(steps, heard)]
     users = ",".join(map(str, wanted.users))
+    against = _against(pairs, fates, lines_of)
     found = Comparison(
-        trace.name, users, list(names), measures, _against(pairs, fates, lines_of), wanted.moments, lines
+        trace.name, users, list(names), measures, against, wanted.moments, lines, effects=pairs.effects
     )
+    found.doubts = of_routes(names, [it.routes for it in flushes])
     seen = interfaces_in(trace)
-    found.doubts = [f"{name}: {it}" for name, items in zip(names, rules) for it in of_interfaces(items, seen)]
+    for name, items, it in zip(names, rules, flushes):
+        found.doubts += [f"{name}: {why}" for why in of_interfaces(items, seen, (), it.routes.interfaces)]
     found.doubts += of_users(users, measures[0].connections)
     return found
 

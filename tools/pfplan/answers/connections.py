@@ -8,14 +8,16 @@ when). RULES has its outcomes.
 
 import ipaddress
 from collections import Counter
-from collections.abc import Callable, Iterable, Sequence
+from collections.abc import Callable, Iterable, Iterator, Mapping, Sequence
 from dataclasses import dataclass, field
 from sys import intern
 from typing import Protocol
 
+from pfplan.answers.legs import Legs, Place, Reply
 from pfplan.common.limits import DROPPED_COOKIE, DROPS
-from pfplan.common.networks import Network
+from pfplan.common.networks import Network, is_within, network_of
 from pfplan.pf.reading_canonical_text import Flushes
+from pfplan.pf.routes import NO_ROUTES
 
 # what became of a connection, and when that is said of it
 RULES = {
@@ -28,9 +30,11 @@ RULES = {
     "let in",
     "cut": "it was let in, and a later packet was not: its state had run out, which adaptive timeouts hasten; and no "
     "repeated SYN was let in",
+    "removed": "its state was taken out by an administrator (a record kill), and no repeated SYN was let in",
     "late": "it was let in, in the last 3 seconds of the trace, and had no answer by then: it counts neither way",
 }
 KINDS = tuple(RULES)
+REMOVED = "removed"
 LATE = "late"
 # the same in few words, of many connections
 MEANINGS = {
@@ -39,8 +43,11 @@ MEANINGS = {
     "refused": "their first packet blocked or dropped",
     "killed": "by a limit on their source, or by its flush",
     "cut": "let in, and lost their state before their end",
+    "removed": "their state taken out by an administrator",
     "late": "cut by the end of the trace: begun in its last 3 seconds",
 }
+# What became of connections that had been let in and then lost their state; a repeated SYN may open them again.
+LOST = ("killed", "cut", REMOVED)
 # Seconds before the end of a trace in which a missing answer says nothing. A client repeats its SYN after 1 second and
 # after 2 more (RFC 6298, 2), so an answer to the first or the second may come within 3.
 LAST_SECONDS = 3
@@ -52,6 +59,12 @@ ANOTHER = 240
 REMEMBERED = 100_000
 # Ways and ports by which connections of users are counted.
 PORTS = 10_000
+
+
+def kinds_told(*several: Mapping[str, int]) -> tuple[str, ...]:
+    """What may be told of connections with these outcomes: REMOVED only where there is such a connection, since most
+    traces have no record of an administrator."""
+    return tuple(it for it in KINDS if it != REMOVED or any(outcomes.get(it) for outcomes in several))
 
 
 class Members:
@@ -106,17 +119,6 @@ BAD = frozenset(("block", DROPPED_COOKIE, *DROPS))
 
 
 @dataclass(frozen=True, slots=True)
-class Reply:
-    """What a line of a report says of a record: its word, `@N` or `-`, and of a kill the word of the overload and the
-    states killed."""
-
-    word: str
-    rule: str = "-"
-    overload: str = ""
-    killed: int = 0
-
-
-@dataclass(frozen=True, slots=True)
 class Entering:
     """That a source got into an overload table: when, by which kill, and by which rule."""
 
@@ -130,7 +132,8 @@ class Refusal:
     """Connections that were refused by one word of one rule. `entered` of them are of sources that a kill had put into
     a table before.
 
-    `by` is the word and the rule of those kills; `first` and `last` are their moments.
+    `by` is the word and the rule of those kills; `first` and `last` are their moments. Where packets are asked on two
+    interfaces, `way` and `interface` say on which: `in` where they come in, `out` on their way out.
     """
 
     word: str
@@ -140,6 +143,8 @@ class Refusal:
     by: tuple[str, str] | None = None
     first: int | None = None
     last: int | None = None
+    way: str = ""
+    interface: str = ""
 
     def add(self, entering: Entering | None) -> None:
         """One connection more."""
@@ -214,9 +219,9 @@ class _Connection:
     proxied: bool | None = None  # the side of the state at which pf answers itself, until the server has
     has_cookie: bool = False  # pf has answered its SYN with a cookie, and it has no state
     is_lost: bool = False  # it is not open, and holds no state: a later packet that is blocked changes nothing
-    refusal: tuple[str, str] = ("", "")  # the word and the rule that refused it
+    refusal: tuple[str, str, str, str] = ("", "", "", "")  # the word and the rule that refused it, and where
     entering: Entering | None = None
-    places: tuple[tuple[str, str], ...] = ()  # directions and interfaces on which a packet of who began it came through
+    places: tuple[Place, ...] = ()  # directions and interfaces on which a packet of who began it came through
 
     def outcome(self, pair: _Pair, last: int) -> str:
         """What became of it, by the end of the trace."""
@@ -301,14 +306,17 @@ class Connections:
         holding: Holding | None = None,
     ) -> None:
         self.members = Members(users)
+        self._users = tuple(users)
         self.outcomes: Counter[str] = Counter()
-        self.refusals: dict[tuple[str, str], Refusal] = {}
+        self.refusals: dict[tuple[str, str, str, str], Refusal] = {}
         self.without_beginning = 0
         self.begun_by_others = 0
         self.begun: Counter[tuple[str, str]] = Counter()  # those of users, by direction and port of their first packets
         self._hear = hear
         self._ended = ended
         self._flushes = flushes
+        self._legs = Legs(flushes.routes if flushes else NO_ROUTES)
+        self._has_routes = bool(self._legs.routes)
         self._holding = holding
         self._pairs: dict[Key, _Pair] = {}
         self._by_text: dict[Key, Way] = {}  # and whether the source is the lower end
@@ -332,11 +340,19 @@ class Connections:
         found = self._by_text.get(text) or self._pair_of(text)
         self.follow_pair(found, row, int(column[0]), (column[1], column[2]), column[8], reply)
 
-    def follow_pair(
-        self, found: Way, row: int, moment: int, place: tuple[str, str], flags: str, reply: Reply
-    ) -> None:
+    def follow_pair(self, found: Way, row: int, moment: int, place: Place, flags: str, reply: Reply) -> None:
         """As `follow`, where it is known between which ends it goes, and whether the source is the lower one; `place`
-        is its direction and its interface."""
+        is its direction and its interface. On either interface of its way it is as a packet of its own."""
+        if not self._has_routes and reply.onward is None:
+            self._follow_leg(found, row, moment, place, flags, reply)
+            return
+        key, is_low = found[0].key, found[1]
+        source, target = (key[1], key[3]) if is_low else (key[3], key[1])
+        for it in self._legs.of(place, source, target, flags, reply):
+            self._follow_leg(found, row, moment, it.place, it.flags, it.reply)
+
+    def _follow_leg(self, found: Way, row: int, moment: int, place: Place, flags: str, reply: Reply) -> None:
+        """A packet on one interface."""
         pair, is_low = found
         flow, word = pair.flow, reply.word
         side = (place[0] == "in") is is_low
@@ -354,7 +370,7 @@ class Connections:
         else:
             is_first = flow is None or word != "state" and moment - flow.seen >= ANOTHER
         if flow is None or is_first and (flow.is_over(moment, word) or self._is_of_other(flow, is_low)):
-            flow = self._begin(pair, is_low, row, moment, is_first, reply)
+            flow = self._begin(pair, is_low, row, moment, is_first, reply, place)
             if flow.is_counted:
                 self._count_begun(place[0], pair.key[4] if is_low else pair.key[2])
         else:
@@ -373,10 +389,23 @@ class Connections:
         else:
             flow.is_lost = word in BAD and pair.is_tcp and not pair.states
 
+    def take_kill(self, row: int, reply: Reply, column: Sequence[str]) -> None:
+        """A record was answered by a kill of states, by a limit or by an administrator; of another nothing changes."""
+        if reply.is_order:
+            self.remove(row, int(column[0]), column[4], column[6], reply.killed)
+        elif reply.is_kill:
+            self.kill(row, int(column[0]), column[4], reply, is_in=column[1] == "in")
+
     def kill(self, row: int, moment: int, source: str, reply: Reply, *, is_in: bool) -> None:
         """A record of a source, in or out, was answered by a kill: other states of it may be gone, and it may be in a
         table now."""
-        source = self.members.name(source)
+        place = ("in" if is_in else "out", "")
+        for it in self._legs.of(place, source, "", "", reply):
+            if it.reply.word.startswith("kill:"):
+                self._kill(row, moment, self.members.name(source), it.reply, is_in=it.place[0] == "in")
+
+    def _kill(self, row: int, moment: int, source: str, reply: Reply, *, is_in: bool) -> None:
+        """The same of a packet on one interface, whose source has one text."""
         if reply.overload in ("added", "held") and self.members.has(source):
             if reply.overload == "added" or source not in self._entered:
                 self._entered[source] = Entering(moment, reply.word, reply.rule)
@@ -390,10 +419,45 @@ class Connections:
             for side, (rule, of) in pair.states.items()
             if self._is_beside(pair, side, of, source, is_in) and (is_global or rule == reply.rule)
         ]
-        for state in self._held(row, moment, source, flushed, reply.killed - 1):
+        # of who is no user other states may be held, which are not followed
+        is_whole = self.members.has(source) and source not in self._blurred
+        self._lose("killed", flushed, self._held(row, moment, flushed, reply.killed - 1, is_whole))
+
+    def remove(self, row: int, moment: int, source: str, target: str, count: int) -> None:
+        """A record of an administrator took out so many states: those that `source` made, for `target` or any. Texts
+        that are no networks are of no replay, and take out none."""
+        try:
+            makers, targets = network_of(source), network_of(target) if target else None
+        except ValueError:
+            return
+        removed = list(self._made_by(makers, targets))
+        is_whole = any(is_within(it, self._users) for it in (makers, targets) if it is not None)
+        is_whole = is_whole and not any(self._is_in(it, makers) for it in self._blurred)
+        self._lose(REMOVED, removed, self._held(row, moment, removed, count, is_whole))
+
+    def _made_by(self, makers: Network, targets: Network | None) -> Iterator[State]:
+        """The states that may be held, by who sent their first packet and to whom."""
+        one = str(makers.network_address) if makers.num_addresses == 1 else None
+        for maker in [one] if one else [it for it in self._of_address if self._is_in(it, makers)]:
+            for pair in self._of_address.get(maker, ()):
+                target = pair.key[3] if pair.key[1] == maker else pair.key[1]
+                if targets is None or self._is_in(target, targets):
+                    yield from (State(pair, side) for side, (_, of) in pair.states.items() if of == maker)
+
+    def _is_in(self, address: str, network: Network) -> bool:
+        """Whether a network has an address; no text that is none is in it."""
+        try:
+            return ipaddress.ip_address(address) in network
+        except ValueError:
+            return False
+
+    def _lose(self, outcome: str, states: Sequence[State], held: Sequence[State]) -> None:
+        """States are gone: those that were held by a kill, which is what becomes of their connections, and the others
+        had run out."""
+        for state in held:
             if state.pair.flow and state.pair.flow.state == "open":
-                state.pair.flow.state = "killed"
-        for state in flushed:
+                state.pair.flow.state = outcome
+        for state in states:
             self._drop(state.pair, state.side)
 
     def so_far(self) -> Counter[str]:
@@ -453,7 +517,7 @@ class Connections:
             self.begun[direction, port] += 1
 
     def _begin(
-        self, pair: _Pair, is_low: bool, row: int, moment: int, is_first: bool, reply: Reply
+        self, pair: _Pair, is_low: bool, row: int, moment: int, is_first: bool, reply: Reply, place: Place
     ) -> _Connection:
         """A packet that is of no connection before: it begins one, or is of one whose beginning is not known."""
         self._end(pair)
@@ -465,22 +529,22 @@ class Connections:
         elif not is_counted:
             self.begun_by_others += 1
         if is_first and reply.word in BAD:
-            self._refuse(pair, flow, reply)
+            self._refuse(pair, flow, reply, place)
         return flow
 
     def _is_of_other(self, flow: _Connection, is_low: bool) -> bool:
         """Whether a SYN is of the end that did not begin a connection which has been let in and is lost."""
-        return is_low != flow.is_low and flow.state in ("killed", "cut")
+        return is_low != flow.is_low and flow.state in LOST
 
     def _is_tried_again(self, pair: _Pair, flow: _Connection, is_first: bool) -> bool:
         """Whether a packet of who began a connection that is not open tries it again."""
         if pair.is_tcp:
-            return is_first and flow.state in ("refused", "killed", "cut")
+            return is_first and flow.state in ("refused", *LOST)
         return flow.state == "refused"
 
-    def _refuse(self, pair: _Pair, flow: _Connection, reply: Reply) -> None:
+    def _refuse(self, pair: _Pair, flow: _Connection, reply: Reply, place: Place) -> None:
         flow.state = "refused"
-        flow.refusal = (reply.word, reply.rule)
+        flow.refusal = (reply.word, reply.rule, *(place if self._has_routes else ("", "")))
         source = pair.key[1] if flow.is_low else pair.key[3]
         flow.entering = self._entered.get(source) if reply.word == "block" else None
 
@@ -489,7 +553,7 @@ class Connections:
         pair: _Pair,
         flow: _Connection,
         reply: Reply,
-        place: tuple[str, str],
+        place: Place,
         flags: str,
         is_first: bool,
         is_low: bool,
@@ -500,8 +564,10 @@ class Connections:
         if reply.word in BAD:
             is_at_begin = from_beginner and not flow.is_greeted and (is_first or not pair.is_tcp)
             is_without_state = flow.has_cookie and from_beginner and side is flow.proxied
-            if is_without_state or is_at_begin and place not in flow.places:
-                self._refuse(pair, flow, reply)
+            # pf's own SYN to the server, behind a handshake that it led itself
+            is_own = flow.proxied is not None and from_beginner and side is not flow.proxied and is_first
+            if is_without_state or is_own or is_at_begin and place not in flow.places:
+                self._refuse(pair, flow, reply, place)
             else:
                 flow.state = "cut"
         elif reply.word.startswith("kill:"):
@@ -571,13 +637,14 @@ class Connections:
         )
         return mine < reply.killed - 1
 
-    def _held(self, row: int, moment: int, source: str, flushed: Sequence[State], count: int) -> Sequence[State]:
-        """Those of some states of a source that are held before the kill of a row, which took so many of that
-        source."""
+    def _held(
+        self, row: int, moment: int, flushed: Sequence[State], count: int, is_whole: bool
+    ) -> Sequence[State]:
+        """Those of some states that are held before the kill of a row, which took so many of them; `is_whole` says
+        that it could take no others."""
         if not count or not flushed:
             return ()
-        # of who is no user other states may be held, which are not followed
-        if len(flushed) <= count and self.members.has(source) and source not in self._blurred:
+        if len(flushed) <= count and is_whole:
             return flushed
         if self._holding is not None:
             asked = {it.text: it for it in flushed}
@@ -596,7 +663,8 @@ class Connections:
         if outcome == "refused":
             refusal = self.refusals.get(flow.refusal)
             if refusal is None:
-                refusal = self.refusals[flow.refusal] = Refusal(*flow.refusal)
+                word, rule, way, interface = flow.refusal
+                refusal = self.refusals[flow.refusal] = Refusal(word, rule, way=way, interface=interface)
             refusal.add(flow.entering)
         self._hear(flow.begin, outcome)
         if self._ended:

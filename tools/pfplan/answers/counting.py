@@ -8,9 +8,10 @@ from itertools import chain, compress, groupby
 from pathlib import Path
 from typing import NoReturn
 
-from pfplan.answers.connections import Connections, Holding, Reply
+from pfplan.answers.connections import Connections, Holding
 from pfplan.answers.cookies import Cookies
 from pfplan.answers.following import columns_of, follow_block
+from pfplan.answers.legs import Legs, Reply, reply_of
 from pfplan.answers.sources import Sources
 from pfplan.answers.stepping import Steps
 from pfplan.common.errors import Status, Trouble
@@ -19,18 +20,21 @@ from pfplan.common.networks import Network
 from pfplan.pf.reading_canonical_text import Flushes
 from pfplan.traces.records import ORDERS, End, Traces, read_answer
 from pfplan.traces.rows import Rows
+from pfplan.traces.ways import Ways
 
 # Limits of a block whose last place is looked for one by one.
 FEW = 8
 # Texts of a report's lines that are remembered.
 KNOWN = 50_000
+DROPPED = frozenset(DROPS)
 # Names of interfaces that are kept of a trace.
 INTERFACES = 1000
 
 
 @dataclass(slots=True)
 class Limit:
-    """A limit that was met: by which rows, and with a trace at which moments and in how many seconds."""
+    """A limit that was met: by which rows, and with a trace at which moments and in how many seconds. `on_way_out` of
+    the records were refused on the second interface."""
 
     word: str
     records: int = 0
@@ -40,6 +44,7 @@ class Limit:
     last_moment: int | None = None
     seconds: int = 0
     killed: int = 0
+    on_way_out: int = 0
 
 
 @lru_cache(maxsize=4)
@@ -49,7 +54,8 @@ def _row_begins(first: int, count: int) -> tuple[str, ...]:
 
 
 class Answers:
-    """Counts the lines of a report: each word by rule, limits with their rows, kills and what overload did.
+    """Counts the lines of a report: each word by rule, limits with their rows, kills and what overload did. Of a record
+    that was asked on `both` interfaces of its way, what each answered counts.
 
     `numbers` are those of the rows in the report where records were put into the trace; the counts are by the trace's
     own rows.
@@ -57,10 +63,12 @@ class Answers:
 
     def __init__(self, name: Path | str, items: int | None, numbers: Rows | None = None) -> None:
         self.rows = 0
+        self.both = 0
         self._numbers = numbers or Rows(())
         self.by_rule: dict[str, Counter[str]] = {}
         self.limits: dict[str, Limit] = {}
         self.overloads: Counter[str] = Counter()
+        self.removed = 0  # states that records of an administrator took out
         self.end: End | None = None
         self._name = name
         self._items = items
@@ -90,17 +98,13 @@ class Answers:
                 self._refuse(self.rows + 2, "a line after the last")
         return texts
 
-    def word_of(self, text: str) -> str:
-        """The word of a text that `take` answered."""
-        return self._known[text].word
-
-    def killed_of(self, text: str) -> int:
-        """The states that a text of `take` says were killed."""
-        return self._known[text].killed
-
     def reply_of(self, text: str) -> Reply:
         """What a text of `take` says."""
         return self._known[text]
+
+    def limit_in(self, text: str) -> str:
+        """The word of a text of `take` that names a limit; nothing where none does. Behind it nothing is asked."""
+        return next((it for it in self._known[text].words if it in self.limits), "")
 
     def finish(self, is_partial: bool) -> None:
         """The report is over. Trouble where it has no last line, unless `is_partial`."""
@@ -160,12 +164,23 @@ class Answers:
         except ValueError as error:
             self._refuse(row, str(error))
         assert not isinstance(answer, End)
-        if self._items is not None and answer.rule != "-" and int(answer.rule[1:]) >= self._items:
-            self._refuse(row, f"the rules have no {answer.rule}")
-        self._known[text] = Reply(answer.word, answer.rule, answer.overload, answer.killed)
+        for it in answer.legs:
+            if self._items is not None and it.rule != "-" and int(it.rule[1:]) >= self._items:
+                self._refuse(row, f"the rules have no {it.rule}")
+        self._known[text] = reply_of(answer)
 
     def _count(self, reply: Reply, count: int) -> None:
+        self._count_leg(reply, count)
+        if reply.onward is not None:
+            self.both += count
+            self._count_leg(reply.onward, count)
+            if reply.onward.word in LIMITING:
+                self.limits[reply.onward.word].on_way_out += count
+
+    def _count_leg(self, reply: Reply, count: int) -> None:
         self.by_rule.setdefault(reply.word, Counter())[reply.rule] += count
+        if reply.is_order:
+            self.removed += reply.killed * count
         if reply.word not in LIMITING:
             return
         limit = self.limits.setdefault(reply.word, Limit(reply.word))
@@ -175,7 +190,7 @@ class Answers:
             limit.killed += reply.killed * count
 
     def _count_limits(self, texts: Sequence[str], counts: Iterable[str], first: int) -> None:
-        met = [it for it in counts if self._known[it].word in self.limits]
+        met = {it: word for it in counts if (word := self.limit_in(it))}
         if not met:
             return
         # the last place of each: from the end for a few, by one walk for many
@@ -185,8 +200,8 @@ class Answers:
         else:
             places = dict(zip(texts, range(len(texts)), strict=True))
             last = {it: places[it] for it in met}
-        for text in met:
-            limit = self.limits[self._known[text].word]
+        for text, word in met.items():
+            limit = self.limits[word]
             limit.last_row = max(limit.last_row, first + last[text])
             if not limit.first_row or limit.first_row >= first:
                 row = first + texts.index(text)
@@ -224,6 +239,8 @@ class Moments:
         self.steps = steps
         self.refused, self.killed, self.made, self.seen = Sources(), Sources(), Sources(), Sources()
         self.interfaces: set[str] = set()
+        self.onward: set[str] = set()  # of those on which packets were asked by their routes
+        self.twice = 0  # records of packets that by their routes came in on another interface of the trace
         self.connections = Connections(users, steps.hear, flushes=flushes, holding=holding)
         self._trace = trace
         self._back: list[str] = []
@@ -233,6 +250,7 @@ class Moments:
         self._row = 0
         self._seconds: dict[str, int] = {}
         self._cookies = Cookies()
+        self._legs = Legs(flushes.routes) if flushes else Legs()
 
     def take(self, texts: Sequence[str]) -> None:
         """Counts as many records as there are answers. Trouble where the trace has fewer, or is none."""
@@ -263,17 +281,20 @@ class Moments:
                 yield lines
 
     def _count(self, lines: Sequence[str], texts: Sequence[str]) -> None:
-        columns = self._columns(lines)
+        columns = whole = self._columns(lines)
         if not ORDERS.isdisjoint(columns[1]):
-            _blank_orders(columns)
+            columns = _blanked(whole)
         self._count_moments(columns[0], texts)
         replies = {it: self._answers.reply_of(it) for it in set(texts)}
         self._count_sources(columns[4], texts, replies)
         self._count_proxied(columns, texts, replies)
         self._see(columns[2])
+        self._see_onward(columns, texts, replies)
+        if self._legs.routes and len(self.interfaces) > 1:
+            self.twice += len(lines) - len(Ways(self._legs.routes, self.interfaces).kept(lines))
         self.connections.last = self.last
         if self._has_users:
-            follow_block(self.connections, self._row, columns, texts, replies)
+            follow_block(self.connections, self._row, whole, texts, replies)
         self._row += len(lines)
 
     def _columns(self, lines: Sequence[str]) -> list[list[str]]:
@@ -288,6 +309,18 @@ class Moments:
         if len(self.interfaces) < INTERFACES:
             self.interfaces.update(names)
             self.interfaces.discard("")
+
+    def _see_onward(
+        self, columns: Sequence[Sequence[str]], texts: Sequence[str], replies: Mapping[str, Reply]
+    ) -> None:
+        """The interfaces of packets that their records don't name."""
+        both = {text for text, it in replies.items() if it.onward is not None}
+        if not both or not self._legs.routes:
+            return
+        asked = list(map(both.__contains__, texts))
+        ins = [is_asked and way == "in" for is_asked, way in zip(asked, columns[1])]
+        outs = [is_asked and way == "out" for is_asked, way in zip(asked, columns[1])]
+        self.onward.update(map(self._legs.routes.to, {*compress(columns[6], ins), *compress(columns[4], outs)}))
 
     def _count_moments(self, times: Sequence[str], texts: Sequence[str]) -> None:
         at = 0
@@ -309,12 +342,12 @@ class Moments:
     def _count_second(self, moment: int, counts: "Counter[str]") -> None:
         step = self.steps.at(moment)
         for text, count in counts.items():
-            word = self._answers.word_of(text)
-            step.words[word] += count
-            limit = self._answers.limits.get(word)
+            for word in self._answers.reply_of(text).words:
+                step.words[word] += count
+            limit = self._answers.limits.get(self._answers.limit_in(text))
             if limit is None:
                 continue
-            step.killed += self._answers.killed_of(text) * count
+            step.killed += self._answers.reply_of(text).all_killed * count
             if limit.first_moment is None:
                 limit.first_moment = moment
             if limit.last_moment != moment:
@@ -323,15 +356,16 @@ class Moments:
 
     def _count_sources(self, sources: Sequence[str], texts: Sequence[str], replies: Mapping[str, Reply]) -> None:
         self.seen.add(sources)
-        drops = {text for text, it in replies.items() if it.word in DROPS}
+        drops = {text for text, it in replies.items() if not DROPPED.isdisjoint(it.words)}
         if drops:
             self.refused.add(compress(sources, map(drops.__contains__, texts)))
-        made = {text for text, it in replies.items() if it.word == "new"}
-        if made:
-            self.made.add(compress(sources, map(made.__contains__, texts)))
-        kills = {text for text, it in replies.items() if it.word.startswith("kill:")}
+        for times in (1, 2):
+            made = {text for text, it in replies.items() if it.words.count("new") >= times}
+            if made:
+                self.made.add(compress(sources, map(made.__contains__, texts)))
+        kills = {text for text, it in replies.items() if it.is_kill}
         for source, text in compress(zip(sources, texts, strict=True), map(kills.__contains__, texts)) if kills else ():
-            self.killed.add_one(source, replies[text].killed)
+            self.killed.add_one(source, replies[text].all_killed)
 
     def _count_proxied(
         self, columns: Sequence[Sequence[str]], texts: Sequence[str], replies: Mapping[str, Reply]
@@ -341,7 +375,8 @@ class Moments:
         for at in compress(range(len(texts)), map(taken.__contains__, texts)) if taken else ():
             moment = int(columns[0][at])
             ends = tuple([columns[it][at] for it in range(3, 8)])
-            if self._cookies.makes(replies[texts[at]].word, moment, columns[1][at], ends, columns[8][at]):
+            way, _ = self._legs.first((columns[1][at], columns[2][at]), columns[4][at])
+            if self._cookies.makes(replies[texts[at]].word, moment, way, ends, columns[8][at]):
                 self.made.add_one(columns[4][at], 1)
                 self.steps.at(moment).proxied += 1
 
@@ -349,12 +384,13 @@ class Moments:
         raise Trouble(f"{self._trace.name}: row {self._row}: {why}", Status.REFUSED)
 
 
-def _blank_orders(columns: Sequence[list[str]]) -> None:
-    """Takes tables and entries of an administrator's records out of the columns of packets, where they are no interface
-    and no source."""
-    for at, direction in enumerate(columns[1]):
-        if direction in ORDERS:
-            columns[2][at] = columns[4][at] = ""
+def _blanked(columns: Sequence[list[str]]) -> list[list[str]]:
+    """The columns without the tables, entries and networks of an administrator's records, which are no interface and no
+    source."""
+    blanked = list(columns)
+    for number in (2, 4):
+        blanked[number] = ["" if way in ORDERS else it for way, it in zip(columns[1], columns[number])]
+    return blanked
 
 
 def count(blocks: Iterable[list[str]], answers: Answers, moments: Moments | None, is_partial: bool) -> None:

@@ -11,9 +11,11 @@ from pfplan.common.figures import counted, share_text
 from pfplan.common.inputs import Kind, kind_of
 from pfplan.pf.profiles import Profile
 from pfplan.pf.reading_canonical_text import interfaces_of
+from pfplan.pf.routes import NO_ROUTES, Routes
 from pfplan.plays.model import Laid, Scenario
+from pfplan.plays.routing import onward_of
 from pfplan.traces.accounts import NEITHER_WAY, Frames
-from pfplan.traces.records import ORDERS, Traces
+from pfplan.traces.ways import interfaces_in
 
 # The share of a capture's packets that may be unread, and how many interfaces or missing things a sentence names.
 SMALL, NAMED = 0.05, 5
@@ -38,11 +40,14 @@ class Left(Protocol):
         """Whether a word of the command line gives what is not there."""
 
 
-def of_interfaces(items: Sequence[str], seen: Collection[str], skipped: Collection[int] = ()) -> list[str]:
+def of_interfaces(
+    items: Sequence[str], seen: Collection[str], skipped: Collection[int] = (), onward: Collection[str] = ()
+) -> list[str]:
     """Rules of interfaces that no record has, and records of interfaces that no rule names. `items` are the texts of
-    rules by number, of which `skipped` stand for `set skip`."""
+    rules by number, of which `skipped` stand for `set skip`; of `onward` packets were asked too, by their routes."""
     named = interfaces_of(items, skipped)
-    without_records, without_rules = sorted(named - set(seen)), sorted(set(seen) - named) if named else []
+    without_records = sorted(named - {*seen, *onward})
+    without_rules = sorted(set(seen) - named) if named else []
     found = []
     if without_records and seen:
         found.append(
@@ -100,9 +105,45 @@ def of_directions(items: Sequence[str], begun: Mapping[tuple[str, str], int]) ->
     ]
 
 
-def of_replay(items: Sequence[str], trace: Path, scenario: Scenario | None) -> list[str]:
+def of_replay(items: Sequence[str], trace: Path, scenario: Scenario | None, routes: Routes = NO_ROUTES) -> list[str]:
     """The doubts of a replay of a trace, or of a play, under rules of these texts."""
-    return of_interfaces(items, interfaces_played(scenario) if scenario else interfaces_in(trace))
+    seen = interfaces_played(scenario) if scenario else interfaces_in(trace)
+    return of_interfaces(items, seen, (), routes.interfaces)
+
+
+def of_routes(names: Sequence[str], routes: Sequence[Routes]) -> list[str]:
+    """The doubt of rulesets some of which have routes: the others are asked on one interface of each packet."""
+    having = [name for name, it in zip(names, routes, strict=True) if it]
+    if len(having) in (0, len(names)):
+        return []
+    return [
+        f"{_listed(having)} {'has' if len(having) == 1 else 'have'} routes, and asks both interfaces of a packet; the "
+        "others ask one: --routes gives all of them the same"
+    ]
+
+
+def of_forwarding(scenario: Scenario, routes: Routes) -> list[str]:
+    """That routes lead packets of a scenario elsewhere than it says."""
+    found = {
+        (address, name, routes.to(address))
+        for group in scenario.groups
+        for address, name in onward_of(scenario, group)
+        if routes and scenario.forward and routes.to(address) != name
+    }
+    return [
+        f"the scenario sends packets to {address} on by {name}, and the routes by {other}: the routes count"
+        for address, name, other in sorted(found)[:NAMED]
+    ]
+
+
+def of_ways(twice: int) -> list[str]:
+    """That packets are in a trace twice, where either record stands for both interfaces."""
+    if not twice:
+        return []
+    return [
+        f"{counted(twice, 'record')} of the trace are of packets that came in on another interface of it, by the "
+        "routes of the rules: they count twice (run, compare, size and margins leave such records out)"
+    ]
 
 
 def of_profiles(names: Sequence[str], profiles: Sequence[Profile]) -> list[str]:
@@ -111,14 +152,6 @@ def of_profiles(names: Sequence[str], profiles: Sequence[Profile]) -> list[str]:
         return []
     said = ", ".join(f"{name} by {it.value}" for name, it in zip(names, profiles, strict=True))
     return [f"the rulesets ask for different machines, {said}: --profile gives all of them one"]
-
-
-def interfaces_in(trace: Path) -> set[str]:
-    """The interfaces that the records of a trace have."""
-    found: set[str] = set()
-    for lines in Traces(trace).blocks():
-        found.update(name for way, name in {tuple(it.split(",", 3)[1:3]) for it in lines} if way not in ORDERS)
-    return found
 
 
 def interfaces_played(scenario: Scenario) -> set[str]:

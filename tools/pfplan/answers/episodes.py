@@ -8,8 +8,9 @@ from itertools import islice
 from pathlib import Path
 
 from pfplan.answers.cookies import Cookies
+from pfplan.answers.legs import Legs
 from pfplan.common.errors import Status, Trouble
-from pfplan.traces.records import Answer, End, Record, Traces, line_blocks, read_answer, read_record
+from pfplan.traces.records import ORDERS, Answer, End, Record, Traces, line_blocks, read_answer, read_record
 
 PASSING = ("new", "state", "proxy", "pass")
 
@@ -34,9 +35,14 @@ class Episode:
     opened: Event | None  # the first that asked for a state of its own
 
     @property
+    def are_packets(self) -> bool:
+        """Whether they are packets, and not an administrator's."""
+        return self.first.record.direction not in ORDERS
+
+    @property
     def is_let_in(self) -> bool:
         """Whether they went through."""
-        return self.first.answer.word in PASSING
+        return self.first.answer.decisive.word in PASSING
 
 
 def events(trace: Path, report: Path, wanted: Callable[[Record], bool]) -> Iterator[Event]:
@@ -66,29 +72,34 @@ def events(trace: Path, report: Path, wanted: Callable[[Record], bool]) -> Itera
 
 def is_opening(record: Record) -> bool:
     """Whether a packet asks for a state of its own: a first SYN, or any packet of another protocol."""
+    if record.direction in ORDERS:
+        return False
     return not record.flags or "S" in record.flags and "A" not in record.flags
 
 
-def _kind(event: Event) -> tuple[str, str]:
-    word = event.answer.word
-    return ("in" if word in PASSING else word), event.answer.rule
+def _kind(event: Event) -> tuple[str, tuple[str, ...]]:
+    """What became of a packet, and the rules of the interfaces that were asked."""
+    word = event.answer.decisive.word
+    return ("in" if word in PASSING else word), tuple(it.rule for it in event.answer.legs)
 
 
-def episodes(found: Iterator[Event]) -> list[Episode]:
+def episodes(found: Iterator[Event], legs: Legs) -> list[Episode]:
     """The runs of some records. Two kinds of answers that take turns are one run each time."""
     runs: list[Episode] = []
     cookies = Cookies()
     for it in found:
         one = it.record
         ends = (one.protocol, one.source, one.source_port, one.target, one.target_port)
-        is_new = cookies.makes(it.answer.word, one.time, one.direction, ends, one.flags) or it.answer.word == "new"
+        way, _ = legs.first((one.direction, one.interface), one.source)
+        made = int(cookies.makes(it.answer.word, one.time, way, ends, one.flags))
+        made += sum(leg.word == "new" for leg in it.answer.legs)
         if runs and _kind(runs[-1].first) == _kind(it):
             run = runs[-1]
             run.records += 1
             run.last = it.record.time
-            run.made += is_new
+            run.made += made
             if run.opened is None and is_opening(it.record):
                 run.opened = it
             continue
-        runs.append(Episode(it, 1, it.record.time, int(is_new), it if is_opening(it.record) else None))
+        runs.append(Episode(it, 1, it.record.time, made, it if is_opening(it.record) else None))
     return runs

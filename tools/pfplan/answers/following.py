@@ -5,7 +5,8 @@ from collections.abc import Mapping, Sequence
 from itertools import compress
 from operator import or_
 
-from pfplan.answers.connections import BAD, Connections, Reply
+from pfplan.answers.connections import BAD, Connections
+from pfplan.answers.legs import Reply
 from pfplan.traces.records import ORDERS
 
 # The words of records that are no packets with ports: those that are skipped, and those of an administrator.
@@ -31,7 +32,7 @@ def follow_block(
     """Follows the records behind a row: by their columns, what the report says of each, and what that text means."""
     addresses = {*columns[4], *columns[6]}
     users = connections.members.of(addresses)
-    kills = {text for text, it in replies.items() if it.word.startswith("kill:")}
+    kills = {text for text, it in replies.items() if it.is_kill or it.is_order}
     rows: Sequence[int] = range(behind + 1, behind + 1 + len(texts))
     if 2 * len(users) < len(addresses):
         are_users = map(or_, map(users.__contains__, columns[4]), map(users.__contains__, columns[6]))
@@ -39,7 +40,7 @@ def follow_block(
         rows, texts = list(compress(rows, wanted)), list(compress(texts, wanted))
         columns = [list(compress(it, wanted)) for it in columns]
     passed_over = {text for text, it in replies.items() if it.word in NO_PACKETS}
-    states = {text for text, it in replies.items() if it.word == "state"}
+    states = {text for text, it in replies.items() if set(it.words) == {"state"}}
     bad = {text for text, it in replies.items() if it.word in BAD}
     flags_of = set(columns[8])
     closing = {it for it in flags_of if "F" in it or "R" in it}
@@ -67,4 +68,4 @@ def follow_block(
         elif text not in passed_over and (columns[4][at] in users or columns[6][at] in users):
             connections.follow(rows[at], replies[text], [it[at] for it in columns])
         if text in kills:
-            connections.kill(rows[at], moment, columns[4][at], replies[text], is_in=columns[1][at] == "in")
+            connections.take_kill(rows[at], replies[text], [it[at] for it in columns])

@@ -16,8 +16,10 @@ from pfplan.answers.sides import Side, follow, side_of
 from pfplan.common.errors import Status, Trouble
 from pfplan.common.networks import Network
 from pfplan.pf.reading_canonical_text import Flushes
-from pfplan.replays.runs import replayed
+from pfplan.pf.routes import routes_of
+from pfplan.replays.runs import replayed, show_rules
 from pfplan.traces.insertions import Heard, asking
+from pfplan.traces.records import KILL
 
 _BLOCK = 1 << 20
 
@@ -54,8 +56,11 @@ class HeldStates:
         return self._answers.get(row)
 
     def find(self, rules: Path, trace: Path, entries: Sequence[str]) -> None:
-        """Asks the program all at once. Where the rules can't take one rule more, it stays unknown. Trouble as
+        """Asks the program all at once. Where the rules can't take one rule more, it stays unknown; and where they have
+        routes, as a packet that is asked would go on to its second interface, and change what is held there. Trouble as
         the program's."""
+        if routes_of(show_rules(rules)):
+            return
         interface = _free_name(rules, trace)
         questions = sorted(self._questions.items())
         before = {row: it.packets(interface) for row, it in questions}
@@ -110,6 +115,12 @@ def _free_name(rules: Path, trace: Path) -> str:
     return name.decode()
 
 
+def _has_orders(trace: Path) -> bool:
+    """Whether a trace may have records by which an administrator takes out states."""
+    with open(trace, "rb") as file:
+        return any(f",{KILL},".encode() in it for it in file)
+
+
 def followed_again(
     rules: Path,
     trace: Path,
@@ -133,7 +144,7 @@ def states_held(
 ) -> HeldStates:
     """Which states are held before the kills of a replay that leave it open."""
     holding = HeldStates()
-    if flushes.rules and users:
+    if users and (flushes.rules or _has_orders(trace)):
         with asking(trace, 0, entries) as asked:
             with replayed(rules, trace, asked, asked.heard(rules)) as lines:
                 side = side_of(rules.name, lines, users, None, None, flushes, asked.numbers, holding)

@@ -123,9 +123,9 @@ class Side:
 
     def _note(self, lines: Sequence[str], texts: Sequence[str]) -> None:
         """Notes who was put into an overload table, and which users were refused."""
-        words = {it: it.partition(" ")[0] for it in set(texts)}
-        added = {it for it in words if " overload=added " in it}
-        bad = {it for it, word in words.items() if word in BAD} if self._has_users else set()
+        replies = {it: self.answers.reply_of(it) for it in set(texts)}
+        added = {it for it in replies if " overload=added " in it}
+        bad = {it for it, reply in replies.items() if not BAD.isdisjoint(reply.words)} if self._has_users else set()
         if not added and not bad:
             return
         members = self.moments.connections.members

@@ -215,5 +215,5 @@ def measure_margins(
         Margin(it.title, it.step, values_text(it), measure, turns_of(base, measure, want, bool(who)))
         for it, measure in zip(moves, moved)
     )
-    doubts = of_replay(text.items(), trace, subject.scenario) + of_users(who, base.connections)
+    doubts = of_replay(text.items(), trace, subject.scenario, text.routes) + of_users(who, base.connections)
     return Margins(names[0], who, want, base, margins, doubts)

@@ -7,16 +7,29 @@ from dataclasses import asdict, dataclass, replace
 from pathlib import Path
 from typing import Any
 
-from pfplan.answers.doubts import interfaces_played, of_interfaces, of_missing, of_profiles
+from pfplan.answers.doubts import (
+    interfaces_played,
+    of_forwarding,
+    of_interfaces,
+    of_missing,
+    of_profiles,
+    of_routes,
+)
 from pfplan.common.outputs import make_folder
-from pfplan.pf.conversion import Ruleset, write_rules, write_ruleset
+from pfplan.pf.conversion import Ruleset, with_routes, write_rules, write_ruleset
 from pfplan.pf.profiles import Profile, profile_of
 from pfplan.pf.reading_canonical_text import items_of
+from pfplan.pf.routes import routes_of
 from pfplan.plays.fields import MOST_SEED
 from pfplan.plays.model import Scenario
 from pfplan.plays.playing import Played, Task, play_all
 from pfplan.plays.returning import answers_of, words_of
+from pfplan.plays.routing import routes_of_scenario
 from pfplan.replays.runs import show_rules
+from pfplan.traces.orders import Orders
+
+
+FROM_SCENARIO = "the routes are those of the scenario (forward): each packet is asked on both interfaces of its way"
 
 
 @dataclass(frozen=True)
@@ -30,6 +43,7 @@ class PlaysBeside:
     left_out: Sequence[int]  # things that can change the answer
     doubts: Sequence[str] = ()  # why it may be of something else than what was meant
     profiles: Sequence[Profile] = ()  # of each rules text
+    orders: str = ""  # which records of an administrator came into the plays
 
     @property
     def plays(self) -> Sequence[Played]:
@@ -108,7 +122,8 @@ def json_of(scenario: Scenario, play: Played) -> dict[str, Any]:
         "overloads": dict(play.tally.overloads),
         "end": asdict(play.end),
     }
-    return found | ({"backlog": backlog} if scenario.backlog else {})
+    orders = {"administrator": play.tally.effects.to_json()} if play.tally.effects.records else {}
+    return found | ({"backlog": backlog} if scenario.backlog else {}) | orders
 
 
 def play_into(
@@ -118,25 +133,33 @@ def play_into(
     folders: Sequence[Path],
     jobs: int | None,
     seeds: int = 1,
+    orders: Orders | None = None,
 ) -> PlaysBeside:
     """Plays a scenario under each ruleset, with so many seeds. Each has a folder, which gets its rules, and the trace
-    and the report of the scenario's own seed.
+    and the report of the scenario's own seed. Records of an administrator come into each.
 
     Trouble where the program refuses rules.
     """
     tasks = []
+    rulesets = [_routed(it, scenario) for it in rulesets]
     for folder, it in zip(folders, rulesets):
         make_folder(folder)
         write_ruleset(folder, it)
         tasks.append(_task(scenario, folder / "rules", it, folder / "trace.csv", folder / "report"))
-    return _beside(scenario, names, rulesets, _play_seeds(tasks, seeds, jobs))
+    return _beside(scenario, names, rulesets, _play_seeds(_with_orders(tasks, orders), seeds, jobs), orders)
 
 
 def play_apart(
-    scenario: Scenario, names: Sequence[str], rulesets: Sequence[Ruleset], paths: Sequence[Path], seeds: int = 1
+    scenario: Scenario,
+    names: Sequence[str],
+    rulesets: Sequence[Ruleset],
+    paths: Sequence[Path],
+    seeds: int = 1,
+    orders: Orders | None = None,
 ) -> PlaysBeside:
     """Plays a scenario under each ruleset, of files with these names, and keeps nothing but what is told. Trouble as
     `play_into`."""
+    rulesets = [_routed(it, scenario) for it in rulesets]
     with tempfile.TemporaryDirectory(prefix="pfplan-") as folder:
         tasks = []
         for at, it in enumerate(rulesets):
@@ -144,7 +167,17 @@ def play_apart(
             make_folder(rules.parent)
             write_rules(rules, it)
             tasks.append(_task(scenario, rules, it))
-        return _beside(scenario, names, rulesets, _play_seeds(tasks, seeds, None))
+        return _beside(scenario, names, rulesets, _play_seeds(_with_orders(tasks, orders), seeds, None), orders)
+
+
+def _with_orders(tasks: Sequence[Task], orders: Orders | None) -> Sequence[Task]:
+    """The tasks with records of an administrator."""
+    return [replace(it, orders=orders.lines) for it in tasks] if orders else tasks
+
+
+def _routed(ruleset: Ruleset, scenario: Scenario) -> Ruleset:
+    """A ruleset with the routes that the scenario says, where it has none."""
+    return ruleset if ruleset.routes else with_routes(ruleset, routes_of_scenario(scenario), FROM_SCENARIO)
 
 
 def _play_seeds(tasks: Sequence[Task], seeds: int, jobs: int | None) -> list[list[Played]]:
@@ -164,12 +197,16 @@ def _with_seed(task: Task, number: int) -> Task:
 def _task(
     scenario: Scenario, rules: Path, ruleset: Ruleset, trace: Path | None = None, report: Path | None = None
 ) -> Task:
-    show_rules(rules)
-    return Task(scenario, rules, answers_of(words_of(ruleset.text)), ruleset.records, trace, report)
+    routes = routes_of(show_rules(rules))
+    return Task(scenario, rules, answers_of(words_of(ruleset.text)), ruleset.records, trace, report, routes)
 
 
 def _beside(
-    scenario: Scenario, names: Sequence[str], rulesets: Sequence[Ruleset], sides: Sequence[Sequence[Played]]
+    scenario: Scenario,
+    names: Sequence[str],
+    rulesets: Sequence[Ruleset],
+    sides: Sequence[Sequence[Played]],
+    orders: Orders | None,
 ) -> PlaysBeside:
     left_out = [sum(it.changes_answer for it in ruleset.leftovers) for ruleset in rulesets]
     seen = interfaces_played(scenario)
@@ -178,8 +215,13 @@ def _beside(
         for name, ruleset in zip(names, rulesets)
         for it in (
             *of_missing(ruleset.leftovers),
-            *of_interfaces(items_of(ruleset.text.splitlines()), seen, ruleset.skipped),
+            *of_interfaces(
+                items_of(ruleset.text.splitlines()), seen, ruleset.skipped, ruleset.routes.interfaces
+            ),
+            *of_forwarding(scenario, ruleset.routes),
         )
     ]
     profiles = [profile_of(it.text.splitlines()) for it in rulesets]
-    return PlaysBeside(scenario, names, sides, left_out, [*of_profiles(names, profiles), *doubts], profiles)
+    doubts[:0] = [*of_profiles(names, profiles), *of_routes(names, [it.routes for it in rulesets])]
+    doubts += orders.doubts(0, scenario.seconds - 1, "the scenario") if orders else []
+    return PlaysBeside(scenario, names, sides, left_out, doubts, profiles, orders.told() if orders else "")

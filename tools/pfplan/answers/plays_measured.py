@@ -10,6 +10,7 @@ from typing import Any
 from pfplan.answers.changed_rules import Number, RulesText
 from pfplan.answers.measures import LimitMet, Measure
 from pfplan.common.errors import Status, Trouble, reason_of
+from pfplan.pf.routes import routes_of
 from pfplan.plays.expecting import MOST, check_expected
 from pfplan.plays.model import Askers, Forgers, Laid, Scenario
 from pfplan.plays.options import ENDING, PlayOptions
@@ -119,8 +120,8 @@ def measure_play(rules: Path, scenario: Path, entries: Sequence[str], options: P
     read = read_scenario(scenario, options.numbers)
     check_expected(read, options.most)
     try:
-        show_rules(rules)
-        return measure_of(read, play(Task(read, rules, answers_of(options.returning), entries)))
+        routes = routes_of(show_rules(rules))
+        return measure_of(read, play(Task(read, rules, answers_of(options.returning), entries, routes=routes)))
     except Trouble as trouble:
         if trouble.status != Status.RULES:
             raise

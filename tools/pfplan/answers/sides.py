@@ -15,10 +15,11 @@ from pathlib import Path
 from pfplan.answers.connections import Connections, Holding, Key
 from pfplan.answers.cookies import Cookies
 from pfplan.answers.counting import Answers
+from pfplan.answers.legs import Legs
 from pfplan.common.errors import Status, Trouble
 from pfplan.common.networks import Network
 from pfplan.pf.reading_canonical_text import Flushes
-from pfplan.traces.records import Traces
+from pfplan.traces.records import KILL, Traces
 from pfplan.traces.rows import Rows
 
 
@@ -33,7 +34,7 @@ class Met:
 @dataclass(slots=True)
 class Side:
     """One ruleset: the lines of its report as they come, and what is counted of them. `texts` are those of the block
-    that was just read, and `cookies` those that pf gave."""
+    that was just read, `cookies` those that pf gave, and `legs` knows its routes."""
 
     name: str
     report: Iterator[str]
@@ -42,6 +43,7 @@ class Side:
     texts: list[str] = field(default_factory=list)
     met: dict[str, Met] = field(default_factory=dict)
     cookies: Cookies = field(default_factory=Cookies)
+    legs: Legs = field(default_factory=Legs)
 
 
 def side_of(
@@ -61,7 +63,8 @@ def side_of(
     says.
     """
     connections = Connections(users, hear or _pass_over, ended, flushes, holding=holding)
-    return Side(name, report, Answers(name, None, numbers), connections)
+    legs = Legs(flushes.routes) if flushes else Legs()
+    return Side(name, report, Answers(name, None, numbers), connections, legs=legs)
 
 
 def follow(
@@ -182,28 +185,26 @@ def _follow_users(sides: Sequence[Side], row: int, lines: Sequence[str], picks: 
     kills = {at for side in sides for at in _kills_of(side)}
     for at in sorted({*picks.of(lines), *kills}) if kills else picks.of(lines):
         column = lines[at].split(",")
-        if len(column) != 9 or column[1] not in ("in", "out"):
+        if len(column) != 9 or column[1] not in ("in", "out", KILL):
             continue
-        is_of_user = members.has(column[4]) or members.has(column[6])
+        is_of_user = column[1] != KILL and (members.has(column[4]) or members.has(column[6]))
         if is_of_user or at in kills:
             _follow_record(sides, row + at + 1, at, column, is_of_user)
 
 
 def _kills_of(side: Side) -> Iterator[int]:
-    """The places in the block of a side's kills."""
-    if any(it.startswith("kill:") for it in set(side.texts)):
-        yield from (at for at, text in enumerate(side.texts) if text.startswith("kill:"))
+    """The places in the block of a side's kills, by limits and by an administrator."""
+    if any("kill" in it for it in set(side.texts)):
+        yield from (at for at, text in enumerate(side.texts) if "kill" in text)
 
 
 def _follow_record(sides: Sequence[Side], row: int, at: int, column: Sequence[str], is_of_user: bool) -> None:
     """Gives a record to each side, with what its report says of it."""
-    moment = int(column[0])
     for side in sides:
         reply = side.answers.reply_of(side.texts[at])
         if is_of_user and reply.word != "skip":
             side.connections.follow(row, reply, column)
-        if reply.word.startswith("kill:"):
-            side.connections.kill(row, moment, column[4], reply, is_in=column[1] == "in")
+        side.connections.take_kill(row, reply, column)
 
 
 def word_counts(answers: Answers) -> Counter[str]:

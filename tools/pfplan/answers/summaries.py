@@ -7,7 +7,7 @@ from dataclasses import asdict, dataclass, field
 from pathlib import Path
 from typing import Any
 
-from pfplan.answers.doubts import of_directions, of_frames, of_interfaces, of_users
+from pfplan.answers.doubts import of_directions, of_frames, of_interfaces, of_users, of_ways
 from pfplan.answers.connections import KINDS, LATE, Refusal
 from pfplan.answers.counting import Answers, Limit, Moments, count
 from pfplan.answers.held_states import HeldStates, followed_again
@@ -19,13 +19,15 @@ from pfplan.common.networks import Network
 from pfplan.common.visible import visible
 from pfplan.pf.origins import Origins
 from pfplan.pf.profiles import Profile, profile_of
-from pfplan.pf.reading_canonical_text import flushes_of, items_of, settings_of
+from pfplan.pf.reading_canonical_text import flushes_of, forwarding_in, items_of, settings_of
+from pfplan.pf.routes import routes_of
 from pfplan.replays.runs import show_rules, stream_blocks
 from pfplan.traces.accounts import Frames
 from pfplan.traces.entries import entries_of_rules
 from pfplan.traces.insertions import HeldCounts, asking
 from pfplan.traces.moments import first_moment_of, last_moment_of, step_of
 from pfplan.traces.records import WORDS, End, Traces, line_blocks
+from pfplan.traces.ways import Taken
 
 MOST_SERIES = 100_000
 
@@ -100,7 +102,12 @@ class Summary:
     settings: dict[str, int] = field(default_factory=dict)  # the limits for all rules
     origins: Origins = field(default_factory=Origins)
     frames: Frames | None = None  # of the capture that the trace was made of
+    taken: Taken | None = None  # of the trace's records
+    both: int = 0  # records that were asked on both interfaces
+    has_routes: bool = False  # whether the rules text says which these are
+    forwarding: list[str] = field(default_factory=list)  # interfaces whose packets the rules let through, and not seen
     seen_on: list[str] = field(default_factory=list)  # the interfaces that records have
+    removed: int = 0  # states that an administrator took out
     doubts: list[str] = field(default_factory=list)  # why it may be of something else than what was meant
 
     def words(self) -> dict[str, int]:
@@ -112,6 +119,8 @@ class Summary:
         return {
             "doubts": self.doubts,
             "records": self.records,
+            "asked_on_both_interfaces": self.both,
+            "forwarded_unseen": self.forwarding,
             "moments": None if self.first_moment is None else [self.first_moment, self.last_moment],
             "words": self.words(),
             "rules": self._rules(),
@@ -119,6 +128,7 @@ class Summary:
             "interfaces": asdict(self.interfaces) if self.interfaces else None,
             "limits": [asdict(it) for it in self.limits],
             "overloads": self.overloads,
+            "states_removed": self.removed,
             "sources": asdict(self.sources),
             "users": asdict(self.users) | {"counted": self.users.counted, "served": self.users.served}
             if self.users
@@ -126,6 +136,7 @@ class Summary:
             "series": {"seconds": self.step_seconds, "steps": [_step_json(it) for it in self.steps]},
             "held": [asdict(it) for it in self.held],
             "frames": asdict(self.frames) if self.frames else None,
+            "left_out_on_their_way_out": self.taken.left_out if self.taken else 0,
             "end": asdict(self.end) if self.end else None,
         }
 
@@ -145,7 +156,8 @@ class Summary:
 class Wanted:
     """What a summary is made of besides the report, and what it shows.
 
-    `trace` and `rules` are those of the replay; `labels` and `origins` are of items of the rules; `every` is the
+    `trace` and `rules` are those of the replay; `labels` and `origins` are of items of the rules; `taken` is what was
+    taken of the trace that was given; `every` is the
     seconds in a step of the series, 0 for what gives at most 120 steps; `top` is how many sources are named;
     `is_partial` takes a report without its last line. `rules_name` is the name of the rules where `rules` is a copy:
     entries that come by records stand beside it.
@@ -157,6 +169,7 @@ class Wanted:
     labels: Mapping[int, str] = field(default_factory=dict)
     origins: Origins = field(default_factory=Origins)
     frames: Frames | None = None
+    taken: Taken | None = None
     every: int = 0
     top: int = 5
     is_partial: bool = False
@@ -211,10 +224,11 @@ def summary_of(answers: Answers, moments: Moments | None, shown: list[str], want
     summary = Summary(
         answers.rows, by_rule, [answers.limits[it] for it in WORDS if it in answers.limits], dict(answers.overloads),
         answers.end, rules=rules, labels=dict(wanted.labels), undecided=_undecided(rules, by_rule),
-        settings=settings_of(shown), origins=wanted.origins, frames=wanted.frames,
-        profile=profile_of(shown) if shown else None,
+        settings=settings_of(shown), origins=wanted.origins, frames=wanted.frames, taken=wanted.taken,
+        profile=profile_of(shown) if shown else None, both=answers.both, has_routes=bool(routes_of(shown)),
+        removed=answers.removed,
     )  # fmt: skip
-    summary.doubts = of_frames(wanted.frames)
+    summary.doubts = [*of_frames(wanted.frames), *(wanted.taken.doubts() if wanted.taken else [])]
     if moments is None or moments.first is None:
         return summary
     summary.first_moment, summary.last_moment, summary.step_seconds = moments.first, moments.last, moments.steps.seconds
@@ -228,10 +242,14 @@ def summary_of(answers: Answers, moments: Moments | None, shown: list[str], want
     if rules:
         named = {name for it in rules for name in _interfaces(it)}
         summary.interfaces = Interfaces(
-            sorted(named - moments.interfaces), sorted(moments.interfaces - named) if named else []
+            sorted(named - moments.interfaces - moments.onward),
+            sorted(moments.interfaces - named) if named else [],
         )
-        summary.doubts += of_interfaces(rules, moments.interfaces, wanted.origins.skipped)
+        if not summary.has_routes:
+            summary.forwarding = forwarding_in(rules, moments.interfaces, wanted.origins.skipped)
+        summary.doubts += of_interfaces(rules, moments.interfaces, wanted.origins.skipped, moments.onward)
         summary.doubts += of_directions(rules, moments.connections.begun)
+        summary.doubts += of_ways(moments.twice)
     if summary.users:
         summary.doubts += of_users(summary.users.of, summary.users.connections)
     return summary

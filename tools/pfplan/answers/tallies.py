@@ -20,7 +20,7 @@ from pfplan.common.errors import Status, Trouble
 from pfplan.common.inputs import HEADER
 from pfplan.common.networks import Network
 from pfplan.pf.reading_canonical_text import Flushes
-from pfplan.traces.records import BLOCK, LONGEST, Traces
+from pfplan.traces.records import BLOCK, KILL, LONGEST, ONWARD, Traces
 from pfplan.traces.rows import Rows
 
 # Texts of answers that are counted each by itself: a report with more of them is counted line by line.
@@ -59,10 +59,10 @@ class Tallies(Answers):
 
     def _counts_in(self, text: str, count: int) -> Counter[str]:
         found: Counter[str] = Counter()
-        left = count
+        left, has_both = count, ONWARD in text
         if len(self._totals) <= FEW_TEXTS:
             for it, _ in self._totals.most_common():
-                if times := text.count(f" {it}\n"):
+                if times := text.count(f" {it}\n") - (text.count(f"{ONWARD}{it}\n") if has_both else 0):
                     found[it] = times
                     left -= times
                 if not left:
@@ -70,22 +70,39 @@ class Tallies(Answers):
         found = Counter(it.partition(" ")[2] for it in text.split("\n")[:-1])
         for it in found:
             if it not in self._known:
-                self._know(it, self._row_at(text, text.find(f" {it}\n")))
+                self._know(it, self._row_at(text, _first_of(text, it)))
         return found
 
     def _note(self, answer: str, text: str, first: int) -> None:
         """The first and the last row at which an answer names a limit."""
-        limit = self.limits.get(self.reply_of(answer).word)
+        limit = self.limits.get(self.limit_in(answer))
         if limit is None:
             return
-        limit.last_row = max(limit.last_row, self._row_at(text, text.rfind(f" {answer}\n")))
+        limit.last_row = max(limit.last_row, self._row_at(text, _last_of(text, answer)))
         if not limit.first_row or limit.first_row >= first:
-            row = self._row_at(text, text.find(f" {answer}\n"))
+            row = self._row_at(text, _first_of(text, answer))
             limit.first_row = min(limit.first_row or row, row)
 
     def _row_at(self, text: str, at: int) -> int:
         """The row of the trace whose number stands before a place of the text."""
         return self._numbers.own(int(text[text.rfind("\n", 0, at) + 1 : at])) or 0
+
+
+def _first_of(text: str, answer: str) -> int:
+    """The first place of a report where an answer is all that a line says; behind another one it is that of a second
+    interface."""
+    at = text.find(f" {answer}\n")
+    while at >= 0 and text.endswith(ONWARD[:-1], 0, at):
+        at = text.find(f" {answer}\n", at + 1)
+    return at
+
+
+def _last_of(text: str, answer: str) -> int:
+    """The last such place."""
+    at = text.rfind(f" {answer}\n")
+    while at >= 0 and text.endswith(ONWARD[:-1], 0, at):
+        at = text.rfind(f" {answer}\n", 0, at)
+    return at
 
 
 class Reports:
@@ -165,7 +182,7 @@ def tally(
             _note_limits(side, block, last)
             if users:
                 side.connections.last = _moment_of(lines[lines.rfind("\n", 0, -1) + 1 :])
-                _follow_users(side, block, picks, any(it.startswith("kill:") for it in counts))
+                _follow_users(side, block, picks, any("kill" in it for it in counts))
         _end(side, reports, trace)
     for word, block in last.items():
         side.met[word].last = _moment_of(block.line(answers.limits[word].last_row))
@@ -252,9 +269,9 @@ def _follow_users(side: Side, block: _Block, picks: Picks, has_kills: bool) -> N
     at = 0
     for row, line in rows:
         column = line.split(",")
-        if len(column) != 9 or column[1] not in ("in", "out"):
+        if len(column) != 9 or column[1] not in ("in", "out", KILL):
             continue
-        is_of_user = members.has(column[4]) or members.has(column[6])
+        is_of_user = column[1] != KILL and (members.has(column[4]) or members.has(column[6]))
         if not (is_of_user or row in killing):
             continue
         begin = f"{_answers(side).number_of(row)} "
@@ -263,7 +280,7 @@ def _follow_users(side: Side, block: _Block, picks: Picks, has_kills: bool) -> N
         if is_of_user and reply.word != "skip":
             connections.follow(row, reply, column)
         if row in killing:
-            connections.kill(row, int(column[0]), column[4], reply, is_in=column[1] == "in")
+            connections.take_kill(row, reply, column)
 
 
 def _answers(side: Side) -> Tallies:
@@ -272,8 +289,11 @@ def _answers(side: Side) -> Tallies:
 
 
 def _kills_in(side: Side, block: _Block) -> Iterator[int]:
-    """The rows of a block that killed states."""
-    at = block.report.find(" kill:")
-    while at >= 0:
-        yield _answers(side)._row_at(block.report, at)
-        at = block.report.find(" kill:", at + 1)
+    """The rows of a block that killed states, by limits and by an administrator."""
+    text = block.report
+    for word in (" kill:", " kill - "):
+        at = text.find(word)
+        while at >= 0:
+            begin = text.rfind("\n", 0, at) + 1
+            yield _answers(side)._row_at(text, text.index(" ", begin))
+            at = text.find(word, at + 1)

@@ -3,6 +3,7 @@
 from collections.abc import Sequence
 from dataclasses import dataclass
 
+from pfplan.answers.connections import LOST
 from pfplan.answers.stepping import Step
 from pfplan.common.limits import DROPS
 
@@ -45,7 +46,7 @@ def moment_of(step: Step, first: int, seconds: int) -> Moment:
     """A step as numbers a second."""
     dropped = sum(count for word, count in step.words.items() if word in DROPS)
     outcomes = step.outcomes
-    lost = outcomes["killed"] + outcomes["cut"]
+    lost = sum(outcomes[it] for it in LOST)
     made = step.words["new"] + step.proxied
     return Moment(
         float(step.moment - first), made / seconds, dropped / seconds, step.killed / seconds,

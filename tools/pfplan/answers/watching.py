@@ -25,6 +25,7 @@ from pfplan.traces.accounts import Frames
 from pfplan.traces.entries import records_at
 from pfplan.traces.insertions import HeldCounts
 from pfplan.traces.records import End
+from pfplan.traces.ways import Taken, Ways
 
 
 @dataclass(frozen=True)
@@ -143,9 +144,11 @@ class Watched:
         """How many connections of users were forgotten that were open."""
         return self.side.moments.connections.forgotten
 
-    def summary(self, users: Sequence[Network], frames: Frames | None, top: int) -> Summary:
+    def summary(
+        self, users: Sequence[Network], frames: Frames | None, top: int, taken: Taken | None = None
+    ) -> Summary:
         """The summary that `run` would make of the same packets."""
-        wanted = Wanted(None, users, None, self.ruleset.labels, origins_of(self.ruleset), frames, top=top)
+        wanted = Wanted(None, users, None, self.ruleset.labels, origins_of(self.ruleset), frames, taken, top=top)
         summary = summary_of(self.side.answers, self.side.moments, self.rules, wanted)
         summary.held = self.held
         return summary
@@ -187,8 +190,11 @@ class Watch:
         show: Callable[[Shown], None],
         trace: TextIO | None,
         seconds: int,
+        ways: Ways | None = None,
     ) -> None:
+        """`ways` takes the records that stand for a packet's way, where the rulesets have routes."""
         self._capture = capture
+        self._ways = ways
         self._watched = watched
         self._show_it = show
         self._trace = trace
@@ -232,6 +238,8 @@ class Watch:
         lines = self._capture.read()
         if lines is None:
             return False
+        if self._ways:
+            lines = self._ways.kept(lines)
         if not lines:
             return True
         text = "".join(f"{it}\n" for it in lines)

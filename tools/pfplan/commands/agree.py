@@ -27,7 +27,7 @@ from pfplan.pages.report_page import PAGE
 from pfplan.pf.conversion import Ruleset, write_ruleset
 from pfplan.replays.runs import replay_into
 from pfplan.traces.captures import Seen, make_trace
-from pfplan.traces.pf_answers import Merged, merge, packets_of
+from pfplan.traces.pf_answers import Merged, forwarded_once, merge, packets_of
 
 DESCRIPTION = """Holds what a running pf said of the packets of its log beside what pfsrc says of them. On the firewall:
 
@@ -101,7 +101,7 @@ def _fill(
 ) -> tuple[Agreement, str]:
     """Writes all files of the folder, and answers what was found, with the text that is printed."""
     write_ruleset(folder, ruleset)
-    merged = _make_trace(log, folder, is_partial=arguments.partial)
+    merged = _make_trace(log, folder, is_partial=arguments.partial, has_routes=bool(ruleset.routes))
     replay_into(folder, folder / "trace.csv", ruleset.records)
     found = agreement_of(folder, ruleset, merged)
     hider = Hider(shows=arguments.shows_addresses)
@@ -114,8 +114,9 @@ def _fill(
     return found, text
 
 
-def _make_trace(log: Path, folder: Path, *, is_partial: bool) -> Merged:
-    """The trace of the log's packets, and what pf answered for each. Trouble where it is no log."""
+def _make_trace(log: Path, folder: Path, *, is_partial: bool, has_routes: bool) -> Merged:
+    """The trace of the log's packets, and what pf answered for each: with routes on either interface. Trouble where it
+    is no log."""
     with tempfile.TemporaryDirectory(prefix="pfplan-") as made:
         trace, told = Path(made, "trace"), Path(made, "told")
         with part_file(trace) as trace_out, part_file(told) as told_out:
@@ -123,7 +124,8 @@ def _make_trace(log: Path, folder: Path, *, is_partial: bool) -> Merged:
         for line in account:
             print(line, file=sys.stderr)
         with part_file(folder / "trace.csv") as trace_out, part_file(folder / "told.csv") as told_out:
-            merged = merge(packets_of(trace, told, log), trace_out, told_out)
+            packets = packets_of(trace, told, log)
+            merged = merge(forwarded_once(packets) if has_routes else packets, trace_out, told_out)
             if not merged.answers:
                 raise Trouble(
                     f"{log}: no packet of a log of pflog(4) in it, so it does not say what pf answered", Status.REFUSED

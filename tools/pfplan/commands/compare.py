@@ -3,12 +3,14 @@
 import argparse
 import contextlib
 from dataclasses import replace
+from pathlib import Path
 
 from pfplan.answers.comparisons import Asked, compare, names_of
 from pfplan.answers.doubts import of_profiles
 from pfplan.answers.plays_beside import PlaysBeside, json_of_side, play_apart
-from pfplan.commands.given_rules import rules_given, ruleset_given
+from pfplan.commands.given_rules import rules_given, ruleset_given, ways_given
 from pfplan.commands.play_words import add_most, add_seeds
+from pfplan.commands.record_words import add_records, check_tables, orders_given
 from pfplan.commands.rule_words import add_rule_words, options_of
 from pfplan.commands.run_words import add_answer_words, add_check, checked, in_doubt, write_answer
 from pfplan.commands.words import add_asked, file, number
@@ -19,9 +21,13 @@ from pfplan.common.repository import check_program
 from pfplan.pages import comparison_texts, play_folder, play_pages, play_texts
 from pfplan.pages.differences import differences_beside
 from pfplan.pf.profiles import profile_of
+from pfplan.pf.reading_canonical_text import tables_in
 from pfplan.plays.expecting import check_expected
 from pfplan.plays.reading import is_scenario, read_scenario
 from pfplan.replays.runs import show_rules
+from pfplan.traces.insertions import merged
+from pfplan.traces.moments import first_moment_of, last_moment_of
+from pfplan.traces.orders import Orders
 
 DESCRIPTION = """Replays one trace under several rulesets and tells how they differ: what became of the users,
 which limits were met, what is held; the first record at which they part and why; how many records had which word in
@@ -49,6 +55,7 @@ def add_arguments(parser: argparse.ArgumentParser) -> None:
     )
     add_seeds(parser)
     add_most(parser)
+    add_records(parser)
     add_check(parser, "something differs, or the answer is in doubt")
     add_answer_words(parser)
     add_rule_words(parser)
@@ -61,17 +68,25 @@ def run(arguments: argparse.Namespace) -> Status:
     if is_scenario(arguments.trace):
         return _compare_plays(arguments)
     check_program()
+    names = names_of(arguments.rules)
     with contextlib.ExitStack() as stack:
         given = [stack.enter_context(rules_given(it, options_of(arguments))) for it in arguments.rules]
         trace = stack.enter_context(regular(arguments.trace))
         check_trace(trace)
+        orders = stack.enter_context(orders_given(arguments.records))
+        shown = [show_rules(it.path) for it in given]
+        check_tables(orders, names, [tables_in(it) | made.tables() for it, made in zip(shown, given)])
+        trace, doubts = stack.enter_context(ways_given(trace, [it.path for it in given]))
         wanted = Asked(arguments.users, arguments.held, arguments.top, bool(arguments.page))
-        names = names_of(arguments.rules)
+        if orders:
+            doubts += _of_moments(orders, trace)
+            trace, rows = stack.enter_context(merged(trace, orders.lines))
+            wanted = replace(wanted, merged=rows)
         found = compare(names, [it.path for it in given], trace, [it.records for it in given], wanted)
-        profiles = [profile_of(show_rules(it.path)) for it in given]
-    found.trace = arguments.trace.name
+        profiles = [profile_of(it) for it in shown]
+    found.trace, found.orders = arguments.trace.name, orders.told() if orders else ""
     missing = [f"{name}: {why}" for name, it in zip(names, given) for why in it.doubts()]
-    found.doubts[:0] = [*of_profiles(names, profiles), *missing]
+    found.doubts[:0] = [*of_profiles(names, profiles), *missing, *doubts]
     write_answer(arguments, found, comparison_texts.text_of, comparison_texts.page_of)
     differing = (
         f"{counted(it.differing, 'record')} have another word under {name} than under {names[0]}"
@@ -79,6 +94,12 @@ def run(arguments: argparse.Namespace) -> Status:
         if it.differing
     )
     return checked(arguments, (*in_doubt(found.doubts), *differing))
+
+
+def _of_moments(orders: Orders, trace: Path) -> list[str]:
+    """That records are of other moments than the trace; nothing where it has none."""
+    first, last = first_moment_of(trace), last_moment_of(trace)
+    return [] if first is None or last is None else orders.doubts(first, last, "the trace")
 
 
 def _compare_plays(arguments: argparse.Namespace) -> Status:
@@ -91,9 +112,10 @@ def _compare_plays(arguments: argparse.Namespace) -> Status:
     check_expected(scenario, arguments.most)
     rulesets = [ruleset_given(it, replace(options_of(arguments), by_records=True)) for it in arguments.rules]
     check_program()
-    played = play_apart(
-        scenario, play_folder.names_of(arguments.rules), rulesets, arguments.rules, arguments.seeds
-    )
+    names = play_folder.names_of(arguments.rules)
+    with orders_given(arguments.records) as orders:
+        check_tables(orders, names, [it.tables for it in rulesets])
+    played = play_apart(scenario, names, rulesets, arguments.rules, arguments.seeds, orders)
 
     def page_of(played: PlaysBeside) -> str:
         return play_pages.page_of(played, *play_pages.drawn_of(played), differences_beside(arguments.page.parent))

@@ -16,8 +16,10 @@ from pfplan.pf.conversion import RuleOptions, Ruleset, convert_named, write_rule
 from pfplan.pf.lexer import printable
 from pfplan.pf.named_files import read_text
 from pfplan.pf.profiles import says_profile
+from pfplan.pf.routes import routes_of
 from pfplan.replays.runs import show_rules
 from pfplan.traces.entries import entries_of_rules
+from pfplan.traces.ways import ways_in
 
 NO_WORDS = RuleOptions()
 
@@ -35,6 +37,10 @@ class GivenRules:
     def doubts(self) -> list[str]:
         """What the rules need that nobody gave."""
         return of_missing(self.made.leftovers) if self.made else []
+
+    def tables(self) -> dict[str, bool]:
+        """Of what was made of a pf.conf the tables, and whether each is `const` there."""
+        return self.made.tables if self.made else {}
 
 
 @contextlib.contextmanager
@@ -66,6 +72,17 @@ def ruleset_given(path: Path, options: RuleOptions) -> Ruleset:
     """What is made of a file that is a pf.conf or a rules text. Trouble as `rules_given`."""
     with regular(path) as kept:
         return convert_named(kept, path, options)
+
+
+@contextlib.contextmanager
+def ways_given(trace: Path, rules: Sequence[Path]) -> Iterator[tuple[Path, list[str]]]:
+    """A trace under some rules texts that all have routes, so that each packet counts once, and why the answer may be
+    in doubt; or the trace as it is. Standard error says what is left out."""
+    found = [routes_of(show_rules(it)) for it in rules]
+    with ways_in(trace, found[0] if all(found) else None) as (path, taken):
+        for line in taken.notes() if taken else ():
+            print(line, file=sys.stderr)
+        yield path, taken.doubts() if taken else []
 
 
 def tell_left_out(path: Path, ruleset: Ruleset) -> None:

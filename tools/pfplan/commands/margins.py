@@ -1,12 +1,13 @@
 """The command `margins`: how sure an answer is."""
 
 import argparse
+import contextlib
 from collections.abc import Iterator
 from dataclasses import replace
 from fractions import Fraction
 
 from pfplan.answers.margins import Margins, measure_margins
-from pfplan.commands.given_rules import rules_given
+from pfplan.commands.given_rules import rules_given, ways_given
 from pfplan.commands.rule_words import add_rule_words, options_of
 from pfplan.commands.run_words import (
     add_answer_words,
@@ -62,9 +63,12 @@ def run(arguments: argparse.Namespace) -> int:
     if is_played and arguments.users:
         raise Trouble(f"--users: {arguments.trace} is a scenario, which says itself who the users are")
     names = (arguments.trace.name, str(arguments.rules))
-    with rules_given(arguments.rules, options_of(arguments)) as rules, regular(arguments.trace) as trace:
+    with contextlib.ExitStack() as stack:
+        rules = stack.enter_context(rules_given(arguments.rules, options_of(arguments)))
+        trace, doubts = stack.enter_context(regular(arguments.trace)), list[str]()
         if not is_played:
             check_trace(trace)
+            trace, doubts = stack.enter_context(ways_given(trace, [rules.path]))
         found = measure_margins(
             rules.path,
             trace,
@@ -75,7 +79,7 @@ def run(arguments: argparse.Namespace) -> int:
             names,
             rules.records,
         )
-        found = replace(found, doubts=[*rules.doubts(), *found.doubts])
+        found = replace(found, doubts=[*rules.doubts(), *doubts, *found.doubts])
     write_answer(arguments, found, margin_texts.text_of, margin_texts.page_of)
     return checked(arguments, reasons_of(found))
 

@@ -11,6 +11,7 @@ from pfplan.answers.plays_beside import PlaysBeside, play_into
 from pfplan.commands.given_rules import ruleset_given
 from pfplan.commands.parser import Parser
 from pfplan.commands.play_words import add_most, add_seeds
+from pfplan.commands.record_words import add_records, check_tables, orders_given
 from pfplan.commands.rule_words import add_rule_words, options_of
 from pfplan.commands.run_words import checked, in_doubt, too_few
 from pfplan.commands.words import file, folder, number, words_in
@@ -58,6 +59,7 @@ def add_arguments(parser: Parser) -> None:
     parser.add_argument("--jobs", type=number(1, 1000), metavar="N", help="plays side by side (one for each processor)")
     add_seeds(parser)
     add_most(parser)
+    add_records(parser)
     add_rule_words(parser)
 
 
@@ -108,9 +110,12 @@ def play_rules(
     rulesets = [ruleset_given(it, replace(options_of(arguments), by_records=True)) for it in paths]
     check_folder(arguments.into, files_of(below))
     check_program()
+    with orders_given(getattr(arguments, "records", None)) as orders:
+        check_tables(orders, names, [it.tables for it in rulesets])
     with whole_folder(arguments.into) as made:
         folders = [made / it for it in below]
-        played = play_into(scenario, names, rulesets, folders, arguments.jobs, getattr(arguments, "seeds", 1))
+        seeds = getattr(arguments, "seeds", 1)
+        played = play_into(scenario, names, rulesets, folders, arguments.jobs, seeds, orders)
         write_plays(made, folders, played, arguments.into)
     for line in doubt_lines(played.doubts):
         print(line)

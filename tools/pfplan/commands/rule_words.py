@@ -96,6 +96,12 @@ def add_rule_words(parser: argparse.ArgumentParser) -> None:
         help="what ifconfig prints on the firewall: interfaces, groups, addresses",
     )
     add(
+        "--routes",
+        type=file,
+        metavar="FILE",
+        help="what netstat -rn prints on the firewall: each packet is then asked on both interfaces of its way",
+    )
+    add(
         "--address", dest="addresses", type=_address, action="append", default=[], metavar="NAME=ADDRESS",
         help="an address of NAME, as em0, self or a host's name, with its length where NAME:network is asked for; or "
         "NAME:network=PREFIX. May stand more than once",
@@ -142,4 +148,5 @@ def options_of(arguments: argparse.Namespace) -> RuleOptions:
         arguments.root,
         arguments.strict,
         profile=arguments.profile,
+        routes=arguments.routes,
     )

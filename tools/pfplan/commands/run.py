@@ -25,7 +25,7 @@ from pfplan.common.outputs import check_folder, part_file, whole_folder
 from pfplan.common.repository import DIFFERENCES, check_program
 from pfplan.pages.doubt_texts import doubt_lines
 from pfplan.pages.report_page import PAGE, Subject, write_answer
-from pfplan.pages.rule_notes import frame_lines
+from pfplan.pages.rule_notes import frame_lines, way_lines
 from pfplan.pages.timeline_pictures import FILES
 from pfplan.pf.conversion import Ruleset, machine_of, write_ruleset
 from pfplan.pf.lexer import printable
@@ -35,6 +35,7 @@ from pfplan.replays.machines import Machines, measure_words
 from pfplan.replays.runs import replay_into
 from pfplan.traces.accounts import Frames, frames_of
 from pfplan.traces.captures import make_trace
+from pfplan.traces.ways import Taken, take_ways
 
 DESCRIPTION = """Makes a rules text and a trace where they are not yet, replays, and puts into a folder:
 
@@ -115,7 +116,7 @@ def run(arguments: argparse.Namespace) -> int:
         raise Trouble("--check wants --users: whose connections are to be served?")
     with contextlib.ExitStack() as stack:
         ruleset = ruleset_given(arguments.rules_from, replace(options_of(arguments), by_records=True))
-        is_made = kind_of(arguments.captures[0]) is not Kind.TRACE
+        is_made = kind_of(arguments.captures[0]) is not Kind.TRACE or bool(ruleset.routes)
         check_folder(arguments.into, [it for it in OURS if it != "trace.csv" or is_made])
         check_program()
         captures = [stack.enter_context(regular(it)) for it in arguments.captures]
@@ -140,10 +141,12 @@ def _fill(
     """Writes all files of the folder, and answers the summary, with the margins where they are asked for."""
     write_ruleset(folder, ruleset)
     trace, frames = _trace(arguments, captures, folder, ruleset)
+    trace, taken = _ways(trace, folder, ruleset)
     held = replay_into(folder, trace, ruleset.records, arguments.held)
     wanted = Wanted(
-        trace, arguments.users, folder / "rules", ruleset.labels, origins_of(ruleset), frames, top=arguments.top
-    )
+        trace, arguments.users, folder / "rules", ruleset.labels, origins_of(ruleset), frames, top=arguments.top,
+        taken=taken,
+    )  # fmt: skip
     summary = summarize(folder / "report", wanted)
     summary.doubts = of_missing(ruleset.leftovers) + summary.doubts
     summary.held = held
@@ -167,6 +170,16 @@ def _trace(
     for line in account:
         print(line, file=sys.stderr)
     return folder / "trace.csv", frames_of(account)
+
+
+def _ways(trace: Path, folder: Path, ruleset: Ruleset) -> tuple[Path, Taken | None]:
+    """The trace, without the records of packets that routes say came in on another interface of it."""
+    if not ruleset.routes:
+        return trace, None
+    taken = take_ways(trace, ruleset.routes, folder / "trace.csv")
+    for line in taken.notes():
+        print(line, file=sys.stderr)
+    return folder / "trace.csv" if taken.left_out else trace, taken
 
 
 def _subject(arguments: argparse.Namespace, where: Machines, folder: Path, trace: Path, ruleset: Ruleset) -> Subject:
@@ -198,7 +211,7 @@ def _tell(arguments: argparse.Namespace, ruleset: Ruleset, summary: Summary) -> 
             f"{share_text(served, users.counted)} of the users' connections were served: {served:,} of "
             f"{users.counted:,}"
         )
-    for line in frame_lines(summary.frames) if summary.frames else ():
+    for line in (*(frame_lines(summary.frames) if summary.frames else ()), *way_lines(summary)):
         print(line)
     doubts = sum(it.changes_answer for it in ruleset.leftovers)
     if doubts:

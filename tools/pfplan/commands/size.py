@@ -3,6 +3,7 @@
 from __future__ import annotations
 
 import argparse
+import contextlib
 import re
 from collections.abc import Iterable
 from dataclasses import replace
@@ -15,7 +16,7 @@ from pfplan.answers.maps import map_of
 from pfplan.answers.measures import Measure
 from pfplan.answers.plays_measured import Subject
 from pfplan.answers.sizes import Vary, Wanted, size
-from pfplan.commands.given_rules import rules_given
+from pfplan.commands.given_rules import rules_given, ways_given
 from pfplan.commands.play_words import add_most
 from pfplan.commands.rule_words import add_rule_words, options_of
 from pfplan.commands.run_words import add_answer_words, add_machine_words, machines_of, write_answer
@@ -89,12 +90,15 @@ def run(arguments: argparse.Namespace) -> int:
         raise Trouble("--vary: one number, or two different ones for a map")
     where = machines_of(arguments)
     check_program()
-    with rules_given(arguments.rules, options_of(arguments)) as rules, regular(arguments.trace) as trace:
+    with contextlib.ExitStack() as stack:
+        rules = stack.enter_context(rules_given(arguments.rules, options_of(arguments)))
+        trace, doubts = stack.enter_context(regular(arguments.trace)), list[str]()
         if not is_played:
             check_trace(trace)
+            trace, doubts = stack.enter_context(ways_given(trace, [rules.path]))
         text = RulesText(rules.path)
         subject = Subject(text, arguments.trace if is_played else None, arguments.most)
-        doubts = rules.doubts() + of_replay(text.items(), trace, subject.scenario)
+        doubts = rules.doubts() + doubts + of_replay(text.items(), trace, subject.scenario, text.routes)
         if not where.is_here:
             subject.check_elsewhere()
         entries = rules.records

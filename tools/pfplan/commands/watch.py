@@ -30,12 +30,15 @@ from pfplan.common.outputs import check_folder, make_folder, part_file, whole_fo
 from pfplan.common.repository import check_program
 from pfplan.pages.doubt_texts import doubt_lines
 from pfplan.pages.report_page import PAGE, Subject, write_answer
+from pfplan.pages.rule_notes import way_lines
 from pfplan.pages.screens import Screen, forgotten_text
 from pfplan.pf.conversion import Ruleset, machine_of, write_ruleset
+from pfplan.pf.routes import routes_of
 from pfplan.replays.live import Capture
 from pfplan.replays.runs import show_rules
 from pfplan.traces.accounts import Frames, frames_of
-from pfplan.traces.captures import by_networks, check_account
+from pfplan.traces.captures import Seen, by_networks, check_account
+from pfplan.traces.ways import Taken, Ways
 
 DESCRIPTION = """Runs limits beside the traffic of this minute, and does not touch the firewall:
 
@@ -106,10 +109,13 @@ def run(arguments: argparse.Namespace) -> int:
             capture = Capture([word for it in seen for word in it.words()])
             running.callback(capture.stop)
             trace = running.enter_context(_trace(top)) if arguments.into else None
-            watch = Watch(capture, watched, Screen(sys.stdout, as_json=arguments.json).show, trace, arguments.seconds)
+            ways = _ways(watched, seen)
+            screen = Screen(sys.stdout, as_json=arguments.json)
+            watch = Watch(capture, watched, screen.show, trace, arguments.seconds, ways)
             watch.run(signals)
             account, trouble = capture.account()
-        summaries = [_summary(it, arguments, account) for it in watched]
+        taken = ways.taken() if ways else None
+        summaries = [_summary(it, arguments, account, taken) for it in watched]
         if arguments.into:
             for it, summary, name in zip(watched, summaries, names, strict=True):
                 subject = Subject(str(it.path), TRACE, it.ruleset.leftovers, it.ruleset.notes)
@@ -117,7 +123,14 @@ def run(arguments: argparse.Namespace) -> int:
     if not watch.is_unseen:
         _tell(arguments, watched, names, summaries)
     has_networks = any(it.has_networks for it in seen)
-    return _end(watch, [*account, *by_networks(account, seen)], trouble, has_inside=has_networks)
+    account += [*by_networks(account, seen), *(taken.notes() if taken else [])]
+    return _end(watch, account, trouble, has_inside=has_networks)
+
+
+def _ways(watched: Sequence[Watched], seen: Sequence[Seen]) -> Ways | None:
+    """What takes the records that stand for a packet's way, where all rulesets have routes."""
+    found = [routes_of(it.rules) for it in watched]
+    return Ways(found[0], {it.name for it in seen if it.name}) if all(found) else None
 
 
 @contextlib.contextmanager
@@ -162,10 +175,12 @@ def _started(
     return Watched(path, ruleset, folder, shown, side, report)
 
 
-def _summary(watched: Watched, arguments: argparse.Namespace, account: Sequence[str]) -> Summary:
+def _summary(
+    watched: Watched, arguments: argparse.Namespace, account: Sequence[str], taken: Taken | None
+) -> Summary:
     """What `run` would say of the same packets."""
     frames = _noted(frames_of(account), watched.forgotten)
-    summary = watched.summary(arguments.users, frames, arguments.top)
+    summary = watched.summary(arguments.users, frames, arguments.top, taken)
     summary.doubts = of_missing(watched.ruleset.leftovers) + summary.doubts
     return summary
 
@@ -205,8 +220,8 @@ def _tell(
             served = outcomes["served"]
             share = share_text(served, connections)
             print(f"{name}{share} of the users' connections were served: {served:,} of {connections:,}")
-        if it.forgotten:
-            print(f"{name}{forgotten_text(it.forgotten)}")
+        for line in (*([forgotten_text(it.forgotten)] if it.forgotten else []), *way_lines(summary)):
+            print(f"{name}{line}")
         doubts = sum(left.changes_answer for left in it.ruleset.leftovers)
         if doubts:
             print(

@@ -31,8 +31,9 @@ def headline(found: Agreement) -> str:
 
 def span(found: Agreement) -> str:
     """How much was compared."""
-    again = found.merged.rows - found.merged.packets
+    again = found.merged.rows - found.merged.packets - found.merged.onward
     more = f", {counted(again, 'row')} of packets that are logged again" if again else ""
+    more += f", {found.merged.onward:,} of them on their way out too" if found.merged.onward else ""
     seconds = counted(found.last_moment - found.first_moment, "second")
     return f"{counted(found.merged.packets, 'packet')} of a log over {seconds}{more}"
 

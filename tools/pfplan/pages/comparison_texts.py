@@ -6,7 +6,7 @@ from collections import Counter
 from collections.abc import Iterator, Sequence
 
 from pfplan.answers.comparisons import Against, Comparison, Parting
-from pfplan.answers.connections import KINDS, LATE, MEANINGS
+from pfplan.answers.connections import LATE, MEANINGS, kinds_told
 from pfplan.answers.measures import Measure
 from pfplan.common.errors import Trouble
 from pfplan.common.figures import counted, moment_text, share_text
@@ -16,6 +16,7 @@ from pfplan.pages.frames import answer, bullets, code, document, gallery, paragr
 from pfplan.pages.markup import Child, Markup, join, tag
 from pfplan.pages.record_texts import connection_text, letters, record_text, why
 from pfplan.pages.timeline_pictures import drawn_beside
+from pfplan.traces.orders import rows_told
 from pfplan.traces.records import WORDS
 
 Row = tuple[str, list[str]]
@@ -27,7 +28,7 @@ def rows_of(found: Comparison) -> Iterator[Row]:
     measures = found.measures
     if found.users:
         yield "users' connections", [f"{it.connections:,}" for it in measures]
-        for kind in KINDS:
+        for kind in kinds_told(*(it.outcomes for it in measures)):
             yield f"  {kind}", [kind_text(it, kind) for it in measures]
     for word in WORDS:
         limits = [next((limit for limit in it.limits if limit.word == word), None) for it in measures]
@@ -41,6 +42,8 @@ def rows_of(found: Comparison) -> Iterator[Row]:
         if any(it.overloads.get(word) for it in measures):
             name = "sources put into an overload table" if word == "added" else "sources for which tables were full"
             yield name, [f"{it.overloads.get(word, 0):,}" for it in measures]
+    for name, several in rows_told([[it] for it in found.effects]):
+        yield name, [f"{it:,}" for (it,) in several]
     yield "states held at the end", [f"{it.end.states:,}" for it in measures]
     yield "source nodes at the end", [f"{it.end.nodes:,}" for it in measures]
     yield "table entries at the end", [f"{it.end.entries:,}" for it in measures]
@@ -57,8 +60,7 @@ def kind_text(measure: Measure, kind: str) -> str:
 def text_of(found: Comparison) -> str:
     """The comparison for people."""
     names = letters(len(found.names))
-    lines = [f"{visible(found.trace)}: {counted(found.measures[0].records, 'record')}"]
-    lines[0] += f"; users {found.users}" if found.users else ""
+    lines = [f"{visible(found.trace)}: {subject_of(found)}"]
     lines += [f"  {letter}  {visible(name)}" for letter, name in zip(names, found.names)]
     lines += ["", winner_text(found, names)] if found.users else []
     rows = list(rows_of(found))
@@ -150,7 +152,8 @@ def page_of(found: Comparison) -> str:
 def subject_of(found: Comparison) -> str:
     """What was replayed, in a line."""
     users = f"; users {found.users}" if found.users else ""
-    return f"{counted(found.measures[0].records, 'record')}{users}"
+    orders = f", and {visible(found.orders)}" if found.orders else ""
+    return f"{counted(found.records, 'record')}{orders}{users}"
 
 
 def answer_of(found: Comparison) -> Markup:

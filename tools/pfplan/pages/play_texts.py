@@ -13,6 +13,7 @@ from pfplan.pages.record_texts import letters
 from pfplan.plays.counts import Count
 from pfplan.plays.model import Askers, Forgers, Laid
 from pfplan.plays.playing import Played
+from pfplan.traces.orders import rows_told
 from pfplan.traces.records import WORDS
 
 Row = tuple[str, list[str]]
@@ -49,6 +50,9 @@ def rows_of(found: PlaysBeside) -> Iterator[Row]:
         yield "sources put into an overload table", [
             _numbers(side, lambda it: it.tally.overloads["added"]) for side in sides
         ]
+    effects = rows_told([[it.tally.effects for it in side] for side in sides])
+    for name, several in effects:
+        yield name, [_numbers(side, int) for side in several]
     yield "last second", [_numbers(side, lambda it: it.last) for side in sides]
 
 
@@ -194,8 +198,9 @@ def headline_of(found: PlaysBeside, at: int) -> str:
 def subject_of(found: PlaysBeside) -> str:
     """What was played, and what the words of the table mean."""
     scenario = found.scenario
+    orders = f" with {visible(found.orders)};" if found.orders else ""
     return (
-        f"{visible(scenario.name)}: {counted(scenario.seconds, 'second')}, {seeds_text(found)};"
+        f"{visible(scenario.name)}: {counted(scenario.seconds, 'second')},{orders} {seeds_text(found)};"
         f" without waiting: within {counted(scenario.wait, 'second')} of what it takes undisturbed"
     )
 

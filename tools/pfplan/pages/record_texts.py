@@ -3,7 +3,7 @@
 from collections.abc import Sequence
 
 from pfplan.answers.connections import Key
-from pfplan.traces.records import ORDERS, Record
+from pfplan.traces.records import KILL, ONWARD, ORDERS, Record
 
 WHY = {
     "state": "it belongs to a state that is held",
@@ -26,16 +26,19 @@ WHY = {
     "held": "it asks how much is held",
     "add": "an entry comes into a table",
     "delete": "an entry leaves a table",
+    "kill": "an administrator takes out states",
 }
 
 
 def why(text: str) -> str:
-    """Why a record got its answer: `drop:states @4` and so on."""
-    return WHY.get(text.partition(" ")[0], "")
+    """Why a record got its answer: `drop:states @4` and so on; of two interfaces why on each."""
+    return "; on its way out ".join(WHY.get(it.partition(" ")[0], "") for it in text.split(ONWARD))
 
 
 def record_text(record: Record) -> str:
     """A record in one line: `in em0 tcp 198.51.100.7:40001 to 192.0.2.1:80 flags S`."""
+    if record.direction == KILL:
+        return f"kill the states made by {record.source}" + (f" to {record.target}" if record.target else "")
     if record.direction in ORDERS:
         return " ".join(it for it in (record.direction, record.interface, record.source, record.source_port) if it)
     ends = f"{end_text(record.source, record.source_port)} to {end_text(record.target, record.target_port)}"

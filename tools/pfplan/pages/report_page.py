@@ -10,7 +10,7 @@ from pathlib import Path
 from typing import Protocol
 
 from pfplan.answers import timelines
-from pfplan.answers.connections import KINDS, LATE, MEANINGS
+from pfplan.answers.connections import KINDS, LATE, MEANINGS, kinds_told
 from pfplan.answers.counting import Limit
 from pfplan.answers.margins import Margins
 from pfplan.answers.sources import Source
@@ -27,7 +27,17 @@ from pfplan.pages.margin_texts import table_of as margins_table
 from pfplan.pages.margin_texts import verdict
 from pfplan.pages.markup import Child, Markup, join, tag
 from pfplan.pages.pictures import standalone
-from pfplan.pages.rule_notes import TWO_STATES, does_fill_decide, entering_of, frame_lines, note_of, skipped_lines
+from pfplan.pages.rule_notes import (
+    TWO_STATES,
+    does_fill_decide,
+    entering_of,
+    frame_lines,
+    note_of,
+    refusal_note,
+    removed_lines,
+    skipped_lines,
+    way_lines,
+)
 from pfplan.pages.summary_texts import text_of
 from pfplan.pages.timeline_pictures import FILES, Drawn, drawn_kinds
 
@@ -38,6 +48,12 @@ LIMITS_OF_A_REPLAY = (
     "refuses more than is told here.",
     "What the trace lacks is not counted: ICMP, other interfaces, sequence numbers, and states from before its first "
     "packet.",
+)
+# The last of these where rules have routes.
+OF_ROUTES = (
+    "What the trace lacks is not counted: ICMP, packets that neither come in nor leave on its interface, sequence "
+    "numbers, and states from before its first packet. The other interface of a packet is that of the routes, which "
+    "are taken to be the same all the time; a packet whose way pf changes (route-to, reply-to) leaves elsewhere."
 )
 # What is said too where a rule has `synproxy state`.
 OF_SYNPROXY = (
@@ -161,7 +177,8 @@ def page_of(summary: Summary, subject: Subject, figures: Sequence[Markup], diffe
     parts.extend(sources_parts(summary))
     parts.extend(interfaces_parts(summary))
     has_proxy = any(re.search(r"\bsynproxy state\b", it) for it in summary.rules)
-    unknown = [*LIMITS_OF_A_REPLAY, *([OF_SYNPROXY] if has_proxy else [])]
+    limits = (*LIMITS_OF_A_REPLAY[:-1], OF_ROUTES) if summary.has_routes else LIMITS_OF_A_REPLAY
+    unknown = [*limits, *([OF_SYNPROXY] if has_proxy else [])]
     unknown += [OF_SYNCOOKIES] if summary.words()["cookie"] else []
     parts.append(section("What a replay can't know", bullets(unknown), more_of(differences)))
     parts.append(tag("footer", FOOTER))
@@ -213,7 +230,9 @@ def answer_of(summary: Summary, subject: Subject) -> Markup:
     if does_fill_decide(summary):
         points.append(TWO_STATES)
     points.append(held_point(summary))
+    points.extend(way_lines(summary))
     points.extend(skipped_lines(summary))
+    points.extend(removed_lines(summary))
     points.extend(frame_lines(summary.frames) if summary.frames else ())
     doubts = [it for it in subject.leftovers if it.changes_answer]
     if doubts:
@@ -271,6 +290,7 @@ def limit_points(summary: Summary) -> Iterator[Child]:
     """The limits that were met, and when."""
     for it in summary.limits:
         killed = f"; {counted(it.killed, 'state')} killed" if it.killed else ""
+        killed = (f", {it.on_way_out:,} of them on the way out" if it.on_way_out else "") + killed
         by = "; ".join(limiting(summary, it.word)[:2])
         yield join(
             [code(it.word), f" {counted(it.records, 'time')}, {when(it, summary)}{killed}", f" ({by})" if by else ""]
@@ -362,7 +382,7 @@ def users_parts(summary: Summary) -> Iterator[Child]:
     users = summary.users
     if users is None:
         return
-    counts = {it: users.outcomes.get(it, 0) for it in KINDS}
+    counts = {it: users.outcomes.get(it, 0) for it in kinds_told(users.outcomes)}
     rows: list[Sequence[Child]] = [
         [it, f"{count:,}", "not counted" if it == LATE else share_text(count, users.counted), MEANINGS[it]]
         for it, count in counts.items()
@@ -383,7 +403,7 @@ def refusals_parts(summary: Summary, users: Users) -> Iterator[Child]:
     """By which words of which rules connections were refused, and how their sources got into a table."""
     if users.refusals:
         rows: list[Sequence[Child]] = [
-            [it.word, it.rule, note_of(summary, it.word, it.rule), f"{it.connections:,}", entering_of(summary, it)]
+            [it.word, it.rule, refusal_note(summary, it), f"{it.connections:,}", entering_of(summary, it)]
             for it in users.refusals
         ]
         yield tag("h3", "Refused by")

@@ -6,7 +6,7 @@ from collections.abc import Iterator, Sequence
 from fractions import Fraction
 
 from pfplan.answers import grids
-from pfplan.answers.connections import KINDS
+from pfplan.answers.connections import KINDS, REMOVED, kinds_told
 from pfplan.answers.measures import Measure
 from pfplan.answers.plays_measured import GAVE_UP, WAITED
 from pfplan.answers.sizes import Sizing
@@ -19,13 +19,14 @@ from pfplan.pages.markup import Child, Markup, tag
 from pfplan.pages.pictures import Across, Picture, Role, Series, Style, draw
 
 WIDTH = 25
-FATES = KINDS[1:]
+FATES = tuple(it for it in KINDS[1:] if it != REMOVED)
 PLAYED = (WAITED, GAVE_UP)
 
 
 def fates_of(found: Sizing) -> tuple[str, ...]:
     """What may become of a connection that was not served: under a trace, or in a play."""
-    return PLAYED if any(GAVE_UP in it.outcomes for it in found.measures.values()) else FATES
+    outcomes = [it.outcomes for it in found.measures.values()]
+    return PLAYED if any(GAVE_UP in it for it in outcomes) else kinds_told(*outcomes)[1:]
 
 
 def want_text(want: Fraction) -> str:

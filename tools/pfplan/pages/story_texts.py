@@ -11,14 +11,17 @@ from typing import Any
 from pfplan.answers.asking_anew import Asked, ask
 from pfplan.answers.connections import Members
 from pfplan.answers.episodes import Episode, Event, episodes, events, is_opening
+from pfplan.answers.legs import Legs, place_text, reply_of
 from pfplan.common.errors import Status, Trouble
 from pfplan.common.figures import SINCE_1970, counted, moment_text
 from pfplan.common.limits import LIMITING
+from pfplan.common.networks import network_of
 from pfplan.common.visible import visible
 from pfplan.pages.record_texts import WHY, record_text
 from pfplan.pf.origins import Origins
 from pfplan.pf.reading_canonical_text import items_of, limit_of, limit_of_all, settings_of
-from pfplan.traces.records import Record
+from pfplan.pf.routes import routes_of
+from pfplan.traces.records import KILL, ORDERS, Answer, Record
 
 MOST = 40  # runs that are told
 MOST_ASKED = 4  # of each kind of refusal the first is asked anew, up to this number of kinds
@@ -50,6 +53,7 @@ class Story:
         self._report = report
         self._items = items_of(shown)
         self._settings = settings_of(shown)
+        self._legs = Legs(routes_of(shown))
         self._origins = origins
         self._asked: set[str] = set()
         self._shown: set[str] = set()
@@ -57,10 +61,16 @@ class Story:
     def of_source(self, address: str) -> Iterator[Told]:
         """A source's story, run by run. Trouble where it has no record."""
         members = Members((ipaddress.ip_network(address),))
-        runs = episodes(events(self._trace, self._report, lambda it: members.has(it.source)))
+
+        def is_wanted(record: Record) -> bool:
+            if record.direction == KILL:
+                return ipaddress.ip_address(address) in network_of(record.source)
+            return members.has(record.source)
+
+        runs = episodes(events(self._trace, self._report, is_wanted), self._legs)
         if not runs:
             raise Trouble(f"{self._trace}: no record has the source {address}", Status.REFUSED)
-        total = sum(it.records for it in runs)
+        total = sum(it.records for it in runs if it.are_packets)
         first, last = runs[0].first.record.time, runs[-1].last
         head = Told({"source": address, "packets": total, "first_moment": first, "last_moment": last})
         head.lines.append(f"{address}: {counted(total, 'packet')}, {_when(first, last)}")
@@ -90,17 +100,19 @@ class Story:
         told = Told({"row": row, "moment": found.record.time, "record": asdict(found.record)})
         told.lines.append(f"row {row}, {_second(found.record.time)}: {visible(record_text(found.record))}")
         self._decision(found, told)
-        if found.answer.word == "block" or found.answer.word.startswith("drop:"):
+        word = found.answer.decisive.word
+        if word == "block" or word.startswith("drop:"):
             self._anew(found, told)
         return told
 
     def _run(self, run: Episode) -> Told:
         """What is told of a run of like answers."""
         first = run.first
-        when, packets = _when(first.record.time, run.last), counted(run.records, "packet")
+        unit = "packet" if run.are_packets else "record"
+        when, packets = _when(first.record.time, run.last), counted(run.records, unit)
         told = Told(
             {
-                "first_moment": first.record.time, "last_moment": run.last, "packets": run.records, "row": first.row,
+                "first_moment": first.record.time, "last_moment": run.last, f"{unit}s": run.records, "row": first.row,
                 "record": asdict(first.record),
             }
         )  # fmt: skip
@@ -108,28 +120,54 @@ class Story:
         if run.is_let_in:
             made = f", and {counted(run.made, 'state')} made" if run.made else ""
             told.facts |= {"word": "in", "states_made": run.made} | self._rule_facts(first.answer.rule)
-            told.lines.append(f"  let in by {self._rule(first.answer.rule)}{made}")
+            told.facts |= {"onward": self._rule_facts(first.answer.onward.rule)} if first.answer.onward else {}
+            rules = " and ".join(f"{self._rule(it.rule)}{where}" for it, where in self._placed(first))
+            told.lines.append(f"  let in by {rules}{made}")
             return told
         self._decision(first, told)
-        opening, word = run.opened, first.answer.word
+        opening, word = run.opened, first.answer.decisive.word
         if opening and word not in self._asked and len(self._asked) < MOST_ASKED and not word.startswith("kill:"):
             self._asked.add(word)
             self._anew(opening, told)
         return told
 
     def _decision(self, event: Event, told: Told) -> None:
-        """Tells what decided on a packet, and what went with it."""
-        answer, lines = event.answer, told.lines
+        """Tells what decided on a packet, and what went with it, on each interface that was asked."""
+        for answer, where in self._placed(event):
+            leg = Told({})
+            leg.lines += [f" {where}:"] if where else []
+            self._decision_there(answer, event.record, leg)
+            told.lines += leg.lines
+            if answer is event.answer:
+                told.facts |= leg.facts
+            else:
+                told.facts["onward"] = leg.facts
+
+    def _placed(self, event: Event) -> list[tuple[Answer, str]]:
+        """What each interface said, and which one that is, where there are two."""
+        answer, record = event.answer, event.record
+        place = (record.direction, record.interface)
+        if place[0] in ORDERS or not (answer.onward or self._legs.routes):
+            return [(answer, "")]
+        legs = self._legs.of(place, record.source, record.target, record.flags, reply_of(answer))
+        return [(it, f" {place_text(leg.place)}") for it, leg in zip(answer.legs, legs, strict=True)]
+
+    def _decision_there(self, answer: Answer, record: Record, told: Told) -> None:
+        """The same of one interface."""
+        lines = told.lines
         told.facts |= {"word": answer.word} | self._rule_facts(answer.rule)
         lines.append(f"  {answer.word}: {WHY.get(answer.word, 'the answer to a record of an administrator')}")
         if answer.rule != "-":
             lines.append(f"  by {self._rule(answer.rule)}")
-        if answer.word == "block" and not is_opening(event.record):
+        if answer.word == "block" and not is_opening(record):
             lines.append("  It belonged to no state that was held then: its connection had been refused or killed,")
             lines.append("  or its state had run out.")
         if answer.word.startswith("kill:"):
             told.facts |= {"states_killed": answer.killed, "overload": answer.overload}
             lines.append(f"  {counted(answer.killed, 'state')} killed with it; {ENTERED.get(answer.overload, '')}")
+        if answer.word == KILL:
+            told.facts["states_removed"] = answer.killed
+            lines.append(f"  {counted(answer.killed, 'state')} taken out with it")
         if answer.word in LIMITING:
             self._limits(answer.rule, answer.word, told)
 

@@ -4,14 +4,24 @@ from __future__ import annotations
 
 from collections.abc import Iterable, Iterator, Sequence
 
-from pfplan.answers.connections import KINDS, LATE, MEANINGS
+from pfplan.answers.connections import LATE, MEANINGS, kinds_told
 from pfplan.answers.counting import Limit
 from pfplan.answers.sources import Source
 from pfplan.answers.summaries import Interfaces, Summary, Users
 from pfplan.common.figures import moment_text, share_text
 from pfplan.common.limits import BY_WORD
 from pfplan.pages.doubt_texts import doubt_lines
-from pfplan.pages.rule_notes import TWO_STATES, does_fill_decide, entering_of, frame_lines, note_of, skipped_lines
+from pfplan.pages.rule_notes import (
+    TWO_STATES,
+    does_fill_decide,
+    entering_of,
+    frame_lines,
+    note_of,
+    refusal_note,
+    removed_lines,
+    skipped_lines,
+    way_lines,
+)
 from pfplan.traces.insertions import HeldCounts
 
 # rules that are named for a limit
@@ -28,7 +38,8 @@ def _lines(summary: Summary) -> Iterator[str]:
     yield from _head(summary)
     if summary.users:
         yield from _part(_users_title(summary.users), _users(summary, summary.users))
-    yield from _part("answers", _answers(summary))
+    title = "answers, of both interfaces" if summary.both else "answers"
+    yield from _part(title, _answers(summary))
     if summary.rules:
         answered = {int(rule[1:]) for rules in summary.answers.values() for rule in rules if rule != "-"}
         yield from _part("rules that answered", (_rule(summary, it) for it in sorted(answered)))
@@ -66,7 +77,9 @@ def _head(summary: Summary) -> Iterator[str]:
     yield line
     if summary.frames:
         yield from frame_lines(summary.frames)
+    yield from way_lines(summary)
     yield from skipped_lines(summary)
+    yield from removed_lines(summary)
     end = summary.end
     if end:
         yield f"held at the end: {end.states:,} states, {end.nodes:,} source nodes, {end.entries:,} table entries"
@@ -85,7 +98,7 @@ def _users_title(users: Users) -> str:
 
 
 def _users(summary: Summary, users: Users) -> Iterator[str]:
-    for kind in KINDS:
+    for kind in kinds_told(users.outcomes):
         number = users.outcomes.get(kind, 0)
         shown = " " * 8 if kind == LATE else share(number, users.counted)
         yield f"  {kind:<10} {number:>10,}  {shown}   {MEANINGS[kind]}"
@@ -100,7 +113,7 @@ def _users(summary: Summary, users: Users) -> Iterator[str]:
 def _refusals(summary: Summary, users: Users) -> Iterator[str]:
     """By which words of which rules connections were refused, and how their sources got into a table."""
     for it in users.refusals:
-        note = note_of(summary, it.word, it.rule)
+        note = refusal_note(summary, it)
         yield f"    {it.word + ' ' + it.rule.removeprefix('-'):<26} {it.connections:,}" + (f"   {note}" if note else "")
         entering = entering_of(summary, it)
         if entering:
@@ -111,7 +124,7 @@ def _answers(summary: Summary) -> Iterator[str]:
     for word, records in summary.words().items():
         if records:
             rules = "".join(f"  {rule} {number:,}" for rule, number in summary.answers[word].items() if rule != "-")
-            yield f"  {word:<36} {records:>10,}  {share(records, summary.records)}{rules}"
+            yield f"  {word:<36} {records:>10,}  {share(records, summary.records + summary.both)}{rules}"
 
 
 def _rule(summary: Summary, item: int) -> str:
@@ -127,7 +140,8 @@ def _limits(summary: Summary) -> Iterator[str]:
         return
     for limit in summary.limits:
         killed = f"; states killed: {limit.killed:,}" if limit.word.startswith("kill:") else ""
-        yield f"  {limit.word:<36} {limit.records:>10,} times, {_when(limit)}{killed}"
+        out = f"; on the way out: {limit.on_way_out:,}" if limit.on_way_out else ""
+        yield f"  {limit.word:<36} {limit.records:>10,} times, {_when(limit)}{out}{killed}"
         yield from _limiting_rules(summary, limit.word)
     if "added" in summary.overloads:
         yield f"  sources put into an overload table: {summary.overloads['added']:,}"

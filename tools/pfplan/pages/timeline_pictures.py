@@ -18,7 +18,7 @@ TITLES = {
 KEYS = {
     "held": (),
     "made": (("new", Role.NEW), ("dropped by a limit", Role.DROPPED), ("killed", Role.KILLED)),
-    "users": (("let through", Role.SERVED), ("refused", Role.REFUSED), ("killed or cut", Role.LOST)),
+    "users": (("let through", Role.SERVED), ("refused", Role.REFUSED), ("lost their state", Role.LOST)),
 }
 # the room above the greatest value
 ROOM = 1.08

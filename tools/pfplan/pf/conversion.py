@@ -2,13 +2,14 @@
 
 import re
 from collections import Counter
-from collections.abc import Sequence
-from dataclasses import dataclass, field
+from collections.abc import Mapping, Sequence
+from dataclasses import dataclass, field, replace
 from pathlib import Path
 from typing import Any
 
 from pfplan.common.errors import Status, Trouble
 from pfplan.common.inputs import check_rules, name_of
+from pfplan.common.networks import Network
 from pfplan.common.outputs import part_file
 from pfplan.pf.expansion import Expander, overloaded_tables, table_names, walk
 from pfplan.pf.interfaces import Given, Machine, read_ifconfig, shown
@@ -17,8 +18,11 @@ from pfplan.pf.lexer import printable
 from pfplan.pf.linking_anchors import Linker
 from pfplan.pf.named_files import NamedFiles, read_text
 from pfplan.pf.numbers_of_pf import Numbers, PfRule
-from pfplan.pf.profiles import Profile, is_without_profile
+from pfplan.pf.profiles import NEEDS_PROFILE, Profile, is_without_profile
+from pfplan.pf.reading_canonical_text import tables_in
+from pfplan.pf.reading_routes import routes_given
 from pfplan.pf.reading_statements import parse
+from pfplan.pf.routes import NO_ROUTES, Routes
 from pfplan.pf.statements import Place, Setting, Statement, Table
 from pfplan.pf.writing_lists import Chooser, MadeTables
 from pfplan.pf.writing_settings import Settings
@@ -53,6 +57,7 @@ class RuleOptions:
     strict: bool = False
     by_records: bool = False  # whether tables may get entries by records (traces/entries.py)
     profile: Profile | None = None
+    routes: Path | None = None  # what netstat -rn prints on the firewall
 
 
 @dataclass(frozen=True)
@@ -62,7 +67,9 @@ class Ruleset:
     The items in `skipped` stand for `set skip`, and come before all others. `limits` has the place of each limit for
     all rules. `records` are those by which tables get their entries before the first packet (traces/entries.py); the
     text names them. `pf_rules` are all rules and anchors as pf numbers them, also those that the rules text has not;
-    behind `guessed`, where that is a place, the numbers may be others.
+    behind `guessed`, where that is a place, the numbers may be others. With `routes` a packet is asked on both
+    interfaces of its way. Tables that are `loosened` are `const` in the pf.conf, and not here, as their entries come by
+    records.
     """
 
     text: str
@@ -75,6 +82,13 @@ class Ruleset:
     guessed: Place | None = None
     skipped: frozenset[int] = frozenset()
     limits: dict[str, Place] = field(default_factory=dict)
+    routes: Routes = NO_ROUTES
+    loosened: frozenset[str] = frozenset()
+
+    @property
+    def tables(self) -> dict[str, bool]:
+        """The tables that it names, and whether each is `const` in the pf.conf."""
+        return tables_in(self.text.splitlines()) | dict.fromkeys(self.loosened, True)
 
     @property
     def written(self) -> str:
@@ -166,7 +180,8 @@ def convert_text(text: str, name: str, options: RuleOptions, records: Sequence[s
     expander.expand(statements)
     _note_unused(teller, statements, linker, options)
     made = expander.chooser.tables
-    lines = [*profile.lines(), *made.lines(), *expander.lines, *expander.settings.last_lines()]
+    routes = _routes(options, expander.settings.routes, profile, teller)
+    lines = [*profile.lines(), *routes.lines(), *made.lines(), *expander.lines, *expander.settings.last_lines()]
     left, moving = _by_records(lines, expander, teller) if options.by_records else (lines, [])
     files = list(dict.fromkeys([name, *(it.file for it in teller.leftovers)]))
     leftovers = sorted(teller.leftovers, key=lambda it: (files.index(it.file), it.line))
@@ -177,6 +192,7 @@ def convert_text(text: str, name: str, options: RuleOptions, records: Sequence[s
     ruleset = Ruleset(
         whole, expander.labels, tuple(leftovers), _notes(teller, made, sources), tuple(expander.origins), tuple(moving),
         tuple(expander.numbers.found), expander.numbers.guessed, frozenset(expander.skipped), limits,
+        routes, frozenset(it for it, is_const in tables_in(lines).items() if is_const and not tables_in(left)[it]),
     )  # fmt: skip
     _check_size(name, lines, ruleset, expander.settings.limits)
     return ruleset
@@ -194,6 +210,18 @@ def _by_records(lines: Sequence[str], expander: Expander, teller: Teller) -> tup
         )
     left, records = moved(lines, moving)
     return ([mark_of(records), *left], records) if records else (left, records)
+
+
+def with_routes(ruleset: Ruleset, routes: Routes, note: str) -> Ruleset:
+    """A ruleset with routes, behind the line of the profile, and a note that says whose they are; the ruleset itself
+    where there are none, or its text has no such line."""
+    lines = ruleset.text.splitlines()
+    profile = Profile.OPENBSD.lines()[0]
+    if not routes or profile not in lines:
+        return ruleset
+    at = lines.index(profile) + 1
+    text = "".join(f"{it}\n" for it in (*lines[:at], *routes.lines(), *lines[at:]))
+    return replace(ruleset, text=text, routes=routes, notes=(*ruleset.notes, note))
 
 
 def write_rules(path: Path, ruleset: Ruleset) -> None:
@@ -249,6 +277,21 @@ def _machine(options: RuleOptions) -> Machine:
     for group, interface in options.interfaces:
         machine.members_given.setdefault(group, []).append(interface)
     return machine
+
+
+def _routes(
+    options: RuleOptions, in_text: Mapping[Network, str], profile: Profile, teller: Teller
+) -> Routes:
+    """The routes of the file that was given, else those of the text. Trouble with status 3 where the profile has
+    none."""
+    if options.routes is None:
+        return Routes(in_text)
+    if profile is not Profile.OPENBSD:
+        raise Trouble(f"--routes {options.routes}: {NEEDS_PROFILE}", Status.RULES)
+    found = routes_given(options.routes, machine_of(options.ifconfig))
+    for it in (*found.notes, *(["the routes of the text are replaced by those of --routes"] if in_text else [])):
+        teller.note(it)
+    return found.routes
 
 
 def _note_unused(teller: Teller, statements: list[Statement], linker: Linker, options: RuleOptions) -> None:

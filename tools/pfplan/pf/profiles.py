@@ -23,6 +23,8 @@ class Profile(enum.Enum):
         return "pfsrc answers as a machine of its own, which differs more from pf: the rules have no line set profile."
 
 
+NEEDS_PROFILE = f"both interfaces of a packet are asked by the profile {Profile.OPENBSD.value} alone (--profile)"
+
 # what stands in no rules text but one that `./pfsrc show` printed: all limits, and all timeouts, in its order
 _CANONICAL = re.compile(
     r"set limit \{ states \d+, src-nodes \d+, tables \d+, table-entries \d+ \}\n"

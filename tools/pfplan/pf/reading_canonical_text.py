@@ -7,6 +7,7 @@ from dataclasses import dataclass, field
 
 from pfplan.common.limits import BY_WORD, OF_RULES
 from pfplan.pf.profiles import Profile, profile_of
+from pfplan.pf.routes import NO_ROUTES, Routes, routes_of
 
 _LOOPBACK = re.compile(r"lo[0-9]*|any")
 _TABLE = re.compile(r"<([A-Za-z0-9_.-]+)>")
@@ -39,6 +40,15 @@ def interfaces_of(items: Sequence[str], skipped: Collection[int] = ()) -> set[st
     return {it for it in found if not it.startswith("!") and not _LOOPBACK.fullmatch(it)}
 
 
+def forwarding_in(items: Sequence[str], seen: Collection[str], skipped: Collection[int] = ()) -> list[str]:
+    """The interfaces of rules that let packets through, but for loopback and those of which records were seen: what
+    goes through there is forwarded, or of another network."""
+    if not seen:
+        return []
+    passing = {number for number, text in enumerate(items) if text.startswith("pass ")}
+    return sorted(interfaces_of(items, set(range(len(items))) - passing | set(skipped)) - set(seen))
+
+
 def overload_of(text: str) -> Overload | None:
     """The overload of a rule's text, or None."""
     found = _OVERLOAD.search(text)
@@ -50,6 +60,17 @@ def tables_of(text: str) -> list[str]:
     return list(dict.fromkeys(_TABLE.findall(_OVERLOAD.sub("", text))))
 
 
+def tables_in(lines: Sequence[str]) -> dict[str, bool]:
+    """The tables that a text names, in any place, and whether each is `const`. The lines are as pfsrc shows them, or as
+    they are written of a pf.conf."""
+    found: dict[str, bool] = {}
+    for line in lines:
+        head = line.partition("{")[0] if line.startswith("table <") else ""
+        for it in _TABLE.findall(head or line if not line.startswith("#") else ""):
+            found[it] = found.get(it, False) or "const" in head.split()
+    return found
+
+
 @dataclass(frozen=True, slots=True)
 class Flushes:
     """What kills take besides the state past a limit: the rules with `flush`, by `@N`, and whether it is `flush
@@ -57,17 +78,19 @@ class Flushes:
 
     Of a source they take the states that it made. As pf has it they `go_by_ends`: of a state made by a packet in, they
     take those of which the source is the end from which packets come in; of one made by a packet out, the other end.
+    With `routes` either may be the state of one of a packet's two interfaces.
     """
 
     rules: Mapping[str, bool] = field(default_factory=dict)
     go_by_ends: bool = False
+    routes: Routes = NO_ROUTES
 
 
 def flushes_of(shown: Sequence[str]) -> Flushes:
     """What kills flush by a canonical text."""
     found = {f"@{number}": overload_of(text) for number, text in enumerate(items_of(shown))}
     rules = {rule: it.is_global for rule, it in found.items() if it is not None and it.flushes}
-    return Flushes(rules, profile_of(shown) is Profile.OPENBSD)
+    return Flushes(rules, profile_of(shown) is Profile.OPENBSD, routes_of(shown))
 
 
 def limit_of(text: str, word: str) -> str:

@@ -8,7 +8,9 @@ from pathlib import Path
 
 from pfplan.common.errors import Status, Trouble
 from pfplan.common.limits import OF_ALL
+from pfplan.common.networks import Network, interface_name
 from pfplan.pf.cursor import DEEPEST_LIST, Cursor
+from pfplan.pf.interfaces import prefix_of
 from pfplan.pf.lexer import Kind, Lexer, Token, printable, trouble
 from pfplan.pf.named_files import NamedFiles, read_text
 from pfplan.pf.profiles import Profile
@@ -51,6 +53,7 @@ SETTINGS = (
     "reassemble", "debug", "loginterface", "fingerprints", "hostid", "ruleset-optimization", "require-order",
     "keepcounters", "fail-policy",
 )  # fmt: skip
+OF_RULES_TEXTS = ("profile", "route")  # no pf.conf has them
 OLD = (
     "nat", "rdr", "binat", "no", "scrub", "altq", "nat-anchor", "rdr-anchor", "binat-anchor", "scrub-anchor",
     "dummynet-anchor", "dummynet", "ether",
@@ -294,18 +297,21 @@ class Parser:
 
     def _set(self, place: Place) -> Setting:
         self.at.take()
-        name = self.at.take_word("profile") or self.at.want_word(*SETTINGS)
+        name = self.at.take_word(*OF_RULES_TEXTS) or self.at.want_word(*SETTINGS)
         pairs: tuple[tuple[str, int], ...] = ()
         options: list[StateOption] = []
         interfaces: tuple[str, ...] = ()
+        routes: tuple[tuple[Network, str], ...] = ()
         value = ""
         mark = self.at.mark()
         if name in ("limit", "timeout"):
             pairs = self._pairs(self._limit if name == "limit" else self._timeout)
         elif name == "optimization":
             value = self.at.want_word(*OPTIMIZATIONS)
-        elif name == "profile":  # of a rules text alone
+        elif name == "profile":
             value = self.at.want_word(Profile.OPENBSD.value)
+        elif name == "route":
+            routes = self.at.listed(self._route)
         elif name == "skip":
             self.at.want_word("on")
             interfaces = self.at.listed(self._skipped)
@@ -326,7 +332,19 @@ class Parser:
         if not self.at.is_end():
             raise self.at.wanted("the end of the line")
         self.at.take()
-        return Setting(place, text, name, pairs, tuple(options), value, interfaces)
+        return Setting(place, text, name, pairs, tuple(options), value, interfaces, routes)
+
+    def _route(self) -> tuple[Network, str]:
+        """A prefix, and the interface by which packets to it leave."""
+        token = self.at.token
+        host = self.filters.address(False)
+        network = prefix_of(host.text, host.length) if host.kind is HostKind.NAME else None
+        if network is None:
+            raise trouble(token, f"{token.shown()}: wanted a prefix")
+        try:
+            return network, interface_name(self.at.want_name("an interface"))
+        except ValueError as error:
+            raise trouble(token, str(error)) from None
 
     def _syncookies(self) -> str:
         """When cookies are given, as a canonical text writes it. Shares are whole percentages of `states`."""

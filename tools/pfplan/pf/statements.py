@@ -3,6 +3,8 @@
 import enum
 from dataclasses import dataclass, field
 
+from pfplan.common.networks import Network
+
 
 @dataclass(frozen=True)
 class Place:
@@ -135,13 +137,14 @@ class Statement:
 @dataclass(frozen=True)
 class Setting(Statement):
     """`set`: its name, the pairs of `limit` and `timeout`, the options of `state-defaults`, the interfaces of `skip`,
-    or what else stands there."""
+    the prefixes and interfaces of `route`, or what else stands there."""
 
     name: str
     pairs: tuple[tuple[str, int], ...] = ()
     options: tuple[StateOption, ...] = ()
     value: str = ""
     interfaces: tuple[str, ...] = ()
+    routes: tuple[tuple[Network, str], ...] = ()
 
 
 @dataclass(frozen=True)

@@ -3,8 +3,11 @@
 from collections.abc import Iterable
 from dataclasses import dataclass, field
 
+from pfplan.common.errors import Status, Trouble
+from pfplan.common.networks import Network
 from pfplan.pf.left_out import OTHER_STATES, Reason, Teller, harmless, telling
-from pfplan.pf.profiles import Profile
+from pfplan.pf.lexer import printable
+from pfplan.pf.profiles import NEEDS_PROFILE, Profile
 from pfplan.pf.reading_filters import TIMEOUTS_FOR_NOTHING
 from pfplan.pf.reading_statements import LIMITS
 from pfplan.pf.statements import Setting, State, StateOption
@@ -32,13 +35,14 @@ MOST_TABLES, MOST_ENTRIES = 1000, 200000  # what pf and pfsrc have where nothing
 
 @dataclass
 class Settings:
-    """Writes settings, and keeps the limits that they set, and the block policy of the rules behind. The profile is
-    written by who makes the text."""
+    """Writes settings, and keeps the limits and the routes that they set, and the block policy of the rules behind.
+    Profile and routes are written by who makes the text."""
 
     teller: Teller
     profile: Profile = Profile.OPENBSD
     limits: dict[str, int] = field(default_factory=lambda: {"tables": MOST_TABLES, "table-entries": MOST_ENTRIES})
     block_policy: str = "drop"
+    routes: dict[Network, str] = field(default_factory=dict)
     _adaptive: dict[str, int] = field(default_factory=dict)
     _is_adaptive_fit: bool = True
 
@@ -71,6 +75,9 @@ class Settings:
         if setting.name == "block-policy":
             self.block_policy = setting.value
             return []
+        if setting.name == "route":
+            self._take_routes(setting)
+            return []
         if setting.name == "limit":
             return self._limits(setting)
         if setting.name == "timeout":
@@ -82,6 +89,13 @@ class Settings:
         if setting.name not in ("profile", "state-defaults", "skip"):
             self.teller.tell_whole(setting, self._reason(setting))
         return []
+
+    def _take_routes(self, setting: Setting) -> None:
+        """Notes routes. Trouble with status 3 where the profile has none."""
+        if self.profile is not Profile.OPENBSD:
+            place = f"{printable(setting.place.file)}: line {setting.place.line}"
+            raise Trouble(f"{place}: set route: {NEEDS_PROFILE}", Status.RULES)
+        self.routes.update(setting.routes)
 
     def _reason(self, setting: Setting) -> Reason:
         if setting.name == "state-policy":

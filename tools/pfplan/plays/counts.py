@@ -8,6 +8,7 @@ from dataclasses import dataclass, field
 from pfplan.plays.listeners import Listener
 from pfplan.plays.model import Group
 from pfplan.plays.worlds import SLOTS, Fate
+from pfplan.traces.orders import Effects
 from pfplan.traces.records import read_held
 
 
@@ -110,12 +111,14 @@ class Fill:
 @dataclass
 class Tally:
     """What a play comes to: the groups in the scenario's order, and what was held: of each `step` seconds the moment at
-    which the most states were. `listeners` are those of the servers, where these have a backlog."""
+    which the most states were. `listeners` are those of the servers, where these have a backlog; `effects` are what
+    records of an administrator did."""
 
     counts: list[Count]
     step: int = 1
     listeners: list[Listener] = field(default_factory=list)
     fills: list[Fill] = field(default_factory=list)
+    effects: Effects = field(default_factory=Effects)
 
     def hear_held(self, moment: int, line: str) -> None:
         """So much is held at the end of a second, as a line of the report says."""

@@ -40,6 +40,7 @@ class Flow:
         "_caller",
         "_count",
         "_is_acknowledged",
+        "_is_routed",
         "_round_trip",
         "_server",
         "_there",
@@ -59,6 +60,7 @@ class Flow:
         self._answer, self._round_trip = delays
         self._server = Server(world, self, way.listener)
         self._is_acknowledged = False
+        self._is_routed = way.is_routed
         self.port = port
 
     def send(self, flags: str, number: int) -> None:
@@ -88,7 +90,7 @@ class Flow:
             return
         if fate.is_taken:
             self._count.passed += 1
-            self._take(packet[1])
+            self._take(packet[1], fate.own)
             return
         self._count.refuse(fate, world.now)
         self._caller.lose()
@@ -110,20 +112,24 @@ class Flow:
         if fate.resets:
             world.at(world.now + self._answer, self._server.hear, (self, "R", 0))
 
-    def _take(self, flags: str) -> None:
+    def _take(self, flags: str, own: Fate | None) -> None:
         """pf has taken a packet of the host: it answers a SYN. Once the host has acknowledged that, it sends a SYN to
-        the server, again at each packet of the host, until the server has answered."""
+        the server, again at each packet of the host, until the server has answered. `own` is what became of that SYN,
+        where the firewall has routes."""
         world = self._world
         if flags == "S":
             if not self._is_acknowledged:
                 world.at(world.now + self._round_trip, self._caller.hear, (self, SHUT, 0))
             return
         self._is_acknowledged = self._is_acknowledged or flags in ("A", "PA")
-        if self._is_acknowledged:
+        if own is not None:
+            self._hear_fate_of_pf((self, "S", 0), own)
+        elif self._is_acknowledged and not self._is_routed:
             self._send_of_pf("S")
 
     def _send_of_pf(self, flags: str) -> None:
-        """A packet of pf's own to the server, which is asked where it leaves."""
+        """A packet of pf's own to the server, which is asked where it leaves, unless the firewall has routes: then it
+        has asked of each SYN itself."""
         packet = (self, flags, 0)
         if len(self._there) > 1:
             self._world.ask_once(f"{self._there[1]}{flags}\n", self._hear_fate_of_pf, packet)

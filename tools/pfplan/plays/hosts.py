@@ -3,6 +3,7 @@
 import ipaddress
 
 from pfplan.common.networks import Network
+from pfplan.pf.routes import NO_ROUTES, Routes
 from pfplan.plays.listeners import Listener
 from pfplan.plays.model import Endpoint, Forward
 from pfplan.plays.reading import room
@@ -67,19 +68,33 @@ class Hosts:
 
 
 class Way:
-    """The way between the hosts of a group and a server: the interfaces that its packets are asked on, one or two."""
+    """The way between the hosts of a group and a server: the interfaces that its packets are asked on, one or two.
+
+    Where the firewall has routes, it asks the second one by itself: a packet then has one record, where it comes in.
+    """
 
     def __init__(
-        self, forward: Forward, interface: str, server: Endpoint, protocol: str, listener: Listener | None = None
+        self,
+        forward: Forward,
+        interface: str,
+        server: Endpoint,
+        protocol: str,
+        listener: Listener | None = None,
+        routes: Routes = NO_ROUTES,
     ) -> None:
         """`listener` is the server's, where it has a backlog."""
+        self.is_routed = bool(routes)
         onward = forward.next(interface, server.address)
+        if self.is_routed:
+            onward = "" if routes.is_local(str(server.address)) else routes.to(str(server.address))
         end = f"{server.address},{server.port}"
         self._in = (f",in,{interface},{protocol},", f",{end},")
-        self.answers_to = f",out,{interface},{protocol},{end},"
         self._in_behind = f",out,{onward},{protocol},"
         self._out_behind = f",in,{onward},{protocol},{end},"
-        self.is_forwarded = bool(onward)
+        self.answers_to = f",out,{interface},{protocol},{end},"
+        if self.is_routed and onward:
+            self.answers_to = self._out_behind
+        self.is_forwarded = bool(onward) and not self.is_routed
         self.listener = listener
 
     def there(self, host: str, port: int) -> tuple[str, ...]:

@@ -18,6 +18,7 @@ from types import TracebackType
 from pfplan.common.errors import Status, Trouble
 from pfplan.common.outputs import part_file
 from pfplan.common.progress import Progress
+from pfplan.pf.routes import NO_ROUTES, Routes
 from pfplan.plays.counts import Tally
 from pfplan.plays.firewalls import Kept, Pfsrc, Writer
 from pfplan.plays.model import Scenario
@@ -31,7 +32,8 @@ GRACE = 5
 
 @dataclass(frozen=True)
 class Task:
-    """A scenario under a rules text. `entries` are records by which its tables get theirs (traces/entries.py).
+    """A scenario under a rules text. `entries` are records by which its tables get theirs (traces/entries.py), `routes`
+    those of the text, and `orders` records of an administrator.
 
     The trace that comes of it and its report are kept where they have a name.
     """
@@ -42,6 +44,8 @@ class Task:
     entries: Sequence[str] = ()
     trace: Path | None = None
     report: Path | None = None
+    routes: Routes = NO_ROUTES
+    orders: Sequence[str] = ()
 
 
 @dataclass(frozen=True)
@@ -79,11 +83,11 @@ def play(task: Task, hear: Callable[[int], None] | None = None) -> Played:
 
     with _named(task.rules), contextlib.ExitStack() as stack:
         trace, report = (stack.enter_context(_kept(it)) for it in (task.trace, task.report))
-        traces = stack.enter_context(traces_of(task.scenario))
+        traces = stack.enter_context(traces_of(task.scenario, task.routes))
         firewall = stack.enter_context(Pfsrc(task.rules, Kept(trace, report)))
         stack.enter_context(seldom_collected())
-        game = Play(task.scenario, firewall, task.returning, traces)
-        end = game.run(at, task.entries)
+        game = Play(task.scenario, firewall, task.returning, traces, routes=task.routes)
+        end = game.run(at, task.entries, task.orders)
     return Played(task.scenario, game.tally, end, last)
 
 

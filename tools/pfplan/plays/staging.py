@@ -11,6 +11,7 @@ from random import Random
 
 from pfplan.common.inputs import Kind, check_readable, kind_of
 from pfplan.common.outputs import part_file
+from pfplan.pf.routes import NO_ROUTES, Routes
 from pfplan.plays.askers import Manner, Question
 from pfplan.plays.clients import Client, Crew, Habit, Visitor
 from pfplan.plays.counts import Count, Tally
@@ -26,6 +27,7 @@ from pfplan.plays.worlds import SLOTS, Asking, Emitter, World, slots_of
 from pfplan.traces.captures import Seen, make_trace
 from pfplan.traces.moments import step_of
 from pfplan.traces.records import End
+from pfplan.traces.ways import take_ways
 
 
 class Play:
@@ -41,12 +43,14 @@ class Play:
         returning: Mapping[int, Answer],
         traces: Mapping[str, Path],
         is_plain: bool = False,
+        routes: Routes = NO_ROUTES,
     ) -> None:
         """`returning` says what rules that block tell the sender, `traces` where the trace of each group of that
-        kind is."""
+        kind is, and `routes` are those of the firewall, which with some asks both interfaces of a packet itself."""
         self._scenario = scenario
         self._traces = traces
         self._is_plain = is_plain
+        self._routes = routes
         self._answer = slots_of(scenario.answer)
         self._world = World(firewall, returning, self._lookahead(), scenario.seconds)
         self._hosts = Hosts()
@@ -62,20 +66,22 @@ class Play:
 
         What is forwarded is asked twice in its slot, so slots are asked one by one.
         """
-        if self._scenario.forward:
+        if self._scenario.forward and not self._routes:
             return 1
         return min([self._answer, *(slots_of(it.round_trip) for it in self._scenario.groups)])
 
-    def run(self, hear: Callable[[int], None], entries: Sequence[str] = ()) -> End:
+    def run(self, hear: Callable[[int], None], entries: Sequence[str] = (), orders: Sequence[str] = ()) -> End:
         """Plays to the end.
 
-        `hear` hears of the seconds; `entries` are records by which tables get theirs. Trouble as the firewall's.
+        `hear` hears of the seconds; `entries` are records by which tables get theirs, and `orders` those of an
+        administrator that come at their moments. Trouble as the firewall's.
         """
         self._world.put(entries)
         for count in self.tally.counts:
             self._begin(count)
         asking = None if self._is_plain else Asking(self.tally.step, self.tally.hear_held)
-        end = self._world.run(self._emitters, hear, asking)
+        end = self._world.run(self._emitters, hear, asking, orders)
+        self.tally.effects = self._world.effects
         for it in self._layers:
             it.end()
         return end
@@ -112,7 +118,9 @@ class Play:
 
     def _ways(self, group: Group, protocol: str) -> tuple[Way, ...]:
         forward, listeners = self._scenario.forward, self._listeners if protocol == "tcp" else {}
-        return tuple(Way(forward, group.interface, it, protocol, listeners.get(it)) for it in group.to)
+        return tuple(
+            Way(forward, group.interface, it, protocol, listeners.get(it), self._routes) for it in group.to
+        )
 
     def _random(self, group: Group) -> Random:
         """Numbers of the group's own, so that they are the same whatever others do.
@@ -183,8 +191,9 @@ def _moments(group: Visits, first: int, last: int, random: Random) -> Iterator[t
 
 
 @contextlib.contextmanager
-def traces_of(scenario: Scenario) -> Iterator[dict[str, Path]]:
-    """The traces of the groups that are laid over a play; those of captures are made for it.
+def traces_of(scenario: Scenario, routes: Routes = NO_ROUTES) -> Iterator[dict[str, Path]]:
+    """The traces of the groups that are laid over a play; those of captures are made for it. With routes each packet
+    has one record in them.
 
     Trouble where a file can't be read, or a record of it is none.
     """
@@ -203,4 +212,14 @@ def traces_of(scenario: Scenario) -> Iterator[dict[str, Path]]:
                     account = make_trace([it.file], [Seen(it.interface, (), it.inside)], out, is_zero=True)
                 for line in account:
                     print(f"{it.name}: {line}", file=sys.stderr)
+            if routes:
+                found[it.name] = _ways_of(it.name, found[it.name], routes, Path(folder))
         yield found
+
+
+def _ways_of(name: str, trace: Path, routes: Routes, folder: Path) -> Path:
+    """The trace of a group without the records of packets that came in on another interface of it."""
+    taken = take_ways(trace, routes, folder / f"{name}.ways")
+    for line in taken.notes():
+        print(f"{name}: {line}", file=sys.stderr)
+    return folder / f"{name}.ways" if taken.left_out else trace

@@ -7,7 +7,8 @@ by when its packets are at the firewall: what it does at slot 100 is what it sen
 """
 
 import heapq
-from collections.abc import Callable, Mapping, Sequence
+from collections import deque
+from collections.abc import Callable, Iterator, Mapping, Sequence
 from dataclasses import dataclass
 from operator import itemgetter
 from typing import Any, Protocol
@@ -15,7 +16,8 @@ from typing import Any, Protocol
 from pfplan.common.errors import Status, Trouble
 from pfplan.plays.firewalls import Firewall
 from pfplan.plays.returning import DROP, Answer
-from pfplan.traces.records import End
+from pfplan.traces.orders import Effects
+from pfplan.traces.records import ONWARD, PASSING, End
 
 SLOTS = 100  # in a second
 # Fates that are remembered by their texts.
@@ -35,6 +37,7 @@ class Fate:
     killed: int = 0  # states that were killed with it
     overload: str = ""  # what a kill did to the overload table
     is_taken: bool = False  # by pf itself, which leads the handshake (`synproxy state`, or by a SYN cookie)
+    own: "Fate | None" = None  # of the SYN that pf then sent to the server, where the firewall has routes
 
 
 # hears the fate of a packet, and what it was sent for
@@ -76,6 +79,13 @@ def slots_of(milliseconds: int) -> int:
     return max(1, -(-milliseconds * SLOTS // 1000))
 
 
+def _moments_of(asking: Asking, second: int, following: int) -> Iterator[int]:
+    """When it is asked how much is held from the end of a second on, before a following one."""
+    if second >= 0:
+        yield second
+    yield from range((second // asking.step + 1) * asking.step, following, asking.step)
+
+
 class World:
     """The calendar, the packets that wait to be asked, and the firewall.
 
@@ -100,6 +110,8 @@ class World:
         # how many digits the number of a row has, with its space, and the first row that has more
         self._width, self._wider = 2, 10
         self._known: dict[str, Fate] = {}
+        self._orders: deque[tuple[int, str]] = deque()
+        self.effects = Effects()
 
     def at(self, slot: int, call: Callable[[Any], None], argument: Any) -> None:
         """Has something done in a slot from now on."""
@@ -156,23 +168,34 @@ class World:
         else:
             behind[1](behind[2], fate)
 
-    def run(self, emitters: Sequence[Emitter], hear: Callable[[int], None], asking: Asking | None) -> End:
+    def run(
+        self,
+        emitters: Sequence[Emitter],
+        hear: Callable[[int], None],
+        asking: Asking | None,
+        orders: Sequence[str] = (),
+    ) -> End:
         """Runs to the end: to the last second of the scenario, and then until all that is going is over.
 
-        `hear` hears of each second in which something happens.
+        `hear` hears of each second in which something happens. `orders` are records of an administrator, whose moments
+        do not fall: each comes behind all packets of its second, and `effects` counts what they do.
         """
+        self._orders = deque((int(it.partition(",")[0]), it) for it in orders)
         for number, it in enumerate(emitters):
             self._post(number, it, 0)
         second, slot = -1, self._next()
         while slot is not None and (slot < self._last or self.going):
             if slot // SLOTS != second:
-                self._ask_held(asking, second, slot // SLOTS)
+                self._pass(asking, second, slot // SLOTS)
                 second = slot // SLOTS
                 hear(second)
             end = min(slot + self._lookahead, (second + 1) * SLOTS)
             self._window(str(second), end if slot >= self._last else min(end, self._last))
             slot = self._next()
-        self._ask_held(asking, second, max(second + 1, self._last // SLOTS))
+        end = max(second + 1, self._last // SLOTS)
+        self._pass(asking, second, end)
+        if self._orders:
+            self._pass(None, end, self._orders[-1][0] + 1)
         return self._firewall.end()
 
     def _post(self, number: int, emitter: Emitter, slot: int) -> None:
@@ -195,18 +218,24 @@ class World:
             heapq.heappop(self._slots)
         return self._slots[0] if self._slots else None
 
-    def _ask_held(self, asking: Asking | None, second: int, following: int) -> None:
-        """Asks how much is held at the end of a second, and every so many seconds up to a following one."""
-        if asking is None:
+    def _pass(self, asking: Asking | None, second: int, following: int) -> None:
+        """What comes at the end of a second, and before a following one: the records of an administrator, and behind
+        those of its moment the question how much is held, at the end of the second and then every so many."""
+        moments = [] if asking is None else list(_moments_of(asking, second, following))
+        texts = [(it, True, f"{it}{HELD}") for it in moments]
+        while self._orders and self._orders[0][0] < following:
+            moment, line = self._orders.popleft()
+            texts.append((moment, False, f"{line}\n"))
+        if not texts:
             return
-        marks = range((second // asking.step + 1) * asking.step, following, asking.step)
-        moments = [*([second] if second >= 0 else []), *marks]
-        if not moments:
-            return
-        lines = self._firewall.decide([f"{it}{HELD}" for it in moments])
-        self.rows += len(moments)
-        for moment, line in zip(moments, lines):
-            asking.hear(moment, line)
+        texts.sort(key=itemgetter(0, 1))
+        lines = self._firewall.decide([it for _, _, it in texts])
+        self.rows += len(texts)
+        for (moment, is_question, _), line in zip(texts, lines):
+            if not is_question:
+                self.effects.take([line.partition(" ")[2]])
+            elif asking is not None:
+                asking.hear(moment, line)
 
     def _window(self, second: str, end: int) -> None:
         """Lets happen what does in the slots of one second below `end`, and asks the packets of them."""
@@ -274,8 +303,13 @@ class World:
         return found
 
     def _fate(self, text: str) -> Fate:
-        """Reads it."""
-        word, _, rest = text.partition(" ")
+        """Reads it: what the interface said on which the packet leaves, unless it was let through there."""
+        first, _, second = text.partition(ONWARD)
+        word, _, rest = first.partition(" ")
+        if word == "proxy" and second:
+            return Fate(word, False, False, False, text, is_taken=True, own=self._fate(second))
+        if second.partition(" ")[0] not in ("", *PASSING):
+            word, _, rest = second.partition(" ")
         if word in ("state", "new", "pass", "skip"):
             return Fate(word, True, False, False, text)
         if word in ("proxy", "cookie"):

@@ -61,6 +61,10 @@ class State:
         """A record of a packet of it, without flags."""
         return f"{moment},in,em9,{self.protocol},{','.join((*self.inner, *self.outer))},"
 
+    def destination(self) -> str:
+        """The address to which the packet that made it went."""
+        return self.outer[0] if self.inner[0] == self.source else self.inner[0]
+
 
 @dataclass
 class Connection:
@@ -117,6 +121,10 @@ class Reading:
         """Each connection of a user: protocol and ends with who began it first, the row of its first packet, and its
         fate."""
         for row, (record, text) in enumerate(zip(records, texts, strict=True), 1):
+            if record.split(",")[1] == "kill":
+                self.last = int(record.split(",")[0])
+                self.take_out(record.split(","), int(text.partition("killed=")[2]), records[: row - 1])
+                continue
             packet = packet_of(row, record, text)
             self.last = packet.moment
             if packet.word != "skip":
@@ -163,7 +171,7 @@ class Reading:
             return
         connection.seen = packet.moment
         is_again = packet.protocol == "tcp" and packet.opens() and packet.source == connection.packets[0].source
-        if connection.fate in ("killed", "cut") and is_again and packet.word not in BLOCKED:
+        if connection.fate in ("killed", "cut", "removed") and is_again and packet.word not in BLOCKED:
             # it is tried again: what counts begins anew
             connection.fate, connection.packets, connection.cookie = "", [packet], None
             connection.plainly(packet)
@@ -211,18 +219,37 @@ class Reading:
                 if it not in mine and self.is_beside(it, packet) and (flush == "global" or it.rule == packet.rule)
             ]
         assert len(gone) == packet.killed, (packet, gone)
+        self.lose(gone, "killed")
+
+    def take_out(self, column: list[str], count: int, before: list[str]) -> None:
+        """An administrator's kill of states, by who made them and for whom."""
+        gone = [
+            it
+            for it in self.held(int(column[0]), before)
+            if is_in(it.source, column[4]) and (not column[6] or is_in(it.destination(), column[6]))
+        ]
+        assert len(gone) == count, (column, gone)
+        self.lose(gone, "removed")
+
+    def lose(self, gone: list[State], fate: str) -> None:
+        """States are gone, and connections that had one and go on have this fate."""
         self.states = [it for it in self.states if it not in gone]
         for connection in self.connections:
             protocol, ends = connection.packets[0].protocol, connection.ends()
             is_hit = any(it.protocol == protocol and {it.inner, it.outer} == ends for it in gone)
             if is_hit and not connection.fate and not is_refused(connection.packets):
-                connection.fate = "killed"
+                connection.fate = fate
 
     def is_beside(self, state: State, packet: Packet) -> bool:
         """Whether a flush at this packet may take a state: one that the packet's source made; in pf one whose end on
         the side from which the packet came is that source."""
         end = state.inner if packet.place[0] == "in" else state.outer
         return end[0] == packet.source[0] if self.is_of_pf else state.source == packet.source[0]
+
+
+def is_in(address: str, network: str) -> bool:
+    """Whether a network has an address."""
+    return ipaddress.ip_address(address) in ipaddress.ip_network(network, strict=False)
 
 
 def packet_of(row: int, record: str, text: str) -> Packet:
@@ -244,7 +271,7 @@ def is_another(connection: Connection, packet: Packet) -> bool:
     if packet.protocol != "tcp":
         return packet.word != "state" and packet.moment - connection.seen >= 240
     packets, fate = connection.packets, connection.fate
-    if fate not in ("", "killed", "cut") or packet.moment - connection.seen >= 240:
+    if fate not in ("", "killed", "cut", "removed") or packet.moment - connection.seen >= 240:
         return True
     if fate and packet.source != packets[0].source:
         return True

@@ -31,6 +31,10 @@ USERS = (
     ["2001:db8::/64", "198.51.100.2/32"],
 )
 PORTS = ("80", "22", "25")
+# whose states an administrator takes out, or those to whom
+MAKERS = (
+    "198.51.100.1", "198.51.100.2", "198.51.100.9/24", "192.0.2.0/24", "203.0.113.5", "0.0.0.0/0", "2001:DB8::/31"
+)  # fmt: skip
 BRIEF = (
     "set timeout { tcp.first 3, tcp.opening 2, tcp.established 6, tcp.finwait 2, tcp.closed 1, udp.first 2, "
     "udp.single 2, udp.multiple 3, interval 1 }"
@@ -93,6 +97,16 @@ class Drawer:
         records = [it for _ in range(self.random.randint(4, 24)) for it in self.session()]
         found = [record for _, record in sorted(records, key=lambda it: it[0])]
         return found[: self.random.randint(1, len(found))] if found and self.chance(0.3) else found
+
+    def with_kills(self, records: list[str], seed: int) -> list[str]:
+        """The records, with some by which an administrator takes out states. What else is drawn stays the same."""
+        draw, found = random.Random(f"{seed} kills"), list[str]()
+        for it in records:
+            found.append(it)
+            if seed % 3 == 0 and draw.random() < 0.1:
+                ends = f"{draw.choice(MAKERS)},,{draw.choice(('', '', *MAKERS))}"
+                found.append(f"{it.partition(',')[0]},kill,,,{ends},,")
+        return found
 
     def session(self) -> Iterator[tuple[int, str]]:
         """A connection: who begins it, an answer, packets, and maybe an end; some of it may be missing, repeated, or
@@ -159,7 +173,7 @@ class Fates(FolderCase):
         if count >= 300:
             self.assertEqual(
                 {kind for kind, number in seen.items() if number > 9},
-                {"served", "unanswered", "refused", "killed", "cut", "late"},
+                {"served", "unanswered", "refused", "killed", "cut", "removed", "late"},
                 seen,
             )
 
@@ -185,7 +199,7 @@ class Fates(FolderCase):
             text = re.sub("keep state", lambda _: drawer.random.choice(("keep state", "synproxy state")), text)
         if seed % 8 in (3, 5):
             text += drawer.random.choice(("set syncookies always\n", "set syncookies adaptive (start 1%, end 0%)\n"))
-        records = drawer.trace()
+        records = drawer.with_kills(drawer.trace(), seed)
         users = drawer.random.choice(USERS)
         rules, trace, report = self.write("rules", text), self.trace(records), self.folder / "report"
         lines = self.replay(rules, records, report)

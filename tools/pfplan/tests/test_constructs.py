@@ -17,6 +17,7 @@ from pathlib import Path
 
 from pfplan.__main__ import main
 from pfplan.common.repository import TOP, program
+from pfplan.tests.routed import environment
 
 HERE = Path(__file__).resolve().parent
 TEXTS = HERE / "constructs"
@@ -88,7 +89,8 @@ class Constructs(unittest.TestCase):
             with self.subTest(case.name), tempfile.NamedTemporaryFile("w") as file:
                 file.write(case.rules)
                 file.flush()
-                ended = subprocess.run([program(), "check", file.name], capture_output=True, text=True, check=False)
+                name = environment().get("PFSRC", program()) if "set route" in case.rules else program()
+                ended = subprocess.run([name, "check", file.name], capture_output=True, text=True, check=False)
                 self.assertEqual((ended.returncode, ended.stderr), (0, ""))
 
     def test_again(self) -> None:

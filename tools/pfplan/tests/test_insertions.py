@@ -47,6 +47,17 @@ def drawn_records(seed: int, count: int) -> list[str]:
     return found
 
 
+def with_kills(records: Sequence[str], seed: int) -> list[str]:
+    """The records, some of which are followed by one that takes out states."""
+    draw, found = random.Random(seed), list[str]()
+    for it in records:
+        found.append(it)
+        if draw.random() < 0.05:
+            ends = f"198.51.100.{draw.randint(1, 9)}{draw.choice(('', '/30'))},,{draw.choice(('', '192.0.2.1'))}"
+            found.append(f"{it.partition(',')[0]},kill,,,{ends},,")
+    return found
+
+
 def held_by_beginnings(
     rules: Path, folder: Path, records: Sequence[str], moments: Sequence[int]
 ) -> list[tuple[int, ...]]:
@@ -152,7 +163,7 @@ class Questions(FolderCase):
         for row, record, why in (
             (50, "x,in,em0", "columns"),
             (51, "0,held,,,,,,,", "time falls"),
-            (100, "9999,kill,,,,,,,", "field 2"),
+            (100, "9999,flush,,,,,,,", "field 2"),
         ):
             trace = self.trace([*records[: row - 1], record, *records[row:]])
             with self.assertRaises(Trouble) as raised:

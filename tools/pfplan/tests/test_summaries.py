@@ -7,7 +7,8 @@ from unittest import mock
 
 from pfplan.answers import sources
 from pfplan.answers.comparisons import Asked, compare
-from pfplan.answers.connections import Connections, Refusal, Reply
+from pfplan.answers.connections import Connections, Refusal
+from pfplan.answers.legs import Reply
 from pfplan.answers.measures import measure
 from pfplan.answers.sources import Sources
 from pfplan.answers.summaries import Summary, Users, Wanted, summarize, summarize_blocks

@@ -19,7 +19,7 @@ from pfplan.pf.reading_canonical_text import flushes_of, items_of
 from pfplan.replays import runs
 from pfplan.replays.runs import replayed, show_rules, stream_texts
 from pfplan.tests.support import FolderCase
-from pfplan.tests.test_insertions import RULES, drawn_records
+from pfplan.tests.test_insertions import RULES, drawn_records, with_kills
 from pfplan.traces import records
 from pfplan.traces.insertions import asking
 
@@ -77,7 +77,8 @@ class Counts(FolderCase):
         more = "".join(f"pass in proto udp from 198.51.100.{it} no state\n" for it in range(1, 10))
         many = self.write("many", more + RULES)
         for seed in range(24):
-            trace = self.trace(drawn_records(seed, 5 if seed % 8 == 7 else 300))
+            records = drawn_records(seed, 5 if seed % 8 == 7 else 300)
+            trace = self.trace(with_kills(records, seed) if seed % 2 else records)
             with self.subTest(seed), blocks_of((60, 700, 1 << 19)[seed % 3]):
                 with mock.patch.object(tallies, "FEW_TEXTS", 2 if seed % 4 == 3 else 24):
                     users = networks(USERS[seed % len(USERS)])

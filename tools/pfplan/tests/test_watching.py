@@ -19,7 +19,8 @@ from dataclasses import fields
 from pathlib import Path
 from typing import Any
 
-from pfplan.answers.connections import Connections, Reply
+from pfplan.answers.connections import Connections
+from pfplan.answers.legs import Reply
 from pfplan.answers.counting import Answers, Moments
 from pfplan.answers.live_counts import Fed, LiveMoments
 from pfplan.answers.stepping import Steps

@@ -6,11 +6,13 @@ rows of the trace.
 
 import bisect
 import contextlib
+import re
 import shutil
 import tempfile
 from collections.abc import Iterator, Mapping, Sequence
 from dataclasses import dataclass, field
 from itertools import accumulate
+from operator import itemgetter
 from pathlib import Path
 from typing import IO
 
@@ -141,15 +143,51 @@ def asking(
         yield NOTHING
         return
     with contextlib.ExitStack() as stack:
-        places = _insertions_before(trace, before) if before else _insertions_at(trace, wanted)
+        questions = [_question(it) for it in wanted]
+        places = _insertions_before(trace, before) if before else _insertions_at(trace, questions)
         if places is None:
             trace = stack.enter_context(_plain(trace))
-            places = (_insertions_before(trace, before) if before else _insertions_at(trace, wanted)) or []
+            places = (_insertions_before(trace, before) if before else _insertions_at(trace, questions)) or []
         if entries:
             if not places or places[0].behind:
                 places.insert(0, Insertion(0, len(HEADER) + 1))
             places[0].lines[:0] = records_at(entries, first_moment_of(trace) or 0)
         yield Asking(Insertions(trace, places), tuple(wanted))
+
+
+@contextlib.contextmanager
+def merged(trace: Path, records: Sequence[str]) -> Iterator[tuple[Path, Rows]]:
+    """A copy of a trace with records in it, each behind the trace's own that are not after it, and which rows are
+    whose. The copy goes at the end. Messages name the trace, and its own rows.
+
+    The moments of the records do not fall. Trouble as Traces where the trace is none, and where writing fails.
+    """
+    with contextlib.ExitStack() as stack:
+        plain, places = trace, _insertions_at(trace, records)
+        if places is None:
+            plain = stack.enter_context(_plain(trace))
+            places = _insertions_at(plain, records) or []
+        insertions = Insertions(plain, places)
+        copy = Path(stack.enter_context(tempfile.TemporaryDirectory(prefix="pfplan-")), trace.name)
+        try:
+            with open(copy, "wb") as out:
+                insertions.write(out)
+        except OSError as error:
+            why = f"can't be copied into {tempfile.gettempdir()}: {reason_of(error)}"
+            raise Trouble(f"{trace}: {why}", Status.FAILED) from None
+        try:
+            yield copy, insertions.rows
+        except Trouble as trouble:
+            raise Trouble(_by_own_rows(trouble.message, copy, trace, insertions.rows), trouble.status) from None
+
+
+def _by_own_rows(message: str, copy: Path, trace: Path, rows: Rows) -> str:
+    """What is said of a copy into which records were put, of the trace itself."""
+    found = re.fullmatch(rf"{re.escape(str(copy))}: row (\d+)(: .*)", message)
+    own = rows.own(int(found[1])) if found else None
+    if found and own is not None:
+        return f"{trace}: row {own}{found[2]}"
+    return message.replace(str(copy), str(trace))
 
 
 def moments_of(trace: Path, count: int) -> list[int]:
@@ -160,11 +198,11 @@ def moments_of(trace: Path, count: int) -> list[int]:
     return sorted({first + (it * (last - first) // (count - 1) if count > 1 else last - first) for it in range(count)})
 
 
-def _insertions_at(trace: Path, wanted: Sequence[int]) -> list[Insertion] | None:
-    """For each moment the place behind the last record that is not after it; None where the lines of the trace are
-    not plain.
+def _insertions_at(trace: Path, wanted: Sequence[str]) -> list[Insertion] | None:
+    """For each record, whose moments do not fall, the place behind the last one of the trace that is not after it; None
+    where the lines of the trace are not plain.
     """
-    left = list(wanted)
+    left = [(int(it.partition(",")[0]), it) for it in wanted]
     places: list[Insertion] = []
     with open(trace, "rb") as file:
         if file.readline(LONGEST) != f"{HEADER}\n".encode():
@@ -174,12 +212,12 @@ def _insertions_at(trace: Path, wanted: Sequence[int]) -> list[Insertion] | None
             block += b"" if block.endswith(b"\n") else file.readline(LONGEST)
             if _is_odd(block):
                 return None
-            if _moment_of(block[block.rfind(b"\n", 0, -1) + 1 :]) > left[0]:
+            if _moment_of(block[block.rfind(b"\n", 0, -1) + 1 :]) > left[0][0]:
                 _insert_in(block.splitlines(keepends=True), left, records, offset, places)
             records += block.count(b"\n") + (not block.endswith(b"\n"))
             offset += len(block)
-    for moment in left:
-        _put(places, Insertion(records, offset, [_question(moment)]))
+    for _, line in left:
+        _put(places, Insertion(records, offset, [line]))
     return places
 
 
@@ -211,15 +249,18 @@ def _is_odd(block: bytes) -> bool:
     return b'"' in block or b"\r" in block or block.rfind(b"\n\n") >= 0 or block.startswith(b"\n")
 
 
-def _insert_in(lines: Sequence[bytes], left: list[int], records: int, offset: int, places: list[Insertion]) -> None:
+def _insert_in(
+    lines: Sequence[bytes], left: list[tuple[int, str]], records: int, offset: int, places: list[Insertion]
+) -> None:
     """The places in a block of lines, of which the last is after the first moment that is left."""
     at, last = 0, _moment_of(lines[-1])
-    while left and left[0] < last:
-        moment = left.pop(0)
+    count = bisect.bisect_left(left, last, key=itemgetter(0))
+    for moment, line in left[:count]:
         behind = bisect.bisect(lines, moment, key=_moment_of)
         offset += sum(map(len, lines[at:behind]))
         at = max(at, behind)
-        _put(places, Insertion(records + at, offset, [_question(moment)]))
+        _put(places, Insertion(records + at, offset, [line]))
+    del left[:count]
 
 
 def _put(places: list[Insertion], place: Insertion) -> None:

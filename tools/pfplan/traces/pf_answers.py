@@ -2,9 +2,11 @@
 together.
 
 pf logs a packet more than once where `match` rules log it too, and may log that a rule passes it before a limit refuses
-its state. Such rows follow one another. They are one packet here: its last answer that is no `match` counts.
+its state. Such rows follow one another. They are one packet here: its last answer that is no `match` counts. With
+routes, so are the rows of a packet on its way out.
 """
 
+from collections import deque
 from collections.abc import Iterator
 from dataclasses import dataclass, field
 from pathlib import Path
@@ -15,6 +17,8 @@ from pfplan.common.inputs import HEADER
 from pfplan.common.limits import DROPS, KILLS
 from pfplan.traces.records import Traces, line_blocks
 
+# Seconds within which a packet that came in is on its way out.
+TOGETHER = 1
 COLUMNS = ("row", "action", "rule", "anchor", "subrule", "reason", "rewritten")
 HEAD = ",".join(COLUMNS)
 # Reasons of a refusal by a limit, and the words of a report that mean the same (OpenBSD's PFRES_NAMES, and where
@@ -83,12 +87,14 @@ def _number(text: str) -> int | None:
     return int(text) if text else None
 
 
-@dataclass
+@dataclass(eq=False)
 class Packet:
-    """Rows of a log that follow one another and are of one packet: its line without answers, and those that pf gave."""
+    """Rows of a log that follow one another and are of one packet: its line without answers, and those that pf gave.
+    `onward` are those on its way out, where its line is that of its way in."""
 
     line: str
     answers: list[PfAnswer] = field(default_factory=list)
+    onward: list[PfAnswer] = field(default_factory=list)
 
     def takes(self, line: str, answer: PfAnswer) -> bool:
         """Whether the next row of the log is of this packet too."""
@@ -101,20 +107,22 @@ class Packet:
             return True
         return answer.reason in LIMITS and not decided.is_refusal and answer.number() == decided.number()
 
-    def answer(self) -> PfAnswer | None:
-        """The last answer that says what became of the packet, or a `match`; None where pf did not log it."""
-        decisions = [it for it in self.answers if it.is_decision]
-        return decisions[-1] if decisions else self.answers[-1] if self.answers else None
+    def told(self) -> list[PfAnswer]:
+        """The last answer that says what became of the packet, or a `match`; and the same of its way out. Nothing where
+        pf did not log it."""
+        found = [[*(it for it in of if it.is_decision)] or of for of in (self.answers, self.onward)]
+        return [it[-1] for it in found if it]
 
 
 @dataclass(frozen=True)
 class Merged:
-    """How many rows a log has, and how many packets: of more rows than packets, the others were logged again. `answers`
-    are pf's."""
+    """How many rows a log has, and how many packets: of more rows than packets, the others were logged again, or on
+    their way out, so many as `onward` says. `answers` are pf's."""
 
     rows: int
     packets: int
     answers: int = 0
+    onward: int = 0
 
 
 def packets_of(trace: Path, told: Path, name: Path) -> Iterator[Packet]:
@@ -157,12 +165,42 @@ def merge(packets: Iterator[Packet], trace: TextIO, told: TextIO) -> Merged:
     """Writes the trace of the packets, and the answer of pf for each that it logged."""
     trace.write(f"{HEADER}\n")
     told.write(f"{HEAD}\n")
-    rows = number = answers = 0
+    rows = number = answers = onward = 0
     for number, packet in enumerate(packets, 1):
-        rows += max(1, len(packet.answers))
+        rows += max(1, len(packet.answers)) + len(packet.onward)
+        onward += bool(packet.onward)
         trace.write(f"{packet.line}\n")
-        answer = packet.answer()
-        if answer:
+        for it in packet.told():
             answers += 1
-            told.write(f"{answer.to_line(number)}\n")
-    return Merged(rows, number, answers)
+            told.write(f"{it.to_line(number)}\n")
+    return Merged(rows, number, answers, onward)
+
+
+def forwarded_once(packets: Iterator[Packet]) -> Iterator[Packet]:
+    """The packets of a log, of which one that was logged where it came in, and on its way out within a second, is one:
+    with what pf said there. Memory is that of two seconds."""
+    waiting: deque[tuple[int, str, Packet]] = deque()
+    coming: dict[str, deque[Packet]] = {}
+    for packet in packets:
+        moment, way, _, ends = packet.line.split(",", 3)
+        while waiting and int(moment) - waiting[0][0] > TOGETHER:
+            yield _passed_on(*waiting.popleft()[1:], coming)
+        if way == "out" and ends in coming:
+            there = coming[ends].popleft()
+            there.onward = packet.answers
+            if not coming[ends]:
+                del coming[ends]
+            continue
+        waiting.append((int(moment), ends, packet))
+        if way == "in":
+            coming.setdefault(ends, deque()).append(packet)
+    yield from (it for _, _, it in waiting)
+
+
+def _passed_on(ends: str, packet: Packet, coming: dict[str, deque[Packet]]) -> Packet:
+    """A packet whose way out is not waited for any more."""
+    if packet in (there := coming.get(ends, deque())):
+        there.remove(packet)
+        if not there:
+            del coming[ends]
+    return packet

@@ -5,7 +5,7 @@ counted by the block. Memory is that of a block, however long the file is.
 """
 
 from collections.abc import Iterable, Iterator
-from dataclasses import dataclass
+from dataclasses import dataclass, replace
 from itertools import islice
 from pathlib import Path
 from typing import IO
@@ -18,12 +18,20 @@ BLOCK = 1 << 19
 LONGEST = 1 << 16
 WORDS = (
     "state", "new", "proxy", "cookie", "pass", "block", "skip", *DROPS, DROPPED_COOKIE, *KILLS, "expire", "held", "add",
-    "delete",
+    "delete", "kill",
 )  # fmt: skip
 OVERLOADS = ("added", "held", "full", "none")
 ADDED = ("added", "held", "conflict", "full")
-# the second columns of an administrator's records: these are no packets, and have no interface, source and target
-ORDERS = frozenset(("expire", "held", "add", "delete"))
+# what stands between the outcomes of a packet's two interfaces; the words behind which the second is asked, those of a
+# packet that goes on, and those that no second interface has
+ONWARD = " > "
+GOING_ON = ("new", "state", "pass", "proxy")
+PASSING = ("new", "state", "pass")
+_ALONE = ("cookie", "skip", "expire", "held", "add", "delete", "kill", DROPPED_COOKIE)
+# the second columns of an administrator's records: these are no packets. One that takes out states has networks in the
+# columns of source and target, where an empty target is any; of the others it is a table, an entry and an age.
+ORDERS = frozenset(("expire", "held", "add", "delete", "kill"))
+KILL = "kill"
 
 
 @dataclass(frozen=True, slots=True)
@@ -43,8 +51,9 @@ class Record:
 
 @dataclass(frozen=True, slots=True)
 class Answer:
-    """A line of a report. `rule` is `@N` or `-`; the others say what a kill did, what left a table, and what became of
-    an added entry."""
+    """A line of a report. `rule` is `@N` or `-`; the others say what a kill did, by a limit or by an administrator's
+    record (`KILL`), what left a table, and what became of an added entry. `onward` is what became of the packet on its
+    way out, where the line says that too."""
 
     row: int
     word: str
@@ -53,6 +62,17 @@ class Answer:
     killed: int = 0
     removed: int = 0
     added: str = ""
+    onward: "Answer | None" = None
+
+    @property
+    def legs(self) -> "tuple[Answer, ...]":
+        """What became of the packet on each interface that was asked."""
+        return (self,) if self.onward is None else (self, self.onward)
+
+    @property
+    def decisive(self) -> "Answer":
+        """The one of them that says what became of the packet: on its way out, where it was not let through there."""
+        return self if self.onward is None or self.onward.word in PASSING else self.onward
 
 
 @dataclass(frozen=True, slots=True)
@@ -172,6 +192,20 @@ def read_record(line: str) -> Record:
 
 def read_answer(line: str) -> Answer | End:
     """What a line of a report says. ValueError where it is no line of one."""
+    first, sign, second = line.partition(ONWARD)
+    answer = _read_one(first)
+    if not sign:
+        return answer
+    if isinstance(answer, End) or answer.word not in GOING_ON:
+        raise ValueError("no line of a report")
+    onward = _read_one(f"{answer.row} {second}")
+    if isinstance(onward, End) or onward.word in _ALONE:
+        raise ValueError("no line of a report")
+    return replace(answer, onward=onward)
+
+
+def _read_one(line: str) -> Answer | End:
+    """What a line with one outcome says. ValueError where it is no line of a report."""
     part = line.split(" ")
     if part[0] == "end":
         return _read_end(part)
@@ -212,6 +246,8 @@ def _read_order(row: int, part: list[str]) -> Answer:
         raise ValueError("no line of a report")
     if word == "add":
         return Answer(row, word, part[2], added=part[3])
+    if word == KILL:
+        return Answer(row, word, part[2], killed=_value(part[3], "killed"))
     return Answer(row, word, part[2], removed=_value(part[3], "removed"))
 
 

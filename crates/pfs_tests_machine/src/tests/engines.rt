@@ -4,7 +4,7 @@ use super::tallied::Tallied;
 use pfs_addr_values::{Packet, RUN_LIMIT};
 use pfs_conf::TableNo;
 use pfs_engine::{Arrival, Engine, Event, Outcome};
-use pfs_engine_machine::Command;
+use pfs_engine_machine::{Command, FromTo};
 use pfs_store::IndexStore;
 use pfs_store_contract::Store;
 use pfs_store_plain::PlainStore;
@@ -103,6 +103,19 @@ fn change<S: Store>(
     Ok(told)
 }
 
+/// States are taken out at the last moment, by a call of its own, which changes neither what was taken nor the work.
+fn kill<S: Store>(
+    rt: &impl Abort,
+    engine: &mut Engine<S>,
+    hosts: &FromTo,
+) -> Result<Outcome, Fail> {
+    assert!(rt; engine.last().is_some());
+    let before = (engine.first(), engine.taken(), engine.work());
+    let killed = engine.kill(hosts);
+    same!(rt; (engine.first(), engine.taken(), engine.work()), before);
+    Ok(Outcome::Killed(killed))
+}
+
 /// What comes at the last moment, by the call for it.
 fn come<S: Store>(
     rt: &impl Abort,
@@ -113,6 +126,7 @@ fn come<S: Store>(
         Arrival::Packet(packet) => take(rt, engine, packet),
         Arrival::Skip => Ok(Outcome::Skip),
         Arrival::Table { table, command } => change(rt, engine, *table, command),
+        Arrival::Kill(hosts) => kill(rt, engine, hosts),
         Arrival::Held => Ok(Outcome::Held(engine.amounts())),
     }
 }

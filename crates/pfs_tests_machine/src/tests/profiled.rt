@@ -10,7 +10,7 @@ use std::process::Abort;
 use std::test::Fail;
 
 /// The profile, under which no state is given a shorter life under load either.
-const PROFILED: &str =
+pub const PROFILED: &str =
     "set profile openbsd-7.4\nset timeout { adaptive.start 0, adaptive.end 0 }\n";
 
 const A3: Addr = Addr::V4([198, 51, 100, 3]);
@@ -260,19 +260,21 @@ fn a_connection_has_closed_when_both_peers_have(rt: HostRuntime) -> Result<(), F
 }
 
 /// Connections at a rule with `synproxy state`. What pf takes itself leaves the last moment of the first one alone, which leaves 30
-/// seconds after its SYN; the second one goes on as any other. The third is made by a SYN that goes out, the fourth by an ACK: pf
-/// leads neither
+/// seconds after its SYN; the second one goes on as any other. pf asks the server from the maker's ACK on, at the maker's packets. The
+/// third is made by a SYN that goes out, the fourth by an ACK: pf leads neither
 const PROXIED: &[Row] = &[
     (5, Step::Send(Sent::Tcp(80, SYN), A1, 1, 0, Ok(1))),
-    (10, Step::Takes(Sent::Tcp(80, SYN), 1, false)),
-    (15, Step::Takes(Sent::Tcp(80, ACK), 1, true)),
+    (10, Step::Takes(Sent::Tcp(80, SYN), 1, false, false)),
+    (12, Step::Takes(Sent::Answer(SYN_ACK), 1, false, false)),
+    (15, Step::Takes(Sent::Tcp(80, ACK), 1, true, true)),
+    (15, Step::Takes(Sent::Tcp(80, SYN), 1, false, true)),
     (15, Step::Closed(Sent::Tcp(80, SYN), 1, false)),
-    (20, Step::Takes(Sent::Answer(SYN_ACK), 1, false)),
+    (20, Step::Takes(Sent::Answer(SYN_ACK), 1, false, false)),
     (34, Step::States(1, 0)),
     (35, Step::States(1, 1)),
     (40, Step::Send(Sent::Tcp(80, SYN), A1, 2, 0, Ok(2))),
-    (41, Step::Takes(Sent::Tcp(80, ACK), 2, true)),
-    (42, Step::Takes(Sent::Answer(SYN_ACK), 2, false)),
+    (41, Step::Takes(Sent::Tcp(80, ACK), 2, true, true)),
+    (42, Step::Takes(Sent::Answer(SYN_ACK), 2, false, false)),
     (43, Step::Comes(Sent::Tcp(80, ACK), 2, Dir::In, false)),
     (44, Step::Send(Sent::Answer(SYN), A1, 3, 0, Ok(3))),
     (45, Step::Comes(Sent::Tcp(80, SYN_ACK), 3, Dir::Out, false)),
@@ -298,8 +300,8 @@ fn pf_leads_the_handshakes_of_a_syn_that_comes_in(rt: HostRuntime) -> Result<(),
 const COOKIES: &[Row] = &[
     (5, Step::Cookie(1, 0, Ok(1))),
     (5, Step::HalfOpen(0)),
-    (6, Step::Takes(Sent::Tcp(80, ACK), 1, false)),
-    (7, Step::Takes(Sent::Answer(SYN_ACK), 1, false)),
+    (6, Step::Takes(Sent::Tcp(80, ACK), 1, false, true)),
+    (7, Step::Takes(Sent::Answer(SYN_ACK), 1, false, false)),
     (8, Step::Comes(Sent::Tcp(80, ACK), 1, Dir::In, false)),
     (9, Step::Comes(Sent::Answer(ACK), 1, Dir::In, false)),
     (9, Step::HalfOpen(0)),

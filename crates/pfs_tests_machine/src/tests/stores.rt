@@ -8,7 +8,7 @@ use pfs_conf::{Config, RuleNo};
 use pfs_store::IndexStore;
 use pfs_store_contract::{Limit, StateNo, Staying, Store, Touched};
 use pfs_store_plain::PlainStore;
-use pfs_tests_cases::{A1, A2, ACK, SYN, SYN_ACK, Sent, UNSCALED, configured, packet, same};
+use pfs_tests_cases::{A1, A2, ACK, SYN, SYN_ACK, Sent, UNSCALED, configured, hosts, packet, same};
 use pfs_track::Score;
 use std::process::Abort;
 use std::test::Fail;
@@ -27,8 +27,8 @@ pub enum Step {
     /// This packet of the first source and port comes: the direction in which its state was made, and whether the handshake
     /// completes.
     Comes(Sent, u16, Dir, bool),
-    /// pf takes such a packet itself: whether the handshake completes.
-    Takes(Sent, u16, bool),
+    /// pf takes such a packet itself: whether the handshake completes, and whether pf asks the other peer for a connection.
+    Takes(Sent, u16, bool, bool),
     /// Whether the connection of such a packet has closed.
     Closed(Sent, u16, bool),
     /// The state of this number, source and port is killed.
@@ -36,6 +36,8 @@ pub enum Step {
     /// The states leave that are those of the first source, where it made one in this direction, all or those of a rule: how many
     /// they are.
     Flush(Dir, Option<RuleNo>, u64),
+    /// The states leave that go from hosts of this prefix, to hosts of that one, or to any where it is empty: how many they are.
+    Leave(&'static str, &'static str, u64),
     /// Whether a state of this number is held.
     Holds(u64, bool),
     /// A slice of the states examines and removes so many.
@@ -127,11 +129,12 @@ fn come<S: Store>(rt: &impl Abort, tried: &mut Tried<S>, row: &Row) -> Result<()
         }
         Step::Comes(sent, port, dir, completed) => {
             let told = tried.touch(&packet(&sent, A1, port)?)?;
-            same!(rt; (told.dir, told.completed, told.taken), (dir, completed, false));
+            same!(rt; (told.dir, told.completed), (dir, completed));
+            same!(rt; (told.taken, told.asks), (false, false));
         }
-        Step::Takes(sent, port, completed) => {
+        Step::Takes(sent, port, completed, asks) => {
             let told = tried.touch(&packet(&sent, A1, port)?)?;
-            same!(rt; (told.completed, told.taken), (completed, true));
+            same!(rt; (told.completed, told.taken, told.asks), (completed, true, asks));
         }
         Step::Again(source, port, rule) => {
             let told = tried.touch(&packet(&Sent::Udp(53), source, port)?)?;
@@ -146,6 +149,7 @@ fn come<S: Store>(rt: &impl Abort, tried: &mut Tried<S>, row: &Row) -> Result<()
                 dir: Dir::In,
                 completed: true,
                 taken: false,
+                asks: false,
                 connections,
                 score: Score { value, last: row.0 },
             };
@@ -163,6 +167,7 @@ fn leave<S: Store>(rt: &impl Abort, tried: &mut Tried<S>, step: &Step) -> Result
             same!(rt; killed, Some(StateNo(number)));
         }
         Step::Flush(dir, rule, killed) => same!(rt; tried.flush(dir, A1, rule), killed),
+        Step::Leave(from, to, killed) => same!(rt; tried.kill_from_to(&hosts(from, to)?), killed),
         Step::States(examined, removed) => {
             let slice = tried.purge_states();
             same!(rt; (slice.examined, slice.removed), (examined, removed));
@@ -412,6 +417,34 @@ fn states_leave_by_number_and_by_source(rt: HostRuntime) -> Result<(), Fail> {
     let rules =
         "set timeout { src.track 20, interval 1 }\npass keep state (source-track rule)\npass";
     tell(&rt, rules, LEAVING)
+}
+
+const LEFT: &[Row] = &[
+    (5, Step::Admit(A1, 1, 0, Ok(1))),
+    (5, Step::Admit(A2, 2, 0, Ok(2))),
+    (5, Step::Admit(A1, 3, 1, Ok(3))),
+    (5, Step::Send(Sent::Answer(SYN_ACK), A1, 1000, 1, Ok(4))),
+    (6, Step::Leave("198.51.100.1", "198.51.100.0/24", 0)),
+    (6, Step::Leave("192.0.2.0/24", "192.0.2.0/24", 0)),
+    (7, Step::Leave("198.51.100.1", "192.0.2.1", 2)),
+    (7, Step::Holds(1, false)),
+    (7, Step::Holds(2, true)),
+    (7, Step::Holds(3, false)),
+    (7, Step::Holds(4, true)),
+    (8, Step::Leave("192.0.2.1", "198.51.100.1", 1)),
+    (8, Step::Held(1, 2, 4)),
+    (26, Step::Nodes(2, 0)),
+    (27, Step::Nodes(2, 1)),
+    (27, Step::Leave("0.0.0.0/0", "", 1)),
+    (27, Step::Held(0, 1, 4)),
+];
+
+/// The last state of the first source's node leaves at moment 7, and it is kept for 20 seconds
+#[test]
+fn states_leave_by_source_and_destination(rt: HostRuntime) -> Result<(), Fail> {
+    let rules =
+        "set timeout { src.track 20, interval 1 }\npass keep state (source-track rule)\npass";
+    tell(&rt, rules, LEFT)
 }
 
 /// A slice examines two states and one node

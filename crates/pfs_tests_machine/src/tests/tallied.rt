@@ -4,7 +4,7 @@ ghost use Rattle.std.specs.Prelude.{◌≡◌};
 
 use pfs_addr_values::{Addr, Dir, FlowKey, Meter, NoMemory, Packet};
 use pfs_conf::RuleNo;
-use pfs_store_contract::{Found, Limit, Slice, StateNo, Store, Touched};
+use pfs_store_contract::{Found, FromTo, Limit, Slice, StateNo, Store, Touched};
 
 /// Any store, with a count of the calls that change it.
 #[derive(Drop)]
@@ -104,13 +104,18 @@ impl<S: Store> Store for Tallied<S> {
         self.inner.flush(dir, source, rule, now, meter)
     }
 
+    fn kill_from_to(&mut self, hosts: &FromTo, now: u64, meter: &mut Meter) -> u64 {
+        self.tick();
+        self.inner.kill_from_to(hosts, now, meter)
+    }
+
     fn purge_states(&mut self, now: u64, meter: &mut Meter) -> Slice {
         self.tick();
         self.inner.purge_states(now, meter)
     }
 
-    fn purge_nodes(&mut self, now: u64) -> Slice {
+    fn purge_nodes(&mut self, now: u64, meter: &mut Meter) -> Slice {
         self.tick();
-        self.inner.purge_nodes(now)
+        self.inner.purge_nodes(now, meter)
     }
 }

@@ -5,7 +5,7 @@ ghost use Rattle.pfs_store_contract.specs.Worlds.{empty_world};
 
 use pfs_addr_values::{Addr, Dir, FlowKey, Meter, Packet, RUN_LIMIT};
 use pfs_conf::{Config, RuleNo};
-use pfs_store_contract::{Limit, Slice, StateNo, Store, Touched, Watched};
+use pfs_store_contract::{FromTo, Limit, Slice, StateNo, Store, Touched, Watched};
 use std::marker::Model;
 use std::process::Abort;
 use std::test::Fail;
@@ -112,6 +112,12 @@ impl<'a, S: Store> Tried<'a, S> {
         self.store.flush(dir, source, rule, self.now, &mut meter)
     }
 
+    /// The states leave that go from hosts to hosts; how many they are.
+    pub fn kill_from_to(&mut self, hosts: &FromTo) -> u64 {
+        let mut meter = Meter::new();
+        self.store.kill_from_to(hosts, self.now, &mut meter)
+    }
+
     /// A slice of the states.
     pub fn purge_states(&mut self) -> Slice {
         let mut meter = Meter::new();
@@ -120,7 +126,8 @@ impl<'a, S: Store> Tried<'a, S> {
 
     /// A slice of the source nodes.
     pub fn purge_nodes(&mut self) -> Slice {
-        self.store.purge_nodes(self.now)
+        let mut meter = Meter::new();
+        self.store.purge_nodes(self.now, &mut meter)
     }
 
     /// A slice of the states that returns up to when they stay.
@@ -131,7 +138,8 @@ impl<'a, S: Store> Tried<'a, S> {
 
     /// A slice of the source nodes that returns up to when they stay.
     pub fn watch_nodes(&mut self) -> Watched {
-        self.store.watch_nodes(self.now)
+        let mut meter = Meter::new();
+        self.store.watch_nodes(self.now, &mut meter)
     }
 
     /// So many seconds are passed over: how many were.

@@ -228,7 +228,16 @@ const SECOND: &[(&str, ReplayFault)] = &[
     ("5,add,worse,,198.51.100.1,,,,S", ReplayFault::Field(2, 9)),
     ("5,add,const,,203.0.113.9,,,,", ReplayFault::Table(2)),
     ("5,delete,const,,203.0.113.9,,,,", ReplayFault::Table(2)),
-    ("5,kill,,,198.51.100.1,,,,", ReplayFault::Field(2, 2)),
+    ("5,kill,em0,,198.51.100.1,,,,", ReplayFault::Field(2, 3)),
+    ("5,kill,,udp,198.51.100.1,,,,", ReplayFault::Field(2, 4)),
+    ("5,kill,,,,,,,", ReplayFault::Field(2, 5)),
+    ("5,kill,,,!198.51.100.1,,,,", ReplayFault::Field(2, 5)),
+    ("5,kill,,,198.51.100.1,1,,,", ReplayFault::Field(2, 6)),
+    ("5,kill,,,198.51.100.1,,x,,", ReplayFault::Field(2, 7)),
+    ("5,kill,,,198.51.100.1,,,53,", ReplayFault::Field(2, 8)),
+    ("5,kill,,,198.51.100.1,,,,S", ReplayFault::Field(2, 9)),
+    ("4,kill,,,198.51.100.1,,,,", ReplayFault::TimeFell(2)),
+    ("5,Kill,,,198.51.100.1,,,,", ReplayFault::Field(2, 2)),
     ("5,Held,,,,,,,", ReplayFault::Field(2, 2)),
     ("5,Add,bad,,198.51.100.1,,,,", ReplayFault::Field(2, 2)),
 ];
@@ -257,6 +266,45 @@ fn the_fields_of_a_command_are_read(rt: HostRuntime) -> Result<(), Fail> {
         tell_second(&rt, record, *fault)?;
     }
     Ok(())
+}
+
+const BY_SOURCE: Texts = Texts {
+    rules: "pass in proto udp\npass out",
+    trace: "0,in,em0,udp,198.51.100.1,1,192.0.2.1,53,\n0,in,em0,udp,198.51.100.1,2,192.0.2.1,53,\n\
+        0,in,em0,udp,198.51.100.2,1,192.0.2.1,53,\n0,kill,,,198.51.100.1,,,,\n0,kill,,,198.51.100.1,,,,\n\
+        0,in,em0,udp,198.51.100.1,1,192.0.2.1,53,\n0,held,,,,,,,\n",
+    report: "1 new @0\n2 new @0\n3 new @0\n4 kill - killed=2\n5 kill - killed=0\n6 new @0\n\
+        7 held - states=2 nodes=0 entries=0\nend rows=7 states=2 nodes=0 entries=0\n",
+};
+
+const IN_AND_OUT: Texts = Texts {
+    rules: "pass in proto udp\npass out",
+    trace: "0,in,em0,udp,198.51.100.1,1,192.0.2.1,53,\n0,out,em1,udp,198.51.100.1,9,192.0.2.7,53,\n\
+        0,kill,,,198.51.100.0/24,,192.0.2.7,,\n0,kill,,,192.0.2.0/24,,,,\n0,kill,,,0.0.0.0/0,,192.0.2.0/24,,\n",
+    report: "1 new @0\n2 new @1\n3 kill - killed=1\n4 kill - killed=0\n5 kill - killed=1\n\
+        end rows=5 states=0 nodes=0 entries=0\n",
+};
+
+const FOR_LIMITS: Texts = Texts {
+    rules: "pass in proto udp keep state (max-src-states 1)",
+    trace: "0,in,em0,udp,198.51.100.1,1,192.0.2.1,53,\n0,in,em0,udp,198.51.100.1,2,192.0.2.1,53,\n\
+        0,kill,,,198.51.100.1,,,,\n0,in,em0,udp,198.51.100.1,2,192.0.2.1,53,\n",
+    report: "1 new @0\n2 drop:max-src-states @0\n3 kill - killed=1\n4 new @0\nend rows=4 states=1 nodes=1 entries=0\n",
+};
+
+#[test]
+fn states_are_killed_by_their_source(rt: HostRuntime) -> Result<(), Fail> {
+    tell_texts(&rt, &BY_SOURCE)
+}
+
+#[test]
+fn states_are_killed_by_source_and_destination(rt: HostRuntime) -> Result<(), Fail> {
+    tell_texts(&rt, &IN_AND_OUT)
+}
+
+#[test]
+fn killed_states_count_for_no_limit(rt: HostRuntime) -> Result<(), Fail> {
+    tell_texts(&rt, &FOR_LIMITS)
 }
 
 #[test]

@@ -84,6 +84,10 @@ fn write_records(trace: &mut String, row: &Row) -> Result<(), Fail> {
             write!(trace, "{time},delete,{table},,{entry},,,,\n")?;
             Ok(())
         }
+        Came::Kill(from, to) => {
+            write!(trace, "{time},kill,,,{from},,{to},,\n")?;
+            Ok(())
+        }
         Came::Ask => {
             write!(trace, "{time},held,,,,,,,\n")?;
             Ok(())

@@ -1,12 +1,13 @@
-//! Texts with the line `set profile`, and the same without it; and `set syncookies`.
+//! Texts with the line `set profile`, and the same without it; `set syncookies`, and `set route`.
 
+use pfs_addr_values::Addr;
 use pfs_conf::{Config, Profile, RuleNo, Syncookies, TimeoutName, load};
 use pfs_conf_show::show;
 use pfs_tests_cases::{holds, same};
 use std::test::Fail;
 
 /// Texts, and what their canonical text ends with
-const SHOWN: [(&[u8], &[u8]); 12] = [
+const SHOWN: [(&[u8], &[u8]); 16] = [
     (
         b"set limit states 1009\nset profile openbsd-7.4\n\
         pass in proto tcp to any port 80 keep state (max 25, sloppy)\n\
@@ -72,6 +73,24 @@ const SHOWN: [(&[u8], &[u8]); 12] = [
     (
         b"set syncookies never\nblock\n",
         b"adaptive.end 120000 }\nblock all flags any\n",
+    ),
+    (
+        b"set profile openbsd-7.4\nset route 192.0.2.9/24 em2\n\
+        set route { 0.0.0.0/0 em0, 192.0.2.0/24 em1 }\n",
+        b"set profile openbsd-7.4\nset route { 0.0.0.0/0 em0, 192.0.2.0/24 em1 }\n",
+    ),
+    (
+        b"table <t>\nset route 192.0.2.9/24 em2\nset syncookies always\nset profile openbsd-7.4\n",
+        b"set profile openbsd-7.4\nset syncookies always\nset route 192.0.2.0/24 em2\ntable <t>\n",
+    ),
+    (
+        b"set profile openbsd-7.4\nset route { 10.0.0.0/8 em0 2001:DB8::/32 em1, 192.0.2.1/32 lo0\n::/0 em1 }\n\
+        set route 10.9.9.9/8 em3\n",
+        b"set profile openbsd-7.4\nset route { 2001:db8::/32 em1, 192.0.2.1 lo0, ::/0 em1, 10.0.0.0/8 em3 }\n",
+    ),
+    (
+        b"set route 10.0.0.1 em0\nset route 10.0.0.1 em1\nset route { 10.0.0.1 em2 }\nset profile openbsd-7.4\nblock\n",
+        b"set profile openbsd-7.4\nset route 10.0.0.1 em2\nblock all flags any\n",
     ),
 ];
 
@@ -173,5 +192,28 @@ fn syncookies_are_set(rt: HostRuntime) -> Result<(), Fail> {
         same!(rt; config.syncookies(), wanted, statements);
         same!(rt; config.syncookies().are_sent(), wanted != Syncookies::Never);
     }
+    Ok(())
+}
+
+/// A route by its address, its length and the name of its interface
+type Told = (Addr, u8, &'static [u8]);
+
+/// Which routes a text says, in order; a later one with the same prefix stands last
+#[test]
+fn routes_are_set(rt: HostRuntime) -> Result<(), Fail> {
+    let text = b"set route { 0.0.0.0/0 em0, 192.0.2.77/24 em1, 192.0.2.0/25 em2 }\n\
+        set route 192.0.2.1/24 lo0\nset profile openbsd-7.4\n";
+    let wanted: [Told; 3] = [
+        (Addr::V4([0, 0, 0, 0]), 0, b"em0"),
+        (Addr::V4([192, 0, 2, 0]), 25, b"em2"),
+        (Addr::V4([192, 0, 2, 0]), 24, b"lo0"),
+    ];
+    let config = load(rt.alloc(), text)?;
+    same!(rt; config.routes().len(), 3);
+    for (route, (addr, bits, name)) in config.routes().iter().zip(wanted) {
+        same!(rt; (route.prefix.addr(), route.prefix.bits()), (addr, bits));
+        holds!(rt; route.interface.as_bytes() == name, bits);
+    }
+    same!(rt; load(rt.alloc(), b"set profile openbsd-7.4\n")?.routes().len(), 0);
     Ok(())
 }

@@ -14,7 +14,7 @@ const LIMITS: [LimitName; 4] = [
 ];
 
 /// Each part of a rules text, in usual and in unusual spellings.
-const TEXTS: [&[u8]; 48] = [
+const TEXTS: [&[u8]; 50] = [
     b"",
     b"# a comment alone \\\n",
     b"set limit states 1\nset limit src-nodes 4294967295\nset limit tables 2\nset limit table-entries 3",
@@ -63,12 +63,15 @@ const TEXTS: [&[u8]; 48] = [
     b"set syncookies adaptive(start 07% end 006%)\nset profile openbsd-7.4\nset syncookies adaptive\nanchor adaptive {\npass on end synproxy state\n}",
     b"set syncookies adaptive (start 2%,end 1%)\nset syncookies never\npass from <never> to <always>",
     b"set profile openbsd-7.4\nanchor synproxy {\npass out on synproxy synproxy state (no-sync)\n}\nblock from <synproxy>",
+    b"set route 2001:db8::1/64 em0\nset profile openbsd-7.4\npass",
+    b"set profile openbsd-7.4\nset route { 0.0.0.0/0 em0, 10.1.2.3/8 set\n192.0.2.1\nlo0, ::/0 route }\nset route 0.0.0.0/0 em9\ntable <route> { 10.0.0.1 }\npass on route from <route>",
 ];
 
-/// The profile, limits and timeouts of two configurations are the same.
+/// The profile, SYN cookies, routes, limits and timeouts of two configurations are the same.
 fn same_settings(rt: &impl Abort, one: &Config, other: &Config) {
     same!(*rt; one.profile(), other.profile());
     same!(*rt; one.syncookies(), other.syncookies());
+    holds!(*rt; one.routes() == other.routes());
     for name in LIMITS {
         same!(*rt; one.limit(name), other.limit(name));
     }
@@ -124,7 +127,7 @@ fn texts_are_read_again_as_they_are_shown(rt: HostRuntime) -> Result<(), Fail> {
 fn a_copy_shows_the_same_text(rt: HostRuntime) -> Result<(), Fail> {
     let alloc = rt.alloc();
     let text =
-        b"table <a> const { 10.0.0.0/8, !10.1.0.0/16 }\nanchor a {\nblock in from <a>\npass keep state (max 5)\n}";
+        b"set profile openbsd-7.4\nset route { 10.0.0.0/8 em0, ::/0 em1 }\ntable <a> const { 10.0.0.0/8, !10.1.0.0/16 }\nanchor a {\nblock in from <a>\npass keep state (max 5)\n}";
     let config = load(alloc, text)?;
     let copy = config.copy()?;
     same(&rt, &config, &copy);

@@ -63,7 +63,7 @@ fn refusal(alloc: Global, of: Of, text: &[u8]) -> Option<(Why, u64)>
     let mut cursor = Cursor::new(text);
     let why = match of {
         Of::Settings => match read_settings(&mut cursor, &mut Draft::new(alloc)) {
-            Err(Refusal::Stop(why)) => Some(why),
+            Err(ReadError::Refused(Refusal::Stop(why))) => Some(why),
             _ => None,
         },
         Of::Table => match read_parts(alloc, &mut cursor) {
@@ -97,6 +97,17 @@ const REFUSED: &[(Of, &str, Why, u64)] = &[
         Why::Plain,
         2,
     ),
+    (Of::Settings, "route\n", Why::Host, 1),
+    (Of::Settings, "route any em0\n", Why::Host, 1),
+    (Of::Settings, "route 10.0.0.0/8\nem0\n", Why::Plain, 1),
+    (Of::Settings, "route 10.0.0.0/8 any\n", Why::Plain, 1),
+    (
+        Of::Settings,
+        "route {\n10.0.0.0/8\nem0,\n10.0.0.1 }\n",
+        Why::Plain,
+        4,
+    ),
+    (Of::Settings, "route { }\n", Why::Host, 1),
     (Of::Table, "const const\n", Why::Again, 1),
     (Of::Table, "{ } { }\n", Why::Again, 1),
     (Of::Table, "{ 10.0.0.1\n!10.0.0.1 }\n", Why::Again, 2),

@@ -112,6 +112,8 @@ const WORDS: &[(&[u8], Key)] = &[
     (b"adaptive", Key::Adaptive),
     (b"start", Key::Start),
     (b"end", Key::EndWord),
+    (b"route", Key::Route),
+    (b"routes", Key::Name),
     (b"25%", Key::Number),
     (b"modulate", Key::Foreign),
     (b"", Key::Name),

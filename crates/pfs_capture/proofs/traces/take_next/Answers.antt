@@ -5,4 +5,4 @@ use Rattle.pfs_capture.proofs.traces.take_next.Goals as goal
 
 pub returns-clause-same : goal.returns-clause-same
 returns-clause-same g c =
-    failures-step c.args.captures.now c.args.index (get_or c.args.captures.now c.args.index c.index-captures-index.result) _ c.index-captures-index.result refl refl
+    failures-step c.args.captures.now c.args.place.index (get_or c.args.captures.now c.args.place.index c.index-captures-place.result) _ c.index-captures-place.result refl refl

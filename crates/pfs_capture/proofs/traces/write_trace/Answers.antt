@@ -3,7 +3,7 @@ use Rattle.std.proofs.Common.{◌≡◌, ◌+◌, ◌∙◌, List, Ok, Err, inr,
 use Rattle.std.proofs.lemmas.Result.{err_from_is_err_and}
 use Rattle.pfs_streams.specs.Feeds.{unread}
 use Rattle.pfs_streams.proofs.Flushing.{not-flushed}
-use Rattle.pfs_capture.specs.Aheads.{Aheads, frame_of}
+use Rattle.pfs_capture.specs.Aheads.{Aheads}
 use Rattle.pfs_capture.specs.Captures.{seen_of}
 use Rattle.pfs_capture.specs.Merging.{captures_run}
 use Rattle.pfs_capture.specs.Runs.{judged_at}
@@ -95,7 +95,7 @@ returns-in_err-take_next-clause-tells g c gs given =
     let p = err_from_is_err_and c.from_residual-in_err-take_next.result c.from_residual-in_err-take_next.ensures.1 in
     rw (p.1, p.2) (captured-run gs _ _ _ _ _ c.take_next.new.account (Err f) begun.1
     (ends-before rem run _ _ _ _ c.loop-turn._turn c.loop-turn.account c.take_next.new.account c.ask_all.new.captures
-    (judged_at next.capture.points.items (seen_of (frame_of next.capture.next) next.capture.held.items) next.capture.last) next.rest f h c.loop-turn-test.true next.comes
+    (judged_at next.capture.points.items (seen_of c.in-Some.place.frame next.capture.held.items) next.capture.last) next.rest f h c.loop-turn-test.true next.comes
     c.in_err-take_next.ensures.kept c.in_err-take_next.ensures.fails))
 
 pub returns-in_err-take_next-clause-first_read : goal.returns-in_err-take_next-clause-first_read
@@ -121,7 +121,7 @@ returns-in_err-send-2-clause-tells g c gs given =
     rw (p.1, p.2) (captured-run gs _ _ _ _ _ c.take_next.new.account (Err f) begun.1
     (ends-send rem run _ _ _ _ _ _ (c.loop-turn._turn + 1) c.take_next.new.account c.take_next.new.captures row answer t u f
     (counted rem run _ _ _ _ c.loop-turn._turn c.loop-turn.account c.take_next.new.account c.ask_all.new.captures c.take_next.new.captures
-    (judged_at next.capture.points.items (seen_of (frame_of next.capture.next) next.capture.held.items) next.capture.last) next.rest row answer h c.loop-turn-test.true next.comes left
+    (judged_at next.capture.points.items (seen_of c.in-Some.place.frame next.capture.held.items) next.capture.last) next.rest row answer h c.loop-turn-test.true next.comes left
     (c.in_ok-take_next.ensures.takes next.capture which.0)) trace answers
     (sends-these _ _ row answer t u (Err f) c.deref.ensures.value c.deref-in-loop-turn.ensures.value sends)))
 
@@ -173,7 +173,7 @@ loop-turn-preserved g c =
           let left = subst (λ (cs : List _). Aheads rem cs next.rest) (sym (c.in_ok-take_next.ensures.asks next.capture which.0)) which.1 in
           so_far-frame rem run _ _ _ _ _ _ (c.loop-turn._turn + 1) c.take_next.new.account c.take_next.new.captures row answer t u
           (counted rem run _ _ _ _ c.loop-turn._turn c.loop-turn.account c.take_next.new.account c.ask_all.new.captures c.take_next.new.captures
-          (judged_at next.capture.points.items (seen_of (frame_of next.capture.next) next.capture.held.items) next.capture.last) next.rest row answer h c.loop-turn-test.true next.comes left
+          (judged_at next.capture.points.items (seen_of c.in-Some.place.frame next.capture.held.items) next.capture.last) next.rest row answer h c.loop-turn-test.true next.comes left
           (c.in_ok-take_next.ensures.takes next.capture which.0)) trace answers
           (sends-these _ _ row answer t u (Ok tt) c.deref.ensures.value c.deref-in-loop-turn.ensures.value sends);
     }

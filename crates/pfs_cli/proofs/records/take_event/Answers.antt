@@ -8,10 +8,10 @@ pub returns-in-Ok-clause-tallies : goal.returns-in-Ok-clause-tallies
 returns-in-Ok-clause-tallies g c =
     let conf = c.args.engine.now.config in
     let m = c.args.engine.now.machine in
-    let work = c.step-answer.new.self.work in
-    let is = work-answered g.H.Store.counts conf m c.step-answer.new.self.machine c.args.event.now c.in-Ok.outcome work c.in-Ok.ensures.ok c.in-Ok.ensures.work in
+    let work = c.way-answer.new.self.work in
+    let is = work-answered g.H.Store.counts conf m c.way-answer.new.self.machine c.args.event.now c.in-Ok.way work c.in-Ok.ensures.ok c.in-Ok.ensures.work in
     (work, turn-answered g.H.Store.counts conf m c.args.event.now c.write_row.result work is, c.add.ensures ∙ ap (tally_with c.args.tally.now) c.work.ensures)
 
 pub returns-in-Err-clause-tallies : goal.returns-in-Err-clause-tallies
 returns-in-Err-clause-tallies g c =
-    (c.step-answer.new.self.work, inr (c.in-Err.field-0, c.in-Err.ensures.work), c.add.ensures ∙ ap (tally_with c.args.tally.now) c.work.ensures)
+    (c.way-answer.new.self.work, inr (c.in-Err.field-0, c.in-Err.ensures.work), c.add.ensures ∙ ap (tally_with c.args.tally.now) c.work.ensures)

@@ -2,7 +2,7 @@
 use Rattle.std.proofs.Common.{refl, arith, subst, sym, ◌<◌, ◌+◌, ◌∙◌, ℕ, List, None, Ok, Err}
 use Rattle.csv.specs.Reading.{default_config, reader_state}
 use Rattle.csv.specs.Records.{fields_of}
-use Rattle.pfs_addr_values.specs.Packets.{run_limit}
+use Rattle.pfs_addr_values.specs.Packets.{row_limit}
 use Rattle.pfs_trace.specs.Reading.{records_left}
 use Rattle.pfs_trace.specs.Traces.{events_from}
 use Rattle.pfs_streams.specs.Sinks.{bytes_held}
@@ -36,7 +36,7 @@ loop-rows-preserved g c =
     let (e, judged, takes) = rw inv.rules at took in
     let taken = TalliesRecord-rules g.H.Store.counts c.args.engine.now.config _ (c.loop-rows.rows + 1) c.loop-rows.engine.machine (fields_of c.next_record.new.fields)
     (Ok tt) c.loop-rows.tally c.take_record.new.tally inv.rules c.in-Ok.ensures.tallies in
-    let few : c.loop-rows.rows < run_limit = omega arith in
+    let few : c.loop-rows.rows < row_limit = omega arith in
     record {
       plain = r.3 ∙ inv.plain;
       ready = c.in-Ok-true.ensures.ready;
@@ -68,8 +68,8 @@ returns-in-Ok-false-clause-tells g c xs s =
     ends-end g.S.Read.remaining c.args.engine.now.config _ _ _ _ c.loop-rows.rows c.loop-rows.engine.machine c.loop-rows.reader c.next_record.new.reader
     (fields_of c.next_record.new.fields) c.write_end.result t (inv.so_far xs s).0 inv.config r grown how
 
-pub returns-then-rows-eq-RUN_LIMIT-clause-tells : goal.returns-then-rows-eq-RUN_LIMIT-clause-tells
-returns-then-rows-eq-RUN_LIMIT-clause-tells g c xs s =
+pub returns-then-rows-eq-ROW_LIMIT-clause-tells : goal.returns-then-rows-eq-ROW_LIMIT-clause-tells
+returns-then-rows-eq-ROW_LIMIT-clause-tells g c xs s =
     let inv = c.loop-rows.invariant in
     let r = rw c.in-Ok-true.field-0-test at c.in-Ok-true.ensures.reads in
     ends-limit g.S.Read.remaining c.args.engine.now.config _ _ _ c.loop-rows.rows c.loop-rows.engine.machine c.loop-rows.reader c.next_record.new.reader
@@ -82,7 +82,7 @@ returns-in-Err-take_record-clause-tells g c xs s =
     let (t, grown, took) = c.in-Err-take_record.ensures.takes in
     let takes = TakesRecord-rules c.args.engine.now.config _ (c.loop-rows.rows + 1) c.loop-rows.engine.machine (fields_of c.next_record.new.fields) t
     (Err c.in-Err-take_record.stop) c.take_record.new.engine.machine inv.rules took in
-    let few : c.loop-rows.rows < run_limit = omega arith in
+    let few : c.loop-rows.rows < row_limit = omega arith in
     ends-record g.S.Read.remaining c.args.engine.now.config _ _ _ _ c.loop-rows.rows c.loop-rows.engine.machine c.take_record.new.engine.machine c.loop-rows.reader c.next_record.new.reader
     (fields_of c.next_record.new.fields) c.in-Err-take_record.stop t (inv.so_far xs s).0 inv.config r few grown takes
 
@@ -103,8 +103,8 @@ returns-in-Ok-false-clause-tallies g c xs s =
     tallied-end g.H.Store.counts g.S.Read.remaining c.args.engine.now.config _ _ _ _ c.loop-rows.rows c.loop-rows.engine.machine c.loop-rows.reader c.next_record.new.reader
     (fields_of c.next_record.new.fields) c.write_end.result t c.loop-rows.tally (inv.so_far xs s) inv.config r grown how
 
-pub returns-then-rows-eq-RUN_LIMIT-clause-tallies : goal.returns-then-rows-eq-RUN_LIMIT-clause-tallies
-returns-then-rows-eq-RUN_LIMIT-clause-tallies g c xs s =
+pub returns-then-rows-eq-ROW_LIMIT-clause-tallies : goal.returns-then-rows-eq-ROW_LIMIT-clause-tallies
+returns-then-rows-eq-ROW_LIMIT-clause-tallies g c xs s =
     let inv = c.loop-rows.invariant in
     let r = rw c.in-Ok-true.field-0-test at c.in-Ok-true.ensures.reads in
     tallied-limit g.H.Store.counts g.S.Read.remaining c.args.engine.now.config _ _ _ c.loop-rows.rows c.loop-rows.engine.machine c.loop-rows.reader c.next_record.new.reader
@@ -119,6 +119,6 @@ returns-in-Err-take_record-clause-tallies g c xs s =
     (Err c.in-Err-take_record.stop) c.take_record.new.engine.machine inv.rules took in
     let tallies = TalliesRecord-rules g.H.Store.counts c.args.engine.now.config _ (c.loop-rows.rows + 1) c.loop-rows.engine.machine (fields_of c.next_record.new.fields)
     (Err c.in-Err-take_record.stop) c.loop-rows.tally c.take_record.new.tally inv.rules c.in-Err-take_record.ensures.tallies in
-    let few : c.loop-rows.rows < run_limit = omega arith in
+    let few : c.loop-rows.rows < row_limit = omega arith in
     tallied-record g.H.Store.counts g.S.Read.remaining c.args.engine.now.config _ _ _ _ c.loop-rows.rows c.loop-rows.engine.machine c.take_record.new.engine.machine c.loop-rows.reader c.next_record.new.reader
     (fields_of c.next_record.new.fields) c.in-Err-take_record.stop t c.loop-rows.tally c.take_record.new.tally (inv.so_far xs s) inv.config r few grown takes tallies

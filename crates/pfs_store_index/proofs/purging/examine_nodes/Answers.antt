@@ -1,45 +1,62 @@
--- Answers of examine_nodes: those that stay, one after another, and then one that is examined by itself, or none.
-use Rattle.std.proofs.Common.{◌∙◌, ◌+◌, sym, ap, take, arith}
+-- Answers of examine_nodes: a stretch of nodes that stay, and after it one that leaves, or the end of the share.
+use Rattle.std.proofs.Common.{◌≡◌, ◌+◌, ◌==◌, ℕ, Bool, true, Option, None, Some, List, option_map, sym, subst, take, arith}
+use Rattle.std.proofs.lemmas.Bool.{and_parts}
+use Rattle.std.proofs.lemmas.Bool.Decides.{nat_tests}
+use Rattle.pfs_conf_values.specs.Configs.{Conf}
+use Rattle.pfs_store_contract.specs.Counts.{node_states}
 use Rattle.pfs_store_contract.specs.Purging.{is_over, node_numbers}
+use Rattle.pfs_store_contract.specs.Quiet.{NodeStays}
+use Rattle.pfs_store_contract.specs.declared.records.Node.{Node}
+use Rattle.pfs_store_contract.specs.declared.records.State.{State}
+use Rattle.pfs_store_records.specs.Walks.{IsStop, StopsWalkAt}
+use Rattle.pfs_store_records.specs.declared.nodes.Tally.{Tally}
 use Rattle.pfs_store_index.specs.Rounds.{waiting}
+use Rattle.pfs_store_index.specs.Staying.{NodeHolds}
 use Rattle.pfs_store_index.proofs.Retained.{node_number}
-use Rattle.pfs_store_index.proofs.RisingWalks.{all-in, all-next, at_next, step-stays}
-use Rattle.pfs_store_index.proofs.Stretches.{examined-next, passing-examined, passing-stays}
-use Rattle.pfs_store_index.proofs.Untils.{node-more, nodes-passed, over-none}
+use Rattle.pfs_store_index.proofs.RisingWalks.{all-in}
+use Rattle.pfs_store_index.proofs.Stretches.{passing-examined, passing-stays, stop-examined, stop-stays, stop-taken}
+use Rattle.pfs_store_index.proofs.Untils.{node-more, nodes-passed, one-gone}
 use Rattle.pfs_store_index.proofs.purging.examine_nodes.Goals as goal
 
-pub returns-then-passed-share-clause-nodes : goal.returns-then-passed-share-clause-nodes
-returns-then-passed-share-clause-nodes g c = passing-stays node_number _ _ _ _ _ _ _ c.pass_nodes-passed.ensures.passing
+-- the node at which the walk stopped
+stop : (leaves : Node → Bool) (ns : List Node) (last most stayed share : ℕ) (o : Option Tally) (t : Tally) → o ≡ Some t
+    → StopsWalkAt node_number leaves ns last most stayed share (option_map (λ (u : Tally). u.node) o) → IsStop node_number leaves ns last most stayed share t.node
+stop leaves ns last most stayed share o t q h = subst (λ (p : Option Tally). StopsWalkAt node_number leaves ns last most stayed share (option_map (λ (u : Tally). u.node) p)) q h
 
-pub returns-then-passed-share-clause-until : goal.returns-then-passed-share-clause-until
-returns-then-passed-share-clause-until g c =
-    nodes-passed c.args.indexes.now.config c.args.indexes.now.states _ _ _ _ _ _ _ _ c.pass_nodes-passed.ensures.passing c.pass_nodes-passed.ensures.until
+none_of : (n : ℕ) → (n == 0) ≡ true → n ≡ 0
+none_of n h = grind (arith, nat_tests)
+
+-- it has no states
+stateless : (conf : Conf) (xs : List State) (now : ℕ) (n : Node) → is_over conf xs now n ≡ true → node_states conf n.scope n.source xs ≡ 0
+stateless conf xs now n h = none_of (node_states conf n.scope n.source xs) (and_parts (node_states conf n.scope n.source xs == 0) _ h).0
+
+pub drop_node-requires-clause-held : goal.drop_node-requires-clause-held
+drop_node-requires-clause-held g c =
+    (stop (is_over c.args.indexes.now.config c.args.indexes.now.states c.args.now) c.args.indexes.now.nodes c.pass_nodes-passed.result.last c.args.round.mark c.pass_nodes-passed.result.stayed c.args.share c.pass_nodes-passed.result.leaver c.in-Some.tally c.in-Some.is c.pass_nodes-passed.ensures.leaver).found
+
+pub drop_node-requires-clause-stateless : goal.drop_node-requires-clause-stateless
+drop_node-requires-clause-stateless g c =
+    stateless c.args.indexes.now.config c.args.indexes.now.states c.args.now c.in-Some.tally.node
+    (stop (is_over c.args.indexes.now.config c.args.indexes.now.states c.args.now) c.args.indexes.now.nodes c.pass_nodes-passed.result.last c.args.round.mark c.pass_nodes-passed.result.stayed c.args.share c.pass_nodes-passed.result.leaver c.in-Some.tally c.in-Some.is c.pass_nodes-passed.ensures.leaver).passes
 
 pub returns-in-Some-clause-nodes : goal.returns-in-Some-clause-nodes
 returns-in-Some-clause-nodes g c =
-    let k = c.pass_nodes-passed.result in
-    let ns = c.args.indexes.now.nodes in
-    let leaves = is_over c.args.indexes.now.config c.args.indexes.now.states c.args.now in
-    let ws = waiting c.args.round.cursor c.args.round.mark (node_numbers ns) in
-    let x = at_next k.stayed c.in-Some.tally.node.number ws (waiting k.last c.args.round.mark (node_numbers ns)) c.pass_nodes-passed.ensures.passing.rest (sym c.in-Some.ensures.number) in
-    step-stays node_number leaves c.in-Some.tally.node.number k.stayed ws ns ns c.examine_node-until.new.indexes.nodes
-    (passing-stays node_number leaves c.args.round.cursor c.args.round.mark c.args.share k.stayed k.last ns c.pass_nodes-passed.ensures.passing) c.examine_node-until.ensures.nodes x.taken
+    stop-stays node_number (is_over c.args.indexes.now.config c.args.indexes.now.states c.args.now) c.args.round.cursor c.args.round.mark c.args.share c.pass_nodes-passed.result.stayed c.pass_nodes-passed.result.last c.args.indexes.now.nodes c.pass_nodes-passed.ensures.passing
+    c.in-Some.tally.node c.drop_node.new.self.nodes
+    (stop (is_over c.args.indexes.now.config c.args.indexes.now.states c.args.now) c.args.indexes.now.nodes c.pass_nodes-passed.result.last c.args.round.mark c.pass_nodes-passed.result.stayed c.args.share c.pass_nodes-passed.result.leaver c.in-Some.tally c.in-Some.is c.pass_nodes-passed.ensures.leaver)
+    c.node_numbers_rise.ensures c.drop_node.ensures.nodes
 
 pub returns-in-Some-clause-examined : goal.returns-in-Some-clause-examined
 returns-in-Some-clause-examined g c =
-    let k = c.pass_nodes-passed.result in
-    let ns = c.args.indexes.now.nodes in
-    let n = c.in-Some.tally.node.number in
-    let leaves = is_over c.args.indexes.now.config c.args.indexes.now.states c.args.now in
-    let ws = waiting c.args.round.cursor c.args.round.mark (node_numbers ns) in
-    let x = at_next k.stayed n ws (waiting k.last c.args.round.mark (node_numbers ns)) c.pass_nodes-passed.ensures.passing.rest (sym c.in-Some.ensures.number) in
-    examined-next c.args.share k.stayed ws (waiting n c.args.round.mark (node_numbers c.examine_node-until.new.indexes.nodes)) (omega (arith, c.pass_nodes-passed.ensures.passing.within)) x.within
-    (ap (λ ys. waiting n c.args.round.mark (node_numbers ys)) c.examine_node-until.ensures.nodes
-    ∙ all-next node_number leaves k.last c.args.round.mark n _ ns c.examine_node-until.ensures.rising x.first)
+    stop-examined node_number (is_over c.args.indexes.now.config c.args.indexes.now.states c.args.now) c.args.round.cursor c.args.round.mark c.args.share c.pass_nodes-passed.result.stayed c.pass_nodes-passed.result.last c.args.indexes.now.nodes c.pass_nodes-passed.ensures.passing
+    c.in-Some.tally.node c.drop_node.new.self.nodes
+    (stop (is_over c.args.indexes.now.config c.args.indexes.now.states c.args.now) c.args.indexes.now.nodes c.pass_nodes-passed.result.last c.args.round.mark c.pass_nodes-passed.result.stayed c.args.share c.pass_nodes-passed.result.leaver c.in-Some.tally c.in-Some.is c.pass_nodes-passed.ensures.leaver)
+    c.node_numbers_rise.ensures c.drop_node.ensures.nodes
 
 pub returns-in-Some-clause-order : goal.returns-in-Some-clause-order
 returns-in-Some-clause-order g c =
-    (all-in node_number c.pass_nodes-passed.result.last c.args.round.mark c.in-Some.tally.node.number c.args.indexes.now.nodes (sym c.in-Some.ensures.number)).most
+    (all-in node_number c.pass_nodes-passed.result.last c.args.round.mark c.in-Some.tally.node.number c.args.indexes.now.nodes
+    (stop (is_over c.args.indexes.now.config c.args.indexes.now.states c.args.now) c.args.indexes.now.nodes c.pass_nodes-passed.result.last c.args.round.mark c.pass_nodes-passed.result.stayed c.args.share c.pass_nodes-passed.result.leaver c.in-Some.tally c.in-Some.is c.pass_nodes-passed.ensures.leaver).next).most
 
 pub returns-in-Some-clause-until : goal.returns-in-Some-clause-until
 returns-in-Some-clause-until g c =
@@ -49,9 +66,13 @@ returns-in-Some-clause-until g c =
     let ns = c.args.indexes.now.nodes in
     let n = c.in-Some.tally.node.number in
     let ws = waiting c.args.round.cursor c.args.round.mark (node_numbers ns) in
-    let x = at_next k.stayed n ws (waiting k.last c.args.round.mark (node_numbers ns)) c.pass_nodes-passed.ensures.passing.rest (sym c.in-Some.ensures.number) in
-    node-more conf xs n k.until c.examine_node-until.result c.min.result (take k.stayed ws) (take (k.stayed + 1) ws) _ ns c.examine_node-until.new.indexes.nodes c.examine_node-until.ensures.nodes x.taken c.min.ensures
-    (nodes-passed conf xs _ _ _ _ _ _ _ _ c.pass_nodes-passed.ensures.passing c.pass_nodes-passed.ensures.until) c.examine_node-until.ensures.until
+    let taken = stop-taken node_number (is_over c.args.indexes.now.config c.args.indexes.now.states c.args.now) c.args.round.cursor c.args.round.mark c.args.share c.pass_nodes-passed.result.stayed c.pass_nodes-passed.result.last c.args.indexes.now.nodes c.pass_nodes-passed.ensures.passing
+    c.in-Some.tally.node c.drop_node.new.self.nodes
+    (stop (is_over c.args.indexes.now.config c.args.indexes.now.states c.args.now) c.args.indexes.now.nodes c.pass_nodes-passed.result.last c.args.round.mark c.pass_nodes-passed.result.stayed c.args.share c.pass_nodes-passed.result.leaver c.in-Some.tally c.in-Some.is c.pass_nodes-passed.ensures.leaver)
+    c.node_numbers_rise.ensures c.drop_node.ensures.nodes in
+    node-more conf xs n k.until k.until k.until (take k.stayed ws) (take (k.stayed + 1) ws) _ ns c.drop_node.new.self.nodes c.drop_node.ensures.nodes taken (omega arith)
+    (nodes-passed conf xs _ _ _ _ _ _ _ _ c.pass_nodes-passed.ensures.passing c.pass_nodes-passed.ensures.until)
+    (subst (λ (ys : List Node). NodeHolds conf xs n k.until ys) (sym c.drop_node.ensures.nodes) (one-gone node_number (NodeStays conf xs) n k.until ns))
 
 pub returns-in-None-clause-nodes : goal.returns-in-None-clause-nodes
 returns-in-None-clause-nodes g c = passing-stays node_number _ _ _ _ _ _ _ c.pass_nodes-passed.ensures.passing
@@ -60,11 +81,13 @@ pub returns-in-None-clause-until : goal.returns-in-None-clause-until
 returns-in-None-clause-until g c =
     nodes-passed c.args.indexes.now.config c.args.indexes.now.states _ _ _ _ _ _ _ _ c.pass_nodes-passed.ensures.passing c.pass_nodes-passed.ensures.until
 
+-- where it stopped at none
+none : (leaves : Node → Bool) (ns : List Node) (last most stayed share : ℕ) (o : Option Tally) → o ≡ None
+    → StopsWalkAt node_number leaves ns last most stayed share (option_map (λ (u : Tally). u.node) o) → StopsWalkAt node_number leaves ns last most stayed share None
+none leaves ns last most stayed share o q h = subst (λ (p : Option Tally). StopsWalkAt node_number leaves ns last most stayed share (option_map (λ (u : Tally). u.node) p)) q h
+
 pub returns-in-None-clause-examined : goal.returns-in-None-clause-examined
 returns-in-None-clause-examined g c =
+    let k = c.pass_nodes-passed.result in
     passing-examined node_number _ _ _ _ _ _ _ c.pass_nodes-passed.ensures.passing
-    (λ _. over-none (waiting c.pass_nodes-passed.result.last c.args.round.mark (node_numbers c.args.indexes.now.nodes)) (sym c.in-None.ensures.number))
-
-pub returns-then-passed-share-clause-examined : goal.returns-then-passed-share-clause-examined
-returns-then-passed-share-clause-examined g c =
-    passing-examined node_number _ _ _ _ _ _ _ c.pass_nodes-passed.ensures.passing (λ l. absurd (omega (arith, l, c.if-passed-share.true)))
+    (none (is_over c.args.indexes.now.config c.args.indexes.now.states c.args.now) c.args.indexes.now.nodes k.last c.args.round.mark k.stayed c.args.share k.leaver c.in-None.is c.pass_nodes-passed.ensures.leaver)

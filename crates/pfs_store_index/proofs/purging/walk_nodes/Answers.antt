@@ -21,6 +21,7 @@ loop-done-init g c = rw c.none-done.ensures (record {
   examined = examined-none c.args.share (waiting c.args.round.cursor c.args.round.mark (node_numbers c.args.indexes.now.nodes));
   nodes = stays-none node_number (is_over c.args.indexes.now.config c.args.indexes.now.states c.args.now) c.args.indexes.now.nodes;
   until = hold-none node_number (NodeStays c.args.indexes.now.config c.args.indexes.now.states) _ c.args.indexes.now.nodes;
+  looks = omega arith;
 })
 
 pub loop-done-preserved : goal.loop-done-preserved
@@ -48,6 +49,7 @@ loop-done-preserved g c =
           nodes-more conf xs done.examined more.examined done.until more.until _ ws zs _ c.loop-done.indexes.nodes ns' i.examined.rest e refl i.until
           (subst (λ (ys : List State). NodesHold conf ys (take more.examined zs) more.until ns') i.kept
           (subst (λ (k : Conf). NodesHold k c.loop-done.indexes.states (take more.examined zs) more.until ns') i.config f.until));
+      looks = omega (arith, f.looks, i.looks);
     })
 
 -- all that the share allows are examined

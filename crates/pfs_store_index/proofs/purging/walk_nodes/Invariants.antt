@@ -1,5 +1,5 @@
 -- Invariant of walk_nodes: of the nodes that waited the first are examined, and the others wait.
-use Rattle.std.proofs.Common.{◌≡◌, ◌≤◌, length, filter, take}
+use Rattle.std.proofs.Common.{◌≡◌, ◌+◌, ◌≤◌, length, filter, take}
 use Rattle.pfs_store_contract.specs.Purging.{is_over, node_numbers}
 use Rattle.pfs_store_index.specs.Rounds.{IsExamined, waiting}
 use Rattle.pfs_store_index.specs.Staying.{NodesHold}
@@ -18,6 +18,7 @@ invariant-loop-done g l = record {
   nodes : l.indexes.nodes
       ≡ filter (stays_by node_number (is_over l.fn.indexes.config l.fn.indexes.states l.now) (take l.done.examined (waiting l.round.cursor l.round.mark (node_numbers l.fn.indexes.nodes)))) l.fn.indexes.nodes;
   until : NodesHold l.fn.indexes.config l.fn.indexes.states (take l.done.examined (waiting l.round.cursor l.round.mark (node_numbers l.fn.indexes.nodes))) l.done.until l.indexes.nodes;
+  looks : l.meter ≡ l.fn.meter + l.done.examined;
 }
 
 abbrev pub decreases-loop-done : goal.decreases-loop-done

@@ -1,5 +1,5 @@
--- Answers of IndexStore's watch_nodes: what it keeps, and up to when its nodes stay (`staying`).
-use Rattle.std.proofs.Common.{◌≡◌, ◌∙◌, ◌≤◌, true, List, drop, ap, arith, subst, sym}
+-- Answers of IndexStore's watch_nodes: what it keeps, up to when its nodes stay (`staying`), its looks (`most`).
+use Rattle.std.proofs.Common.{◌≡◌, ◌∙◌, ◌≤◌, true, List, length-take, drop, length, take, ap, arith, subst, sym}
 use Rattle.std.specs.List.{AllByRecursion}
 use Rattle.std.specs.Map.{keys_of}
 use Rattle.pfs_conf_values.specs.Configs.{Conf}
@@ -14,7 +14,7 @@ use Rattle.pfs_store_index.specs.Rounds.{waiting}
 use Rattle.pfs_store_index.specs.Stored.{IsNumbered}
 use Rattle.pfs_store_index.proofs.Retained.{node_number}
 use Rattle.pfs_store_index.proofs.RisingWalks.{all-fewer}
-use Rattle.pfs_store_index.proofs.Storing.{numbered-filter, stored-nodes}
+use Rattle.pfs_store_index.proofs.Storing.{few-numbers, numbered-filter, stored-nodes}
 use Rattle.pfs_store_index.proofs.Told.{told-all, told-stay}
 use Rattle.pfs_store_index.proofs.store.IndexStoreStore.watch_nodes.Goals.{After-order-2, then-all_have_states, else-all_have_states}
 use Rattle.pfs_store_index.proofs.store.IndexStoreStore.watch_nodes.Goals as goal
@@ -73,3 +73,12 @@ returns-clause-staying g c =
 
 pub returns-clause-fits : goal.returns-clause-fits
 returns-clause-fits g c = λ some. all-fewer node_number c.walk_nodes-steps.result.round.cursor c.walk_nodes-steps.result.round.mark c.walk_nodes-steps.new.indexes.nodes
+
+pub returns-clause-most : goal.returns-clause-most
+returns-clause-most g c =
+    let h = c.self.inside.indexes in
+    let round = c.under_way-round.result in
+    let ws = waiting round.cursor round.mark (node_numbers h.nodes) in
+    let a : length (take c.share_of-share.result ws) ≤ length ws = omega (arith, length-take c.share_of-share.result ws) in
+    let b : length ws ≤ length h.nodes = all-fewer node_number round.cursor round.mark h.nodes in
+    omega (arith, c.walk_nodes-steps.ensures.looks, c.walk_nodes-steps.ensures.examined, a, b, few-numbers node_number c.self.inside.made h.nodes c.node_numbers_rise.ensures c.self.invariant.node_numbered, c.self.invariant.few)

@@ -1,0 +1,5 @@
+pub mod ReadingLaws
+pub mod GroupingLaws
+pub mod AskingLaws
+pub mod FirstLaws
+pub mod CommandLaws

@@ -1,0 +1,4 @@
+pub mod Mistakes
+pub mod Groups
+pub mod Asked
+pub mod Requests

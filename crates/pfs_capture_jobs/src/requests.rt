@@ -1,0 +1,209 @@
+//! What the words of all interfaces ask for together.
+
+ghost use Rattle.std.specs.Prelude.{◌≡◌, IfErr, IfOk, [], ◌∷◌, count_by, is_some, map, option_map, true};
+ghost use Rattle.std.specs.List.{list_any};
+ghost use Rattle.pfs_capture_jobs.specs.Requests.{AllAsk, AreOwn, AreSources, IsShared, OneRefused, RequestIn, RequestedBy, SourcesAre, SourcesRefused, captures_shared, first_capture, first_told, is_dash, named_file, wanted_output};
+
+use crate::asking::{Asked, asked_of};
+use crate::refusals::{Mistake, Refusal};
+use crate::wanted::{Output, Request, Source};
+use pfs_words::{file_of, is_standard};
+use std::alloc::{AllocError, Global};
+
+/// What groups of words ask for, each behind the program's name. The refusal is that of the first group that is refused: clap's, with its
+/// message, or a mistake that clap does not know; else a mistake in all groups together: first of `--told`, then of the captures. It takes
+/// memory. (pfstrace(1))
+pub fn request<'a>(alloc: Global, groups: &'a [Vec<&str>]) -> Result<Request<'a>, Refusal>
+    ensures { RequestedBy (map (λ g. map (λ w. w.now) g.items) groups.entry.now) result }
+{
+    match asked_by(alloc, groups) {
+        Ok(asked) => request_of(alloc, asked),
+        Err(refusal) => Err(refusal),
+    }
+}
+
+fn asked_by<'a>(alloc: Global, groups: &'a [Vec<&str>]) -> Result<Vec<Asked<'a>>, Refusal>
+    ensures ok { IfOk result (λ v. AllAsk (map (λ g. map (λ w. w.now) g.items) groups.entry.now) v.items) }
+    ensures err { IfErr result (λ f. OneRefused (map (λ g. map (λ w. w.now) g.items) groups.entry.now) f) }
+{
+    let mut all = Vec::new(alloc);
+    for words in groups {
+        match asked_of(alloc, words.as_slice()) {
+            Ok(asked) => {
+                if all.push(asked).is_err() {
+                    return Err(Refusal::Memory);
+                }
+            }
+            Err(refusal) => return Err(refusal),
+        }
+    }
+    Ok(all)
+}
+
+fn request_of<'a>(alloc: Global, asked: Vec<Asked<'a>>) -> Result<Request<'a>, Refusal>
+    ensures { RequestIn asked.entry.items result }
+{
+    let output = match output_of(&asked) {
+        Ok(output) => output,
+        Err(mistake) => return Err(Refusal::Mistake(mistake)),
+    };
+    match sources_of(alloc, asked) {
+        Ok(sources) => Ok(Request { sources, output }),
+        Err(refusal) => Err(refusal),
+    }
+}
+
+/// The captures that the groups of words name: one of all their interfaces, or one of each.
+fn sources_of<'a>(alloc: Global, asked: Vec<Asked<'a>>) -> Result<Vec<Source<'a>>, Refusal>
+    ensures ok { IfOk result (λ v. SourcesAre asked.entry.items v.items) }
+    ensures err { IfErr result (λ f. SourcesRefused asked.entry.items f) }
+{
+    let made = match is_shared(&asked) {
+        Ok(true) => shared_sources(alloc, asked),
+        Ok(false) => own_sources(alloc, asked),
+        Err(mistake) => return Err(Refusal::Mistake(mistake)),
+    };
+    match made {
+        Ok(sources) => Ok(sources),
+        Err(_) => Err(Refusal::Memory),
+    }
+}
+
+fn output_of<'a>(asked: &[Asked<'a>]) -> Result<Output<'a>, Mistake>
+    ensures { result ≡ wanted_output asked.now }
+{
+    if count_told(asked) > 1 {
+        return Err(Mistake::ToldTwice);
+    }
+    let told = first_told(asked);
+    if is_dash(told) {
+        return Err(Mistake::ToldOut);
+    }
+    Ok(Output {
+        told,
+        by_lines: wants_lines(asked),
+    })
+}
+
+#[tactic(auto, using(crate::proofs::FirstLaws::told_step))]
+fn first_told<'a>(asked: &[Asked<'a>]) -> Option<&'a str>
+    ensures { result ≡ first_told asked.now }
+{
+    for group in asked {
+        if let Some(name) = group.told {
+            return Some(name);
+        }
+    }
+    None
+}
+
+#[tactic(auto, using(crate::proofs::FirstLaws::capture_step))]
+fn first_capture<'a>(asked: &[Asked<'a>]) -> Option<&'a str>
+    ensures { result ≡ first_capture asked.now }
+{
+    for group in asked {
+        if let Some(name) = group.capture {
+            return Some(name);
+        }
+    }
+    None
+}
+
+fn is_dash(name: Option<&str>) -> bool
+    ensures { result ≡ is_dash name.entry }
+{
+    match name {
+        Some(name) => is_standard(name),
+        None => false,
+    }
+}
+
+/// Whether one capture is that of all groups; else each has one of its own.
+fn is_shared(asked: &[Asked<'_>]) -> Result<bool, Mistake>
+    ensures { result ≡ captures_shared asked.now }
+{
+    let named = count_named(asked);
+    if named <= 1 {
+        return Ok(true);
+    }
+    if named < asked.len() {
+        return Err(Mistake::Captures);
+    }
+    if count_dashes(asked) > 1 {
+        return Err(Mistake::StandardTwice);
+    }
+    Ok(false)
+}
+
+fn shared_sources<'a>(alloc: Global, asked: Vec<Asked<'a>>) -> Result<Vec<Source<'a>>, AllocError>
+    ensures { IfOk result (λ v. AreSources asked.entry.items true v.items) }
+{
+    let source = shared_source(alloc, asked)?;
+    let mut sources = Vec::new(alloc);
+    sources.push(source)?;
+    Ok(sources)
+}
+
+/// The one capture of all groups.
+fn shared_source<'a>(alloc: Global, asked: Vec<Asked<'a>>) -> Result<Source<'a>, AllocError>
+    ensures { IfOk result (λ s. IsShared asked.entry.items s) }
+{
+    let name = named_file(first_capture(&asked));
+    let mut points = Vec::new(alloc);
+    for group in asked {
+        points.push(group.point)?;
+    }
+    Ok(Source { points, name })
+}
+
+/// A capture of each group.
+fn own_sources<'a>(alloc: Global, asked: Vec<Asked<'a>>) -> Result<Vec<Source<'a>>, AllocError>
+    ensures { IfOk result (λ v. AreOwn asked.entry.items v.items) }
+{
+    let mut sources = Vec::new(alloc);
+    for group in asked {
+        sources.push(own_source(alloc, group)?)?;
+    }
+    Ok(sources)
+}
+
+fn own_source<'a>(alloc: Global, group: Asked<'a>) -> Result<Source<'a>, AllocError>
+    ensures { IfOk result (λ s. AreOwn (group.entry ∷ []) (s ∷ [])) }
+{
+    let mut points = Vec::new(alloc);
+    points.push(group.point)?;
+    Ok(Source {
+        points,
+        name: named_file(group.capture),
+    })
+}
+
+fn named_file(name: Option<&str>) -> Option<&str>
+    ensures { option_map (λ s. s.now) result ≡ named_file name.entry }
+{
+    file_of(name?)
+}
+
+fn count_told(asked: &[Asked<'_>]) -> usize
+    ensures { result ≡ count_by (λ a. is_some a.told) asked.now }
+{
+    asked.iter().filter(|group| group.told.is_some()).count()
+}
+
+fn count_named(asked: &[Asked<'_>]) -> usize
+    ensures { result ≡ count_by (λ a. is_some a.capture) asked.now }
+{
+    asked.iter().filter(|group| group.capture.is_some()).count()
+}
+
+fn count_dashes(asked: &[Asked<'_>]) -> usize
+    ensures { result ≡ count_by (λ a. is_dash a.capture) asked.now }
+{
+    asked.iter().filter(|group| is_dash(group.capture)).count()
+}
+
+fn wants_lines(asked: &[Asked<'_>]) -> bool
+    ensures { result ≡ list_any (λ a. a.by_lines) asked.now }
+{
+    asked.iter().any(|group| group.by_lines)
+}

@@ -1,0 +1,141 @@
+-- A row of a trace: one event, or a second behind it.
+use Rattle.std.proofs.Common.{◌≡◌, ◌+◌, ◌∙◌, ℕ, Bool, List, [], ◌∷◌, Option, Some, None, refl, ap, sym, subst, arith, inl, inr}
+use Rattle.std.specs.Prelude.{Result, Ok, Err, OnErr, OnOk, option_map}
+use Rattle.std.specs.Option.{option_and_then}
+use Rattle.pfs_addr_values.specs.Packets.{PacketView}
+use Rattle.pfs_addr_values.specs.declared.addresses.Addr.{Addr}
+use Rattle.pfs_addr_values.specs.declared.packets.Dir.{Dir}
+use Rattle.pfs_addr_values.specs.declared.packets.Dir.TheVariants as dir
+use Rattle.pfs_addr_values.specs.declared.memory.NoMemory.{NoMemory}
+use Rattle.pfs_conf_values.specs.Configs.{Conf}
+use Rattle.pfs_engine_machine.specs.Machine.{Machine, step}
+use Rattle.pfs_engine_machine.specs.Runs.{IsPacket, IsRefusedIn, packets_in, packets_of}
+use Rattle.pfs_engine_machine.specs.Ways.{IsRefusedOnWay, IsRefusedSecond, events_of_record, first_arrival, first_event, first_packet_by, onward, leaves_by, leaving_by, second_event, second_packet}
+use Rattle.pfs_engine_machine.specs.declared.events.Arrival.{Arrival}
+use Rattle.pfs_engine_machine.specs.declared.events.Arrival.TheVariants as arrival
+use Rattle.pfs_engine_machine.specs.declared.events.Event.{Event}
+use Rattle.pfs_engine_machine.specs.declared.events.Outcome.{Outcome}
+use Rattle.pfs_engine_machine.specs.declared.events.Way.{Way}
+use Rattle.pfs_engine.specs.Ways.{IsWorkBehindFirst, IsWorkOfEvents, IsWorkOfWay, IsWorkOn, IsWorkOfStep}
+use Rattle.pfs_engine.specs.declared.works.Work.{Work}
+
+-- the first event, and what came of it
+pub record IsFirst (conf : Conf) (m mid : Machine) (r e : Event) (o : Outcome) : Type 0 where
+  pub event : e ≡ first_event conf r
+  pub answer : (o, mid) ≡ step conf m e
+
+pub is-first : (conf : Conf) (m mid : Machine) (r e : Event) (o : Outcome) → e ≡ first_event conf r → (o, mid) ≡ step conf m e → IsFirst conf m mid r e o
+is-first conf m mid r e o event answer = record { event = event; answer = answer }
+
+-- the answer of the machine
+answered : (conf : Conf) (m mid : Machine) (r e : Event) (o : Outcome) → IsFirst conf m mid r e o → (o, mid) ≡ step conf m (first_event conf r)
+answered conf m mid r e o k = k.answer ∙ ap (step conf m) k.event
+
+-- the second event, where it is known what came of the first
+then-is : (conf : Conf) (m mid : Machine) (r e : Event) (o : Outcome) (then : Option Event) → IsFirst conf m mid r e o → then ≡ second_event conf r o
+    → then ≡ second_event conf r (step conf m (first_event conf r)).0
+then-is conf m mid r e o then k is = is ∙ ap (λ (a : Outcome × Machine). second_event conf r a.0) (answered conf m mid r e o k)
+
+-- ---- how many packets they are
+
+packets-alone : (conf : Conf) (m : Machine) (r : Event) → None ≡ second_event conf r (step conf m (first_event conf r)).0
+    → packets_in (events_of_record conf m r) ≡ packets_of (first_event conf r).what
+unfolding packets_in
+packets-alone conf m r none = rw (sym none) (omega arith)
+
+of-packet : (what : Arrival) → IsPacket what → packets_of what ≡ 1
+of-packet (arrival.Packet p) is = refl
+of-packet arrival.Skip is = absurd is
+of-packet (arrival.Table table done) is = absurd is
+of-packet (arrival.Kill hosts) is = absurd is
+of-packet arrival.Held is = absurd is
+
+packets-both : (conf : Conf) (m : Machine) (r f : Event) → Some f ≡ second_event conf r (step conf m (first_event conf r)).0 → IsPacket f.what
+    → packets_in (events_of_record conf m r) ≡ packets_of (first_event conf r).what + 1
+unfolding packets_in
+packets-both conf m r f some is = rw (sym some) (omega (arith, of-packet f.what is))
+
+pub taken-alone : (conf : Conf) (m mid : Machine) (r e : Event) (o : Outcome) (before after : ℕ) → IsFirst conf m mid r e o → None ≡ second_event conf r o
+    → after ≡ before + packets_of e.what → after ≡ before + packets_in (events_of_record conf m r)
+taken-alone conf m mid r e o before after k none counted =
+    counted ∙ ap (λ n. before + n) (ap (λ (x : Event). packets_of x.what) k.event ∙ sym (packets-alone conf m r (then-is conf m mid r e o None k none)))
+
+pub taken-both : {A : Type 0} (conf : Conf) (m mid : Machine) (r e f : Event) (o : Outcome) (answer : Result A NoMemory) (before between after : ℕ) → IsFirst conf m mid r e o
+    → Some f ≡ second_event conf r o → IsPacket f.what → between ≡ before + packets_of e.what → OnOk answer (after ≡ between + 1)
+    → OnOk answer (after ≡ before + packets_in (events_of_record conf m r))
+taken-both conf m mid r e f o (Ok a) before between after k some is counted more =
+    let all = packets-both conf m r f (then-is conf m mid r e o (Some f) k some) is in
+    let first = ap (λ (x : Event). packets_of x.what) k.event in
+    more ∙ omega (arith, counted, all, first)
+taken-both conf m mid r e f o (Err x) before between after k some is counted more = tt
+
+-- ---- memory was refused to the second
+
+pub refused-second : {A : Type 0} (conf : Conf) (m mid new : Machine) (r e f : Event) (o : Outcome) (answer : Result A NoMemory) → IsFirst conf m mid r e o
+    → Some f ≡ second_event conf r o → OnErr answer (IsRefusedIn conf mid f new) → OnErr answer (IsRefusedOnWay conf m r new)
+refused-second conf m mid new r e f o (Ok a) k some refused = tt
+refused-second conf m mid new r e f o (Err x) k some refused =
+    inr (subst (λ (a : Outcome × Machine). IsRefusedSecond conf a r new) (answered conf m mid r e o k) (f, sym some, refused))
+
+-- ---- the work of both
+
+pub work-both : (counts : Bool) (conf : Conf) (m mid : Machine) (r e f : Event) (o : Outcome) (answer : Result Way NoMemory) (first work : Work) → IsFirst conf m mid r e o
+    → Some f ≡ second_event conf r o → IsWorkOfStep counts conf m e (Ok o) first → IsWorkBehindFirst counts conf mid f answer first work
+    → IsWorkOfWay counts conf m r answer work
+work-both counts conf m mid r e f o answer first work k some one two = by answer (subst (λ (then : Option Event). IsWorkOn counts conf m (first_event conf r) then answer work) (then-is conf m mid r e o (Some f) k some) both)
+  where
+    one-is : IsWorkOfStep counts conf m (first_event conf r) (Ok (step conf m (first_event conf r)).0) first
+    one-is = subst (λ (x : Event). IsWorkOfStep counts conf m x (Ok (step conf m (first_event conf r)).0) first) k.event
+        (subst (λ (x : Outcome). IsWorkOfStep counts conf m e (Ok x) first) (ap (λ (a : Outcome × Machine). a.0) (answered conf m mid r e o k)) one)
+
+    two-is : IsWorkBehindFirst counts conf (step conf m (first_event conf r)).1 f answer first work
+    two-is = subst (λ (x : Machine). IsWorkBehindFirst counts conf x f answer first work) (ap (λ (a : Outcome × Machine). a.1) (answered conf m mid r e o k)) two
+
+    both : IsWorkOn counts conf m (first_event conf r) (Some f) answer work
+    both = (first, one-is, two-is)
+
+    by : (answer : Result Way NoMemory) → IsWorkOfEvents counts conf m r answer work → IsWorkOfWay counts conf m r answer work
+    by (Ok w) is = is
+    by (Err x) is = inr is
+
+-- ---- where there are no routes
+
+leaves-none : (conf : Conf) (a : Addr) → conf.routes ≡ [] → leaves_by conf a ≡ None
+leaves-none conf a none = rw none refl
+
+first-packet : (conf : Conf) (p : PacketView) (way : Dir) → conf.routes ≡ [] → first_packet_by conf p way ≡ p
+first-packet conf p dir.In none = refl
+first-packet conf p dir.Out none = rw (leaves-none conf p.source.addr none) refl
+
+first-arrival : (conf : Conf) (what : Arrival) → conf.routes ≡ [] → first_arrival conf what ≡ what
+first-arrival conf (arrival.Packet p) none = ap (λ (q : PacketView). arrival.Packet q) (first-packet conf p p.dir none)
+first-arrival conf arrival.Skip none = refl
+first-arrival conf (arrival.Table table done) none = refl
+first-arrival conf (arrival.Kill hosts) none = refl
+first-arrival conf arrival.Held none = refl
+
+alone-first : (conf : Conf) (r : Event) → conf.routes ≡ [] → first_event conf r ≡ r
+alone-first conf r none = ap (λ (what : Arrival). record r { what = what }) (first-arrival conf r.what none)
+
+leaving-none : (conf : Conf) (p : PacketView) (way : Dir) → conf.routes ≡ [] → leaving_by conf p way ≡ None
+leaving-none conf p dir.In none = rw (leaves-none conf p.destination.addr none) refl
+leaving-none conf p dir.Out none = rw (leaves-none conf p.source.addr none) refl
+
+second-none : (conf : Conf) (o : Outcome) (what : Arrival) → conf.routes ≡ [] → second_packet conf o what ≡ None
+second-none conf o (arrival.Packet p) none = ap (option_and_then (onward o)) (leaving-none conf p p.dir none)
+second-none conf o arrival.Skip none = refl
+second-none conf o (arrival.Table table done) none = refl
+second-none conf o (arrival.Kill hosts) none = refl
+second-none conf o arrival.Held none = refl
+
+alone-second : (conf : Conf) (r : Event) (o : Outcome) → conf.routes ≡ [] → second_event conf r o ≡ None
+alone-second conf r o none = ap (option_map (λ (p : PacketView). record r { what = arrival.Packet p })) (second-none conf o r.what none)
+
+-- the first event is the record, and there is no second
+alone : (conf : Conf) (m mid : Machine) (r : Event) (o : Outcome) → conf.routes ≡ [] → (o, mid) ≡ step conf m r → IsFirst conf m mid r r o
+alone conf m mid r o none answer = record { event = sym (alone-first conf r none); answer = answer }
+
+pub packets-of-alone : (conf : Conf) (m mid : Machine) (r : Event) (o : Outcome) (before after : ℕ) → conf.routes ≡ [] → (o, mid) ≡ step conf m r
+    → after ≡ before + packets_of r.what → after ≡ before + packets_in (events_of_record conf m r)
+packets-of-alone conf m mid r o before after none answer counted =
+    taken-alone conf m mid r r o before after (alone conf m mid r o none answer) (sym (alone-second conf r o none)) counted

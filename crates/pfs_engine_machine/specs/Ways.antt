@@ -1,0 +1,129 @@
+-- The whole way of a record: with routes a packet is asked where it comes in, and, if that lets it go on, where it leaves. Each is one
+-- event of the machine. (pf(4) has a state at each interface; `set route` is own)
+use Rattle.std.specs.Prelude.{ℕ, ◌≡◌, ◌++◌, ◌⊎◌, Bool, if◌then◌else◌, Option, Some, None, option_map, List, [], ◌∷◌, true}
+use Rattle.std.specs.Option.{option_and_then}
+use Rattle.pfs_addr_values.specs.Packets.{PacketView}
+use Rattle.pfs_addr_values.specs.declared.addresses.Addr.{Addr}
+use Rattle.pfs_addr_values.specs.declared.packets.Dir.{Dir}
+use Rattle.pfs_addr_values.specs.declared.packets.Dir.TheVariants as dir
+use Rattle.pfs_conf_values.specs.Configs.{Conf}
+use Rattle.pfs_eval.specs.Routing.{interface_to}
+use Rattle.pfs_engine_machine.specs.Guards.{asked}
+use Rattle.pfs_engine_machine.specs.Machine.{Machine, step}
+use Rattle.pfs_engine_machine.specs.Runs.{IsRefusedIn}
+use Rattle.pfs_engine_machine.specs.declared.events.Arrival.{Arrival}
+use Rattle.pfs_engine_machine.specs.declared.events.Arrival.TheVariants as arrival
+use Rattle.pfs_engine_machine.specs.declared.events.Event.{Event}
+use Rattle.pfs_engine_machine.specs.declared.events.Outcome.{Outcome}
+use Rattle.pfs_engine_machine.specs.declared.events.Outcome.TheVariants as outcome
+use Rattle.pfs_engine_machine.specs.declared.events.Way.{Way}
+
+-- ---- the two interfaces
+
+-- the interface by which packets to an address leave; none where they are for the firewall itself
+abbrev pub leaves_by : Conf → Addr → Option (List ℕ)
+leaves_by conf a = interface_to conf.routes a
+
+-- a packet at another interface, on its way in or out there
+abbrev pub through : Dir → PacketView → List ℕ → PacketView
+through way p ifname = record p { dir = way; ifname = ifname }
+
+-- a packet is asked first where it comes in: one that was seen on its way out, where packets to its source leave. One that the firewall
+-- itself sends is asked where it leaves
+abbrev pub comes_in : PacketView → Option (List ℕ) → PacketView
+comes_in p None = p
+comes_in p (Some ifname) = through dir.In p ifname
+
+abbrev pub first_packet_by : Conf → PacketView → Dir → PacketView
+first_packet_by conf p dir.In = p
+first_packet_by conf p dir.Out = comes_in p (leaves_by conf p.source.addr)
+
+abbrev pub first_packet : Conf → PacketView → PacketView
+first_packet conf p = first_packet_by conf p p.dir
+
+-- and then where it leaves; one for the firewall itself leaves nowhere, and one that it sends is asked there alone
+abbrev pub leaving_by : Conf → PacketView → Dir → Option PacketView
+leaving_by conf p dir.In = option_map (through dir.Out p) (leaves_by conf p.destination.addr)
+leaving_by conf p dir.Out = option_map (λ i. p) (leaves_by conf p.source.addr)
+
+abbrev pub leaving : Conf → PacketView → Option PacketView
+leaving conf p = leaving_by conf p p.dir
+
+-- by what came of it first, it goes on itself, or pf's own SYN goes in its place, or nothing. Pf answers a packet with ACK that makes a
+-- state only where it brought a SYN cookie: then its maker's handshake is complete
+abbrev pub onward : Outcome → PacketView → Option PacketView
+onward (outcome.New rule) p = Some p
+onward (outcome.State rule) p = Some p
+onward (outcome.Pass rule) p = Some p
+onward (outcome.Asking rule) p = Some (asked p true)
+onward (outcome.Answered rule) p = if p.flags.ack then Some (asked p true) else None
+onward _ p = None
+
+-- ---- the events of a record
+
+abbrev pub first_arrival : Conf → Arrival → Arrival
+first_arrival conf (arrival.Packet p) = arrival.Packet (first_packet conf p)
+first_arrival conf what = what
+
+abbrev pub first_event : Conf → Event → Event
+first_event conf e = record e { what = first_arrival conf e.what }
+
+abbrev pub second_packet : Conf → Outcome → Arrival → Option PacketView
+second_packet conf o (arrival.Packet p) = option_and_then (onward o) (leaving conf p)
+second_packet conf o _ = None
+
+-- the second, behind this outcome of the first
+abbrev pub second_event : Conf → Event → Outcome → Option Event
+second_event conf e o = option_map (λ p. record e { what = arrival.Packet p }) (second_packet conf o e.what)
+
+-- ---- what comes of a record: the outcome of each of its events, and the machine after them
+
+abbrev pub way_on : Conf → Outcome × Machine → Option Event → Way × Machine
+way_on conf answer None = (record { first = answer.0; second = None }, answer.1)
+way_on conf answer (Some e) = (record { first = answer.0; second = Some (step conf answer.1 e).0 }, (step conf answer.1 e).1)
+
+abbrev pub way_behind : Conf → Event → Outcome × Machine → Way × Machine
+way_behind conf e answer = way_on conf answer (second_event conf e answer.0)
+
+unfoldable pub way : Conf → Machine → Event → Way × Machine
+way conf m e = way_behind conf e (step conf m (first_event conf e))
+
+-- ---- a run of records: what came of each in turn, and the machine after all of them
+
+unfoldable pub ways_of : Conf → Machine → List Event → List Way
+ways_of conf m [] = []
+ways_of conf m (e ∷ es) = (way conf m e).0 ∷ ways_of conf (way conf m e).1 es
+
+unfoldable pub machine_after_ways : Conf → Machine → List Event → Machine
+machine_after_ways conf m [] = m
+machine_after_ways conf m (e ∷ es) = machine_after_ways conf (way conf m e).1 es
+
+-- ---- a run of records is a run of their events
+
+abbrev pub events_on : Event → Option Event → List Event
+events_on e None = e ∷ []
+events_on e (Some f) = e ∷ f ∷ []
+
+abbrev pub events_of_record : Conf → Machine → Event → List Event
+events_of_record conf m e = events_on (first_event conf e) (second_event conf e (step conf m (first_event conf e)).0)
+
+unfoldable pub events_of_records : Conf → Machine → List Event → List Event
+events_of_records conf m [] = []
+events_of_records conf m (e ∷ es) = events_of_record conf m e ++ events_of_records conf (way conf m e).1 es
+
+-- the outcomes of a way, one behind the other
+abbrev pub outcomes_on : Way → Option Outcome → List Outcome
+outcomes_on w None = w.first ∷ []
+outcomes_on w (Some o) = w.first ∷ o ∷ []
+
+unfoldable pub outcomes_in : List Way → List Outcome
+outcomes_in [] = []
+outcomes_in (w ∷ ws) = outcomes_on w w.second ++ outcomes_in ws
+
+-- ---- where memory was refused: at the first event, or at the second, which needs memory there
+
+abbrev pub IsRefusedSecond : Conf → Outcome × Machine → Event → Machine → Type 0
+IsRefusedSecond conf answer e new = (f : Event) × (second_event conf e answer.0 ≡ Some f) × IsRefusedIn conf answer.1 f new
+
+abbrev pub IsRefusedOnWay : Conf → Machine → Event → Machine → Type 0
+IsRefusedOnWay conf m e new = IsRefusedIn conf m (first_event conf e) new ⊎ IsRefusedSecond conf (step conf m (first_event conf e)) e new

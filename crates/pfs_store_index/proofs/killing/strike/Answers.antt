@@ -1,0 +1,28 @@
+-- Answers of strike: the state of this number is there, and leaves if it is one of those; all others stay.
+use Rattle.std.proofs.Common.{◌≡◌, ◌∙◌, Some, sym, ap, filter, subst}
+use Rattle.std.specs.List.{find}
+use Rattle.pfs_store_contract.specs.Leaving.{is_from_to}
+use Rattle.pfs_store_contract.specs.Calls.{other_than}
+use Rattle.pfs_store_index.proofs.Retained.{retained-same}
+use Rattle.pfs_store_index.proofs.Leavings.{state_number}
+use Rattle.pfs_store_records.proofs.Rising.{found-number, has_number}
+use Rattle.pfs_store_index.proofs.RisingWalks.{survive-kept, survive-removed}
+use Rattle.pfs_store_index.proofs.killing.strike.Goals as goal
+
+pub take_out-requires-clause-held : goal.take_out-requires-clause-held
+take_out-requires-clause-held g c =
+    let f = c.read-state.ensures.value in
+    subst (λ k. find (has_number state_number k) c.args.indexes.now.states ≡ Some c.read-state.result) (sym (found-number state_number c.args.number c.read-state.result c.args.indexes.now.states f)) f
+
+pub returns-then-is_of-clause-states : goal.returns-then-is_of-clause-states
+returns-then-is_of-clause-states g c =
+    let f = c.read-state.ensures.value in
+    c.take_out.ensures.states ∙ ap (λ n. filter (other_than n) c.args.indexes.now.states) (found-number state_number c.args.number c.read-state.result c.args.indexes.now.states f)
+    ∙ survive-removed state_number (is_from_to c.args.hosts.now) c.args.number c.read-state.result c.args.indexes.now.states c.state_numbers_rise.ensures f (sym c.if-is_of.ensures)
+
+pub returns-else-is_of-clause-states : goal.returns-else-is_of-clause-states
+returns-else-is_of-clause-states g c =
+    survive-kept state_number (is_from_to c.args.hosts.now) c.args.number c.read-state.result c.args.indexes.now.states c.state_numbers_rise.ensures c.read-state.ensures.value (sym c.if-is_of.ensures)
+
+pub returns-else-is_of-clause-nodes : goal.returns-else-is_of-clause-nodes
+returns-else-is_of-clause-nodes g c = retained-same c.args.indexes.now.config c.args.indexes.now.states c.args.now c.args.indexes.now.nodes
