@@ -6,7 +6,8 @@ use Rattle.pfs_addr_values.specs.declared.addresses.Addr.{Addr}
 use Rattle.pfs_addr_values.specs.Prefixes.{Network, covers}
 use Rattle.pfs_conf_values.specs.declared.routes.Route.{Route}
 use Rattle.pfs_eval.specs.Covering.{narrower, narrowest}
-use Rattle.pfs_eval.specs.Routing.{entry_of_route, has_more_bits, longer}
+use Rattle.pfs_eval.specs.RouteSteps.{has_more_bits, longer}
+use Rattle.pfs_eval.specs.Routing.{entry_of_route}
 
 -- the narrowest of one that was found, if one was, and of one further
 abbrev pub with_further : {K : Type 0} → Option (Network × K) → Option (Network × K) → Option (Network × K)

@@ -6,6 +6,7 @@ pub mod Lengths
 pub mod Lines
 pub mod Matching
 pub mod Parameters
+pub mod RouteSteps
 pub mod Routing
 pub mod Skips
 pub mod Tables

@@ -1,8 +1,8 @@
 -- Where packets leave: by the route with the longest prefix that covers their destination. (route(8))
-use Rattle.std.specs.Prelude.{ℕ, ◌&&◌, nat_lt, Bool, true, if◌then◌else◌, codes, Option, Some, None, List, map}
+use Rattle.std.specs.Prelude.{ℕ, if◌then◌else◌, codes, Option, Some, None, List, map}
 use Rattle.std.specs.Str.{bytes_eq}
 use Rattle.pfs_addr_values.specs.declared.addresses.Addr.{Addr}
-use Rattle.pfs_addr_values.specs.Prefixes.{Network, covers}
+use Rattle.pfs_addr_values.specs.Prefixes.{Network}
 use Rattle.pfs_conf_values.specs.declared.routes.Route.{Route}
 use Rattle.pfs_eval.specs.Covering.{narrowest}
 
@@ -18,11 +18,3 @@ unless_itself (Some r) = if bytes_eq r.1 (codes "lo0") then None else Some r.1
 -- the interface by which packets to an address leave; none where they are for the firewall itself
 abbrev pub interface_to : List Route → Addr → Option (List ℕ)
 interface_to routes a = unless_itself (narrowest (map entry_of_route routes) a)
-
--- a route that covers an address with more bits than the one that was found before it; else that one
-abbrev pub has_more_bits : Route → Option Route → Bool
-has_more_bits r None = true
-has_more_bits r (Some f) = nat_lt f.prefix.bits r.prefix.bits
-
-abbrev pub longer : Option Route → Route → Addr → Option Route
-longer found r a = if has_more_bits r found && covers r.prefix a then Some r else found

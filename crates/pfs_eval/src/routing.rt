@@ -3,7 +3,8 @@
 ghost use Rattle.std.specs.Prelude.{◌≡◌, map, option_map};
 ghost use Rattle.pfs_addr_values.specs.Prefixes.{covers};
 ghost use Rattle.pfs_eval.specs.Covering.{narrowest};
-ghost use Rattle.pfs_eval.specs.Routing.{entry_of_route, has_more_bits, interface_to, longer};
+ghost use Rattle.pfs_eval.specs.RouteSteps.{has_more_bits, longer};
+ghost use Rattle.pfs_eval.specs.Routing.{entry_of_route, interface_to};
 
 use pfs_addr_values::{Addr, IfName};
 use pfs_conf_values::Route;
