@@ -16,6 +16,6 @@ pub use flag_sets::Flags;
 pub use memory::NoMemory;
 pub use meters::Meter;
 pub use names::{IfName, Name, parse_ifname};
-pub use packets::{Dir, Endpoint, FlowKey, Packet, ROW_LIMIT, RUN_LIMIT};
+pub use packets::{Dir, Endpoint, FlowKey, Packet, ROW_LIMIT, RUN_LIMIT, TagNo};
 pub use prefixes::Prefix;
 pub use protocols::{OtherProto, Proto};

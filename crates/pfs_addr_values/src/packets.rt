@@ -1,9 +1,11 @@
 //! Packets, as the rules and the states look at them, and the keys by which states are found.
 
-ghost use Rattle.std.specs.Prelude.{◌≡◌, false};
+ghost use Rattle.std.specs.Prelude.{◌≡◌, None, Some, false};
 ghost use Rattle.std.specs.Str.{bytes_eq};
 ghost use Rattle.pfs_addr_values.specs.Keys.{key_of};
+ghost use Rattle.pfs_addr_values.specs.Packets.{came_in_on, through, with_tag};
 ghost use Rattle.pfs_addr_values.specs.Protocols.{has_ports};
+ghost use Rattle.pfs_addr_values.specs.declared.packets.Dir.TheVariants.{In, Out};
 
 use crate::addresses::Addr;
 use crate::flag_sets::Flags;
@@ -36,10 +38,14 @@ pub struct Endpoint {
     pub port: u16,
 }
 
+/// A tag, by the number of the first rule of the text that gives it. (pf.conf(5), PARAMETERS, "tag"; the number is own)
+#[derive(Debug, Clone, Copy, PartialEq, Eq, Hash)]
+pub struct TagNo(pub u16);
+
 /// A packet on an interface.
 ///
 /// Clauses see it as a `PacketView`: direction, interface name, protocol, the source and the destination with their ports,
-/// and flags. Its ports are 0 for protocols other than TCP and UDP.
+/// flags, its tag, and the interface by which it came before. Its ports are 0 for protocols other than TCP and UDP.
 #[derive(Debug, Clone, Copy, PartialEq, Eq)]
 pub struct Packet {
     dir: Dir,
@@ -48,6 +54,8 @@ pub struct Packet {
     source: Endpoint,
     destination: Endpoint,
     flags: Flags,
+    tag: Option<TagNo>,
+    came_by: Option<IfName>,
 }
 
 impl Model for Packet {
@@ -56,11 +64,11 @@ impl Model for Packet {
 
     ghost Value = { PacketView };
 
-    ghost view = { λ p. record { dir = p.dir; ifname = p.ifname; proto = p.proto; source = p.source; destination = p.destination; flags = p.flags } };
+    ghost view = { λ p. record { dir = p.dir; ifname = p.ifname; proto = p.proto; source = p.source; destination = p.destination; flags = p.flags; tag = p.tag; came_by = p.came_by } };
 
     ghost invariant = { λ p. IsPortless p.proto p.source p.destination };
 
-    ghost inverse = { λ p. record { dir = p.dir; ifname = p.ifname; proto = p.proto; source = p.source; destination = p.destination; flags = p.flags } };
+    ghost inverse = { λ p. record { dir = p.dir; ifname = p.ifname; proto = p.proto; source = p.source; destination = p.destination; flags = p.flags; tag = p.tag; came_by = p.came_by } };
 }
 
 /// What a packet and its answers have in common, by which a state is found: the protocol, and two ends. For an `in`
@@ -94,7 +102,8 @@ impl FlowKey {
 }
 
 impl Packet {
-    /// A packet between two ends. The ports are 0 unless the protocol is TCP or UDP.
+    /// A packet between two ends, without a tag, and which came by no other interface. The ports are 0 unless the protocol is TCP or
+    /// UDP.
     pub fn new(
         dir: Dir,
         ifname: IfName,
@@ -105,7 +114,7 @@ impl Packet {
     ) -> Packet
         requires source_port { has_ports proto ≡ false → source.port ≡ 0 }
         requires destination_port { has_ports proto ≡ false → destination.port ≡ 0 }
-        ensures { result ≡ record { dir = dir; ifname = ifname; proto = proto; source = source; destination = destination; flags = flags } }
+        ensures { result ≡ record { dir = dir; ifname = ifname; proto = proto; source = source; destination = destination; flags = flags; tag = None; came_by = None } }
     {
         Packet {
             dir,
@@ -114,6 +123,8 @@ impl Packet {
             source,
             destination,
             flags,
+            tag: None,
+            came_by: None,
         }
     }
 
@@ -159,6 +170,24 @@ impl Packet {
         self.destination
     }
 
+    /// The tag that a rule gave it, or the state that it is of. (pf.conf(5), PARAMETERS, "tag")
+    pub fn tag(&self) -> Option<TagNo>
+        ensures { result ≡ self.now.tag }
+    {
+        self.tag
+    }
+
+    /// The interface on which the packet came in: its own, if it is on its way in; else the one by which it came before, if that is
+    /// known. (pf.conf(5), PARAMETERS, "received-on")
+    pub fn came_in_on(&self) -> Option<IfName>
+        ensures { result ≡ came_in_on self.now }
+    {
+        match self.dir {
+            Dir::In => Some(self.ifname),
+            Dir::Out => self.came_by,
+        }
+    }
+
     /// The TCP flags; none for other protocols.
     pub fn flags(&self) -> Flags
         ensures { result ≡ self.now.flags }
@@ -166,15 +195,35 @@ impl Packet {
         self.flags
     }
 
-    /// The packet at another interface, on its way in or out there. It takes no memory.
-    pub fn through(&self, dir: Dir, ifname: IfName) -> Packet
-        ensures { result ≡ record self.now { dir = dir; ifname = ifname } }
+    /// The packet as it comes in at another interface. It takes no memory.
+    pub fn in_by(&self, ifname: IfName) -> Packet
+        ensures { result ≡ record self.now { dir = In; ifname = ifname; came_by = None } }
     {
         Packet {
-            dir,
+            dir: Dir::In,
             ifname,
+            came_by: None,
             ..*self
         }
+    }
+
+    /// The packet as it goes out at another interface: it came by the one where it is. It takes no memory.
+    pub fn through(&self, ifname: IfName) -> Packet
+        ensures { result ≡ through self.now ifname }
+    {
+        Packet {
+            dir: Dir::Out,
+            ifname,
+            came_by: Some(self.ifname),
+            ..*self
+        }
+    }
+
+    /// The packet with a tag, or with none. It takes no memory.
+    pub fn with_tag(&self, tag: Option<TagNo>) -> Packet
+        ensures { result ≡ with_tag self.now tag }
+    {
+        Packet { tag, ..*self }
     }
 
     /// The packet with these flags in place of its own. It takes no memory.

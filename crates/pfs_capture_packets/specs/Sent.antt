@@ -1,5 +1,5 @@
 -- The packet of a frame on its way through an interface, as rules and states look at it.
-use Rattle.std.specs.Prelude.{ℕ, false, List}
+use Rattle.std.specs.Prelude.{ℕ, false, None, List}
 use Rattle.pfs_addr_values.specs.Packets.{PacketView}
 use Rattle.pfs_addr_values.specs.declared.flag_sets.Flags.{Flags}
 use Rattle.pfs_addr_values.specs.declared.packets.Dir.{Dir}
@@ -45,4 +45,6 @@ on_way dir ifname packet = record {
   source = record { addr = packet.source; port = from_port packet.carried };
   destination = record { addr = packet.destination; port = to_port packet.carried };
   flags = flags_of_carried packet.carried;
+  tag = None;
+  came_by = None;
 }

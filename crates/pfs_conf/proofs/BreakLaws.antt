@@ -2,7 +2,7 @@
 use Rattle.std.proofs.Common.{◌≡◌, ℕ, zero, suc, ◌==◌, Bool, true, false, cond, List, length, Option, Some, None, Result, Ok, Err, refl, ap, subst, ◌∙◌, inl, inr}
 use Rattle.std.proofs.lemmas.Bool.{eqb-true}
 use Rattle.pfs_conf_tokens.specs.Tokens.{Tok, head}
-use Rattle.pfs_conf_tokens.specs.Reading.{rest, ends_text, Refused, stop, broken, Act, take, stay, refuse, act, on_front, done, chain, perhaps, turns, left_there, until_all, ended}
+use Rattle.pfs_conf_tokens.specs.Reading.{rest, ends_text, Refused, stop, broken, Act, take, stay, refuse, act, on_front, done, chain, perhaps, turns, left_there, until_all, ended, once}
 use Rattle.pfs_conf_tokens.specs.declared.keys.Key.{Key}
 use Rattle.pfs_conf_tokens.specs.declared.keys.Key.TheVariants as key
 use Rattle.pfs_conf_tokens.specs.declared.refusals.LoadRule.{LoadRule}
@@ -15,7 +15,7 @@ use Rattle.pfs_addr_values.specs.Names.{name_of}
 use Rattle.pfs_conf_settings.specs.Drafts.{Drafted, conf_of_draft, is_defined}
 use Rattle.pfs_conf_values.specs.Siblings.{has_sibling}
 use Rattle.pfs_conf_values.specs.declared.filters.FlagTest.{FlagTest}
-use Rattle.pfs_conf_filters.specs.Reading.{verb_at, parameters_at, flags_at, begins_flags}
+use Rattle.pfs_conf_filters.specs.Reading.{verb_at, parameters_at, flags_at, begins_flags, extra_at}
 use Rattle.pfs_conf_filters.specs.declared.phrases.Parameters.{Parameters}
 use Rattle.pfs_conf_filters.specs.declared.phrases.Statement.TheVariants as statement
 use Rattle.pfs_conf_filters.specs.declared.phrases.Verb.{Verb}
@@ -33,19 +33,32 @@ use Rattle.pfs_conf.specs.declared.progress.Progress.{Progress}
 use Rattle.pfs_conf.specs.Grammar.{names_anchor, RuleOf, AnchorOf, StatementOf, CookiesOf}
 use Rattle.pfs_conf.specs.Faults.{Statements, none, before, Breaks, at_rule, at_anchor, at_end, at_cookies}
 use Rattle.pfs_conf.specs.Statements.{nothing, no_clauses, with_rule, with_anchor, with_definition, rule_breaks, anchor_breaks, text_breaks, with_cookies, cookies_break}
-use Rattle.pfs_conf.specs.Reading.{with_draft, anchor_closed, told, clause_by, clause_at, rule_text_at, rule_line_at, anchor_named, anchor_name_by, anchor_name_at, brace_by, brace_at, anchor_parts_at, in_head, anchor_text_at, anchor_at, set_at, open_by, angle_by, new_table_named, new_name_by, new_name_at, definition_at, statement_by, statement_at, all_closed, told_of, statements_at, text_at, cookies_line_at, setting_line_at, set_by}
+use Rattle.pfs_conf.specs.Reading.{with_draft, anchor_closed, told, clause_by, clause_at, rule_text_at, rule_line_at, anchor_named, anchor_name_by, anchor_name_at, brace_by, brace_at, anchor_parts_at, in_head, anchor_text_at, anchor_at, set_at, open_by, angle_by, new_table_named, new_name_by, new_name_at, definition_at, statement_by, statement_at, all_closed, told_of, statements_at, text_at, cookies_line_at, setting_line_at, set_by, state_act, extra_act}
 use Rattle.pfs_conf.proofs.OnlineLaws.{ruled, anchored}
 use Rattle.pfs_conf.proofs.PhraseLaws.{rule_text_is, anchor_text_is, statement_is, statements_are, closed_ok}
 use Rattle.pfs_conf.proofs.UnbrokenLaws.{Unbroken, UnbrokenAct, refused_unbroken, unbroken_done, unbroken_chain, unbroken_front, unbroken_if, unbroken_once, unbroken_perhaps, unbroken_until, unbroken_ended}
-use Rattle.pfs_conf.proofs.UnbrokenPhrases.{unbroken_verb, unbroken_parameters, unbroken_flags, unbroken_state, unbroken_settings, unbroken_parts, unbroken_syncookies}
+use Rattle.pfs_conf.proofs.UnbrokenPhrases.{unbroken_verb, unbroken_parameters, unbroken_flags, unbroken_state, unbroken_settings, unbroken_parts, unbroken_syncookies, unbroken_extra}
+use Rattle.pfs_conf_filters.specs.Grammar.{statement_of, takes_state}
 
 -- ---- statements as they are written check no load rule
 
+extra_acts : (c : Clauses) → UnbrokenAct (extra_act c)
+extra_acts c = unbroken_chain (extra_at c.extras) (λ e. done (record c { extras = e })) (unbroken_extra c.extras) (λ e. unbroken_done (record c { extras = e }))
+
+state_acts : (v : Verb) (c : Clauses) → UnbrokenAct (state_act v c)
+state_acts v c = unbroken_if (takes_state v) (once c.state (stay (chain state_at (λ s. done (record c { state = Some s }))))) (refuse why.Plain)
+    (unbroken_once c.state (stay (chain state_at (λ s. done (record c { state = Some s })))) (unbroken_chain state_at (λ s. done (record c { state = Some s })) unbroken_state (λ s. unbroken_done (record c { state = Some s }))))
+    tt
+
 clause_acts : (v : Verb) (p : Parameters) (c : Clauses) (k : Key) → UnbrokenAct (clause_by v p c k)
 clause_acts v p c key.Flags = unbroken_once c.flags _ (unbroken_chain flags_at _ unbroken_flags (λ f. unbroken_done (record c { flags = Some f })))
-clause_acts v p c key.No = unbroken_once c.state _ (unbroken_chain state_at _ unbroken_state (λ s. unbroken_done (record c { state = Some s })))
-clause_acts v p c key.Keep = unbroken_once c.state _ (unbroken_chain state_at _ unbroken_state (λ s. unbroken_done (record c { state = Some s })))
-clause_acts v p c key.Synproxy = unbroken_once c.state _ (unbroken_chain state_at _ unbroken_state (λ s. unbroken_done (record c { state = Some s })))
+clause_acts v p c key.Tag = extra_acts c
+clause_acts v p c key.Tagged = extra_acts c
+clause_acts v p c key.ReceivedOn = extra_acts c
+clause_acts v p c key.Not = extra_acts c
+clause_acts v p c key.No = state_acts v c
+clause_acts v p c key.Keep = state_acts v c
+clause_acts v p c key.Synproxy = state_acts v c
 clause_acts v p c _ = tt
 
 unbroken_clause : (v : Verb) (p : Parameters) (c : Clauses) → Unbroken (clause_at v p c)
@@ -54,8 +67,8 @@ unbroken_clause v p c = unbroken_front (λ t. clause_by v p c t.key) (λ t. clau
 
 unbroken_rule_text : Unbroken rule_text_at
 unfolding rule_text_at
-unbroken_rule_text = unbroken_chain verb_at (λ v. chain (parameters_at statement.Rule) (λ p. chain (until_all ends_line (clause_at v p) no_clauses) (λ c. done (ruled v p c)))) unbroken_verb
-    (λ v. unbroken_chain (parameters_at statement.Rule) (λ p. chain (until_all ends_line (clause_at v p) no_clauses) (λ c. done (ruled v p c))) (unbroken_parameters statement.Rule)
+unbroken_rule_text = unbroken_chain verb_at (λ v. chain (parameters_at (statement_of v)) (λ p. chain (until_all ends_line (clause_at v p) no_clauses) (λ c. done (ruled v p c)))) unbroken_verb
+    (λ v. unbroken_chain (parameters_at (statement_of v)) (λ p. chain (until_all ends_line (clause_at v p) no_clauses) (λ c. done (ruled v p c))) (unbroken_parameters (statement_of v))
     (λ p. unbroken_chain (until_all ends_line (clause_at v p) no_clauses) (λ c. done (ruled v p c)) (unbroken_until ends_line (clause_at v p) (unbroken_clause v p) no_clauses) (λ c. unbroken_done (ruled v p c))))
 
 named_acts : (p : Progress) (o : Option (List ℕ)) → UnbrokenAct (anchor_named p o)
@@ -208,6 +221,7 @@ statement_breaks {all = all} p ts c n s e = by_key (head ts).key refl e
     by_key key.Table g h = absurd (if_never (p.depth == 0) (take (definition_at p)) (refuse why.Inner) (unbroken_table p) tt ts c n h)
     by_key key.Pass g h = let r = rule_breaks_is (head ts).line p ts c n h in subst (λ (z : ℕ). Breaks all c z) r.4 (at_rule r.0 s r.2 r.3)
     by_key key.Block g h = let r = rule_breaks_is (head ts).line p ts c n h in subst (λ (z : ℕ). Breaks all c z) r.4 (at_rule r.0 s r.2 r.3)
+    by_key key.Match g h = let r = rule_breaks_is (head ts).line p ts c n h in subst (λ (z : ℕ). Breaks all c z) r.4 (at_rule r.0 s r.2 r.3)
     by_key key.Anchor g h = let a = anchor_breaks_is (head ts).line p ts (rest ts) (word_is key.Anchor ts g (λ q. cc)) c n h in subst (λ (z : ℕ). Breaks all c z) a.4 (at_anchor a.0 s a.2 a.3)
     by_key key.CloseBrace g h = absurd (if_never (p.depth == 0) (refuse why.Statement) (take (ended (anchor_closed p))) tt (unbroken_ended (anchor_closed p)) ts c n h)
     by_key _ g h = absurd (refused_unbroken {A = Progress} why.Statement ts c n h)

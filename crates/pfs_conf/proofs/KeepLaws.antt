@@ -6,7 +6,7 @@ use Rattle.pfs_conf_tokens.specs.declared.refusals.LoadRule.{LoadRule}
 use Rattle.pfs_conf_tokens.specs.declared.refusals.LoadRule.TheVariants as load_rule
 use Rattle.pfs_conf_settings.specs.Drafts.{Drafted, tables_of, has_broken_shares}
 use Rattle.pfs_conf_settings.specs.Namings.{Named, is_named, naming, place_in, table_number, undefined_table}
-use Rattle.pfs_conf_values.specs.LoadRules.{IsTableNo, IsHost, IsSide, IsFilter, IsFlagTest, IsAction, IsRule, IsAnchor}
+use Rattle.pfs_conf_values.specs.LoadRules.{IsTableNo, IsHost, IsSide, IsFilter, IsFlagTest, IsAction, IsRule, IsAnchor, IsQuick}
 use Rattle.pfs_conf_values.specs.declared.actions.Action.{Action}
 use Rattle.pfs_conf_values.specs.declared.actions.Action.TheVariants as action
 use Rattle.pfs_conf_values.specs.declared.filters.FlagTest.{FlagTest}
@@ -31,7 +31,8 @@ use Rattle.pfs_conf_options.proofs.ReadLaws.{resolved_are}
 use Rattle.pfs_conf.specs.declared.phrases.RuleText.{RuleText}
 use Rattle.pfs_conf.specs.declared.phrases.AnchorText.{AnchorText}
 use Rattle.pfs_conf.specs.Statements.{name_host, number_host, number_side, name_overload, number_overload, filter_said, name_hosts, state_options, action_of, default_flags, name_rule, rule_action, rule_said, anchor_said, keeps_on_block, is_full, rule_breaks, anchor_breaks, cookies_break}
-use Rattle.pfs_conf.specs.Within.{IsTableName, AreParameters, IsRuleText, IsAnchorText}
+use Rattle.pfs_conf.specs.Within.{IsTableName, AreParameters, IsRuleText, IsAnchorText, MayBeQuick}
+use Rattle.pfs_conf_filters.specs.Grammar.{statement_of}
 
 -- ---- tables
 
@@ -127,12 +128,14 @@ rule_has_room d r e = leb-false 10000 (length d.items) (kept d r e).room
 action_kept : (tables : ℕ) (v : Verb) (s : Option StateClause) (table : Option TableNo) → AreRead (state_options s) → IfSome table (IsTableNo tables)
     → has_overload_alone (state_options s) ≡ false → has_global_connections (state_options s) ≡ false → has_global_retention (state_options s) ≡ false → has_broken_rule_pair (state_options s) ≡ false
     → IsAction tables (action_of v s table)
+action_kept tables verb.Match s table k t e1 e2 e3 e4 = tt
 action_kept tables (verb.Block b) s table k t e1 e2 e3 e4 = tt
 action_kept tables verb.Pass None table k t e1 e2 e3 e4 = resolved_are tables none_given table k t e1 e2 e3 e4
 action_kept tables verb.Pass (Some clause.No) table k t e1 e2 e3 e4 = tt
 action_kept tables verb.Pass (Some (clause.Keep o)) table k t e1 e2 e3 e4 = resolved_are tables o table k t e1 e2 e3 e4
 
 default_kept : (a : Action) → IsFlagTest (default_flags a)
+default_kept action.Match = tt
 default_kept action.Block = tt
 default_kept action.Pass = tt
 default_kept (action.Keep o) = refl
@@ -140,6 +143,13 @@ default_kept (action.Keep o) = refl
 flags_kept : (f : FlagTest) (o : Option FlagTest) → IsFlagTest f → IfSome o IsFlagTest → IsFlagTest (unwrap_or o f)
 flags_kept f None k h = k
 flags_kept f (Some g) k h = h
+
+quick_kept : (v : Verb) (s : Option StateClause) (table : Option TableNo) (quick : Bool) → MayBeQuick (statement_of v) quick → IsQuick (action_of v s table) quick
+quick_kept verb.Match s table quick h = h
+quick_kept (verb.Block b) s table quick h = tt
+quick_kept verb.Pass None table quick h = tt
+quick_kept verb.Pass (Some clause.No) table quick h = tt
+quick_kept verb.Pass (Some (clause.Keep o)) table quick h = tt
 
 -- a rule that keeps the load rules
 pub rule_is_kept : (d : Drafted) (r : RuleText) → IsRuleText r → rule_breaks d r ≡ None → IsRule (length (name_rule r d).tables) (rule_said r d)
@@ -150,8 +160,11 @@ rule_is_kept d r k e =
     record {
       filter = filter_kept tables r.parameters (unwrap_or r.clauses.flags (default_flags (rule_action r d))) d k.parameters
           (flags_kept (default_flags (rule_action r d)) r.clauses.flags (default_kept (rule_action r d)) k.flags) h.proto more;
+      came = record { tagged = k.extras.tagged; received_on = k.extras.received_on };
+      tag = k.extras.tag;
       action = action_kept tables r.verb r.clauses.state (number_overload (state_options r.clauses.state).overload (name_hosts r.parameters.hosts d)) k.options
           (overload_known (state_options r.clauses.state).overload (name_hosts r.parameters.hosts d)) h.alone h.connections h.retention h.pair;
+      quick = quick_kept r.verb r.clauses.state (number_overload (state_options r.clauses.state).overload (name_hosts r.parameters.hosts d)) r.parameters.head.marks.quick k.quick;
     }
 
 -- ---- anchors

@@ -80,7 +80,7 @@ breaks_at ts p mid b n s k e = let f = goes_to s ∙ up_to_fails ends_text state
 
 pub breaks_told : {ts : List Tok} {b : LoadRule} {n : ℕ} → Breaks ts b n → text_at ts ≡ Err (broken b n)
 breaks_told {ts = ts} {b = b} (at_rule {p = p} {mid = mid} r s q e) =
-    breaks_at ts p mid b (head mid).line s (verb_key q.verb (λ k. ends_text k ≡ false) refl refl) (rule_statement p q.verb (Err (broken b (head mid).line)) (rule_told (head mid).line p r b q e))
+    breaks_at ts p mid b (head mid).line s (verb_key q.verb (λ k. ends_text k ≡ false) refl refl refl) (rule_statement p q.verb (Err (broken b (head mid).line)) (rule_told (head mid).line p r b q e))
 breaks_told {ts = ts} {b = b} (at_anchor {p = p} {mid = mid} a s q e) =
     breaks_at ts p mid b (head mid).line s (rw (word_head q.word).0 refl) (anchor_statement p q.word (Err (broken b (head mid).line)) (anchor_told (head mid).line p b q e))
 breaks_told {ts = ts} {b = b} (at_cookies {p = p} {mid = mid} {left = left} c s z q e) =

@@ -7,18 +7,18 @@ use Rattle.pfs_conf_tokens.specs.declared.refusals.LoadRule.{LoadRule}
 use Rattle.pfs_conf_tokens.specs.declared.refusals.Why.{Why}
 use Rattle.pfs_conf_tokens.specs.declared.refusals.Why.TheVariants as why
 use Rattle.pfs_conf_tokens.specs.Keys.{in_line, before_end, ends_line, is_word_key}
-use Rattle.pfs_conf_tokens.specs.Reading.{ends_text, Refused, stop, broken, Reader, Act, take, stay, refuse, on_front, done, chain, perhaps, until_all, ended}
+use Rattle.pfs_conf_tokens.specs.Reading.{ends_text, Refused, stop, broken, Reader, Act, take, stay, refuse, on_front, done, chain, perhaps, until_all, ended, once}
 use Rattle.pfs_conf_tokens.proofs.Laws.{Reach, inside, line, across, passes_more, Online, online_across, online_done, online_chain, OnlineAct, Taking, online_front, online_taking, once_taking, Shrinks, front_shrinks, chain_shrinks, online_perhaps, online_until_all, online_up_to_all, online_ended}
 use Rattle.pfs_conf_tokens.proofs.ReaderLaws.{line_end_before_end, word_in_line}
 use Rattle.pfs_addr_values.specs.Names.{name_of}
 use Rattle.pfs_conf_settings.specs.Drafts.{Drafted, conf_of_draft, is_defined}
 use Rattle.pfs_conf_values.specs.Siblings.{has_sibling}
 use Rattle.pfs_conf_values.specs.declared.filters.FlagTest.{FlagTest}
-use Rattle.pfs_conf_filters.specs.Reading.{verb_at, parameters_at, flags_at, begins_flags}
+use Rattle.pfs_conf_filters.specs.Reading.{verb_at, parameters_at, flags_at, begins_flags, extra_at}
 use Rattle.pfs_conf_filters.specs.declared.phrases.Parameters.{Parameters}
 use Rattle.pfs_conf_filters.specs.declared.phrases.Statement.TheVariants as statement
 use Rattle.pfs_conf_filters.specs.declared.phrases.Verb.{Verb}
-use Rattle.pfs_conf_filters.proofs.OnlineLaws.{online_verb, verb_shrinks, online_parameters, online_flags, flags_shrinks}
+use Rattle.pfs_conf_filters.proofs.OnlineLaws.{online_verb, verb_shrinks, online_parameters, online_flags, flags_shrinks, online_extra, extra_shrinks}
 use Rattle.pfs_conf_options.specs.Reading.{state_at}
 use Rattle.pfs_conf_options.proofs.OptionLaws.{online_state, state_shrinks}
 use Rattle.pfs_conf_settings.specs.Settings.{settings_at}
@@ -33,7 +33,8 @@ use Rattle.pfs_conf.specs.declared.phrases.AnchorText.{AnchorText}
 use Rattle.pfs_conf.specs.declared.progress.Progress.{Progress}
 use Rattle.pfs_conf.specs.Grammar.{names_anchor}
 use Rattle.pfs_conf.specs.Statements.{nothing, no_clauses, with_rule, with_anchor, with_definition, rule_breaks, anchor_breaks, text_breaks, with_cookies, cookies_break}
-use Rattle.pfs_conf.specs.Reading.{with_draft, anchor_closed, told, clause_by, clause_at, rule_text_at, rule_line_at, anchor_named, anchor_name_by, anchor_name_at, brace_by, brace_at, anchor_parts_at, why_in_head, in_head, anchor_text_at, anchor_at, set_at, open_by, angle_by, new_table_named, new_name_by, new_name_at, definition_at, statement_by, statement_at, all_closed, told_of, statements_at, text_at, cookies_line_at, setting_line_at, set_by}
+use Rattle.pfs_conf.specs.Reading.{with_draft, anchor_closed, told, clause_by, clause_at, rule_text_at, rule_line_at, anchor_named, anchor_name_by, anchor_name_at, brace_by, brace_at, anchor_parts_at, why_in_head, in_head, anchor_text_at, anchor_at, set_at, open_by, angle_by, new_table_named, new_name_by, new_name_at, definition_at, statement_by, statement_at, all_closed, told_of, statements_at, text_at, cookies_line_at, setting_line_at, set_by, state_act, extra_act}
+use Rattle.pfs_conf_filters.specs.Grammar.{statement_of, takes_state}
 
 -- ---- forms
 
@@ -73,23 +74,32 @@ online_told_of r (Some x) = broken_online r x.0 x.1
 
 -- ---- rules
 
+extra_takes : (c : Clauses) (k : Key) → Taking inside k (extra_act c)
+extra_takes c k = (
+  online_chain (extra_at c.extras) (λ e. done (record c { extras = e })) (online_extra c.extras) (λ e. online_done (record c { extras = e })),
+  chain_shrinks inside (extra_at c.extras) (λ e. done (record c { extras = e })) (extra_shrinks c.extras) (λ e. online_done (record c { extras = e })),
+)
+
+state_takes : (v : Verb) (c : Clauses) (k : Key) → Taking inside k (state_act v c)
+state_takes v c k = if_takes inside k (takes_state v) (once c.state (stay (chain state_at (λ s. done (record c { state = Some s }))))) (refuse why.Plain)
+    (λ e. once_taking inside k c.state (stay (chain state_at (λ s. done (record c { state = Some s })))) (
+      online_chain state_at (λ s. done (record c { state = Some s })) online_state (λ s. online_done (record c { state = Some s })),
+      chain_shrinks inside state_at (λ s. done (record c { state = Some s })) state_shrinks (λ s. online_done (record c { state = Some s })),
+    ))
+    (λ e. tt)
+
 clause_taking : (v : Verb) (p : Parameters) (c : Clauses) (k : Key) → Taking inside k (clause_by v p c k)
 clause_taking v p c key.Flags = once_taking inside key.Flags c.flags (stay (chain flags_at (λ f. done (record c { flags = Some f })))) (
   online_chain flags_at (λ f. done (record c { flags = Some f })) online_flags (λ f. online_done (record c { flags = Some f })),
   chain_shrinks inside flags_at (λ f. done (record c { flags = Some f })) flags_shrinks (λ f. online_done (record c { flags = Some f })),
 )
-clause_taking v p c key.No = once_taking inside key.No c.state (stay (chain state_at (λ s. done (record c { state = Some s })))) (
-  online_chain state_at (λ s. done (record c { state = Some s })) online_state (λ s. online_done (record c { state = Some s })),
-  chain_shrinks inside state_at (λ s. done (record c { state = Some s })) state_shrinks (λ s. online_done (record c { state = Some s })),
-)
-clause_taking v p c key.Keep = once_taking inside key.Keep c.state (stay (chain state_at (λ s. done (record c { state = Some s })))) (
-  online_chain state_at (λ s. done (record c { state = Some s })) online_state (λ s. online_done (record c { state = Some s })),
-  chain_shrinks inside state_at (λ s. done (record c { state = Some s })) state_shrinks (λ s. online_done (record c { state = Some s })),
-)
-clause_taking v p c key.Synproxy = once_taking inside key.Synproxy c.state (stay (chain state_at (λ s. done (record c { state = Some s })))) (
-  online_chain state_at (λ s. done (record c { state = Some s })) online_state (λ s. online_done (record c { state = Some s })),
-  chain_shrinks inside state_at (λ s. done (record c { state = Some s })) state_shrinks (λ s. online_done (record c { state = Some s })),
-)
+clause_taking v p c key.Tag = extra_takes c key.Tag
+clause_taking v p c key.Tagged = extra_takes c key.Tagged
+clause_taking v p c key.ReceivedOn = extra_takes c key.ReceivedOn
+clause_taking v p c key.Not = extra_takes c key.Not
+clause_taking v p c key.No = state_takes v c key.No
+clause_taking v p c key.Keep = state_takes v c key.Keep
+clause_taking v p c key.Synproxy = state_takes v c key.Synproxy
 clause_taking v p c _ = tt
 
 pub online_clause : (v : Verb) (p : Parameters) (c : Clauses) → Online inside (clause_at v p c)
@@ -108,18 +118,18 @@ clauses_online v p = online_chain (until_all ends_line (clause_at v p) no_clause
     (line_across (until_all ends_line (clause_at v p) no_clauses) (online_until_all ends_line (clause_at v p) line_end_before_end (clause_shrinks v p) (online_clause v p) no_clauses))
     (λ c. online_done (ruled v p c))
 
-behind_verb_online : (v : Verb) → Online across (chain (parameters_at statement.Rule) (λ p. chain (until_all ends_line (clause_at v p) no_clauses) (λ c. done (ruled v p c))))
-behind_verb_online v = online_chain (parameters_at statement.Rule) (λ p. chain (until_all ends_line (clause_at v p) no_clauses) (λ c. done (ruled v p c)))
-    (online_across (parameters_at statement.Rule) (online_parameters statement.Rule)) (λ p. clauses_online v p)
+behind_verb_online : (v : Verb) → Online across (chain (parameters_at (statement_of v)) (λ p. chain (until_all ends_line (clause_at v p) no_clauses) (λ c. done (ruled v p c))))
+behind_verb_online v = online_chain (parameters_at (statement_of v)) (λ p. chain (until_all ends_line (clause_at v p) no_clauses) (λ c. done (ruled v p c)))
+    (online_across (parameters_at (statement_of v)) (online_parameters (statement_of v))) (λ p. clauses_online v p)
 
 pub online_rule_text : Online across rule_text_at
 unfolding rule_text_at
-online_rule_text = online_chain verb_at (λ v. chain (parameters_at statement.Rule) (λ p. chain (until_all ends_line (clause_at v p) no_clauses) (λ c. done (ruled v p c))))
+online_rule_text = online_chain verb_at (λ v. chain (parameters_at (statement_of v)) (λ p. chain (until_all ends_line (clause_at v p) no_clauses) (λ c. done (ruled v p c))))
     (online_across verb_at online_verb) behind_verb_online
 
 pub rule_text_shrinks : Shrinks rule_text_at
 unfolding rule_text_at
-rule_text_shrinks = chain_shrinks across verb_at (λ v. chain (parameters_at statement.Rule) (λ p. chain (until_all ends_line (clause_at v p) no_clauses) (λ c. done (ruled v p c)))) verb_shrinks behind_verb_online
+rule_text_shrinks = chain_shrinks across verb_at (λ v. chain (parameters_at (statement_of v)) (λ p. chain (until_all ends_line (clause_at v p) no_clauses) (λ c. done (ruled v p c)))) verb_shrinks behind_verb_online
 
 judged_online : (n : ℕ) (p : Progress) (r : RuleText) → Online across (chain (told (rule_breaks p.draft r) n) (λ u. done (with_rule n r p)))
 judged_online n p r = online_chain (told (rule_breaks p.draft r) n) (λ u. done (with_rule n r p)) (online_told across (rule_breaks p.draft r) n) (λ u. online_done (with_rule n r p))
@@ -268,6 +278,7 @@ statement_taking p n key.Set = if_takes across key.Set (p.depth == 0) (take (set
 statement_taking p n key.Table = if_takes across key.Table (p.depth == 0) (take (definition_at p)) (refuse why.Inner) (λ e. (refl, online_table p)) (λ e. tt)
 statement_taking p n key.Pass = (online_rule n p, rule_shrinks n p)
 statement_taking p n key.Block = (online_rule n p, rule_shrinks n p)
+statement_taking p n key.Match = (online_rule n p, rule_shrinks n p)
 statement_taking p n key.Anchor = (refl, online_anchor n p)
 statement_taking p n key.CloseBrace = if_takes across key.CloseBrace (p.depth == 0) (refuse why.Statement) (take (ended (anchor_closed p))) (λ e. tt) (λ e. (refl, line_across (ended (anchor_closed p)) (online_ended (anchor_closed p))))
 statement_taking p n _ = tt

@@ -9,9 +9,9 @@ use Rattle.pfs_conf_tokens.specs.declared.refusals.LoadRule.{LoadRule}
 use Rattle.pfs_conf_tokens.specs.declared.refusals.Refusal.{Refusal}
 use Rattle.pfs_conf_tokens.specs.declared.refusals.Why.TheVariants as why
 use Rattle.pfs_conf_tokens.specs.Keys.{ends_line, is_word_key}
-use Rattle.pfs_conf_tokens.specs.Grammar.{Word, Perhaps, absent, present, Until, ends, goes, UpTo}
+use Rattle.pfs_conf_tokens.specs.Grammar.{Word, Perhaps, absent, present, Until, ends, goes, UpTo, Passes}
 use Rattle.pfs_conf_tokens.specs.Giving.{Gives}
-use Rattle.pfs_conf_tokens.proofs.Laws.{chain_ok, ok_parts, not_refused}
+use Rattle.pfs_conf_tokens.proofs.Laws.{chain_ok, ok_parts, not_refused, taking, inside}
 use Rattle.pfs_conf_tokens.proofs.ReaderLaws.{line_end_key, ends_text_key, word_is, ended_is, perhaps_is, until_is, up_to_is}
 use Rattle.pfs_conf_tokens.proofs.WordKeys.{key_of_Anchor}
 use Rattle.pfs_addr_values.specs.Names.{is_name, name_of}
@@ -21,12 +21,12 @@ use Rattle.pfs_conf_values.specs.LoadRules.{IsFlagTest}
 use Rattle.pfs_conf_values.specs.Siblings.{has_sibling}
 use Rattle.pfs_conf_values.specs.Order.{repeats_by}
 use Rattle.pfs_conf_values.specs.declared.filters.FlagTest.{FlagTest}
-use Rattle.pfs_conf_filters.specs.Grammar.{PolicyOf, none, drop, return, return_rst, return_icmp, return_icmp6, VerbOf, pass, block, FlagsOf}
-use Rattle.pfs_conf_filters.specs.Reading.{verb_at, parameters_at, flags_at, begins_flags}
+use Rattle.pfs_conf_filters.specs.Grammar.{FlagsOf, statement_of, takes_state}
+use Rattle.pfs_conf_filters.specs.Reading.{verb_at, parameters_at, flags_at, begins_flags, extra_at}
 use Rattle.pfs_conf_filters.specs.declared.phrases.Parameters.{Parameters}
 use Rattle.pfs_conf_filters.specs.declared.phrases.Statement.TheVariants as statement
 use Rattle.pfs_conf_filters.specs.declared.phrases.Verb.{Verb}
-use Rattle.pfs_conf_filters.proofs.PhraseLaws.{verb_is, parameters_are, flags_are}
+use Rattle.pfs_conf_filters.proofs.PhraseLaws.{verb_is, parameters_are, flags_are, extra_is}
 use Rattle.pfs_conf_options.specs.Grammar.{no}
 use Rattle.pfs_conf_options.specs.Options.{none_given}
 use Rattle.pfs_conf_options.specs.Bounds.{AreRead}
@@ -49,12 +49,13 @@ use Rattle.pfs_conf.specs.declared.phrases.Clauses.{Clauses}
 use Rattle.pfs_conf.specs.declared.phrases.RuleText.{RuleText}
 use Rattle.pfs_conf.specs.declared.phrases.AnchorText.{AnchorText}
 use Rattle.pfs_conf.specs.declared.progress.Progress.{Progress}
-use Rattle.pfs_conf.specs.Grammar.{ClauseOf, flags, state, RuleOf, names_anchor, AnchorNameOf, unnamed, named, AnchorOf, NewTableOf, StatementOf, blank, set, table, rule, anchor, close, TextOf, cookies}
+use Rattle.pfs_conf.specs.Grammar.{ClauseOf, flags, state, RuleOf, names_anchor, AnchorNameOf, unnamed, named, AnchorOf, NewTableOf, StatementOf, blank, set, table, rule, anchor, close, TextOf, cookies, extra}
 use Rattle.pfs_conf.specs.Statements.{nothing, no_clauses, state_options, with_rule, with_anchor, with_definition, rule_breaks, anchor_breaks, text_breaks, with_cookies, cookies_break}
-use Rattle.pfs_conf.specs.Reading.{with_draft, anchor_closed, told, clause_by, clause_at, rule_text_at, rule_line_at, anchor_named, anchor_name_at, brace_by, brace_at, anchor_parts_at, anchor_text_at, anchor_at, set_at, open_by, angle_by, new_table_named, new_name_by, new_name_at, definition_at, statement_by, statement_at, all_closed, told_of, statements_at, text_at, cookies_line_at, setting_line_at, set_by}
-use Rattle.pfs_conf.specs.Within.{AreLexed, more, IsRuleText, IsAnchorText}
-use Rattle.pfs_conf.proofs.WithinLaws.{word_lexed, name_is, flags_within, parameters_within}
-use Rattle.pfs_conf.proofs.OnlineLaws.{ruled, anchored, in_head_ok}
+use Rattle.pfs_conf.specs.Reading.{with_draft, anchor_closed, told, clause_by, clause_at, rule_text_at, rule_line_at, anchor_named, anchor_name_at, brace_by, brace_at, anchor_parts_at, anchor_text_at, anchor_at, set_at, open_by, angle_by, new_table_named, new_name_by, new_name_at, definition_at, statement_by, statement_at, all_closed, told_of, statements_at, text_at, cookies_line_at, setting_line_at, set_by, extra_act}
+use Rattle.pfs_conf.specs.Within.{AreLexed, more, IsRuleText, IsAnchorText, AreExtras}
+use Rattle.pfs_conf.proofs.WithinLaws.{word_lexed, name_is, flags_within, parameters_within, extra_within, marks_within, passes_lexed}
+use Rattle.pfs_conf.proofs.OnlineLaws.{ruled, anchored, in_head_ok, online_clause}
+use Rattle.pfs_conf_filters.proofs.OnlineLaws.{online_verb, online_parameters}
 
 -- the same phrase, where the value and the tokens left are written otherwise
 moved : {A : Type 0} (P : List Tok → A → List Tok → Type 0) (ts : List Tok) {x y : A} {l m : List Tok} → (x ≡ y) × (l ≡ m) → P ts x l → P ts y m
@@ -66,43 +67,53 @@ leaving {x = x} e p = e ∙ ap (λ (z : List Tok). Ok (x, z)) p
 
 -- ---- rules
 
-flags_clause_is : (c : Clauses) (m : Option FlagTest) → c.flags ≡ m → (ts : List Tok) (d : Clauses) (left : List Tok)
-    → act (once m (stay (chain flags_at (λ f. done (record c { flags = Some f }))))) ts ≡ Ok (d, left) → ClauseOf c ts d left
-flags_clause_is c None g ts d left h =
+flags_clause_is : (v : Verb) (c : Clauses) (m : Option FlagTest) → c.flags ≡ m → (ts : List Tok) (d : Clauses) (left : List Tok)
+    → act (once m (stay (chain flags_at (λ f. done (record c { flags = Some f }))))) ts ≡ Ok (d, left) → ClauseOf v c ts d left
+flags_clause_is v c None g ts d left h =
     let k = chain_ok flags_at (λ f. done (record c { flags = Some f })) ts d left h in
-    moved (λ (us : List Tok) (x : Clauses) (l : List Tok). ClauseOf c us x l) ts (ok_parts (record c { flags = Some k.0 }) d k.1 left k.3) (flags g (flags_are ts k.0 k.1 k.2))
-flags_clause_is c (Some x) g ts d left h = absurd cc
+    moved (λ (us : List Tok) (x : Clauses) (l : List Tok). ClauseOf v c us x l) ts (ok_parts (record c { flags = Some k.0 }) d k.1 left k.3) (flags g (flags_are ts k.0 k.1 k.2))
+flags_clause_is v c (Some x) g ts d left h = absurd cc
 
-state_clause_is : (c : Clauses) (m : Option StateClause) → c.state ≡ m → (ts : List Tok) (d : Clauses) (left : List Tok)
-    → act (once m (stay (chain state_at (λ s. done (record c { state = Some s }))))) ts ≡ Ok (d, left) → ClauseOf c ts d left
-state_clause_is c None g ts d left h =
+extra_clause_is : (v : Verb) (c : Clauses) (ts : List Tok) (d : Clauses) (left : List Tok) → act (extra_act c) ts ≡ Ok (d, left) → ClauseOf v c ts d left
+extra_clause_is v c ts d left h =
+    let k = chain_ok (extra_at c.extras) (λ e. done (record c { extras = e })) ts d left h in
+    moved (λ (us : List Tok) (x : Clauses) (l : List Tok). ClauseOf v c us x l) ts (ok_parts (record c { extras = k.0 }) d k.1 left k.3) (extra (extra_is c.extras ts k.0 k.1 k.2))
+
+state_clause_is : (v : Verb) (c : Clauses) (b : Bool) → takes_state v ≡ b → (m : Option StateClause) → c.state ≡ m → (ts : List Tok) (d : Clauses) (left : List Tok)
+    → act (cond b (once m (stay (chain state_at (λ s. done (record c { state = Some s }))))) (refuse why.Plain)) ts ≡ Ok (d, left) → ClauseOf v c ts d left
+state_clause_is v c false t m g ts d left h = absurd (not_refused _ _ _ h)
+state_clause_is v c true t None g ts d left h =
     let k = chain_ok state_at (λ s. done (record c { state = Some s })) ts d left h in
-    moved (λ (us : List Tok) (x : Clauses) (l : List Tok). ClauseOf c us x l) ts (ok_parts (record c { state = Some k.0 }) d k.1 left k.3) (state g (state_is ts k.0 k.1 k.2))
-state_clause_is c (Some x) g ts d left h = absurd cc
+    moved (λ (us : List Tok) (x : Clauses) (l : List Tok). ClauseOf v c us x l) ts (ok_parts (record c { state = Some k.0 }) d k.1 left k.3) (state t g (state_is ts k.0 k.1 k.2))
+state_clause_is v c true t (Some x) g ts d left h = absurd cc
 
-clause_is : (v : Verb) (p : Parameters) (c : Clauses) (ts : List Tok) (d : Clauses) (left : List Tok) → clause_at v p c ts ≡ Ok (d, left) → ClauseOf c ts d left
+clause_is : (v : Verb) (p : Parameters) (c : Clauses) (ts : List Tok) (d : Clauses) (left : List Tok) → clause_at v p c ts ≡ Ok (d, left) → ClauseOf v c ts d left
 unfolding clause_at
 clause_is v p c ts d left e = by_key (head ts).key e
   where
-    by_key : (k : Key) → act (clause_by v p c k) ts ≡ Ok (d, left) → ClauseOf c ts d left
-    by_key key.Flags h = flags_clause_is c c.flags refl ts d left h
-    by_key key.No h = state_clause_is c c.state refl ts d left h
-    by_key key.Keep h = state_clause_is c c.state refl ts d left h
-    by_key key.Synproxy h = state_clause_is c c.state refl ts d left h
+    by_key : (k : Key) → act (clause_by v p c k) ts ≡ Ok (d, left) → ClauseOf v c ts d left
+    by_key key.Flags h = flags_clause_is v c c.flags refl ts d left h
+    by_key key.Tag h = extra_clause_is v c ts d left h
+    by_key key.Tagged h = extra_clause_is v c ts d left h
+    by_key key.ReceivedOn h = extra_clause_is v c ts d left h
+    by_key key.Not h = extra_clause_is v c ts d left h
+    by_key key.No h = state_clause_is v c (takes_state v) refl c.state refl ts d left h
+    by_key key.Keep h = state_clause_is v c (takes_state v) refl c.state refl ts d left h
+    by_key key.Synproxy h = state_clause_is v c (takes_state v) refl c.state refl ts d left h
     by_key _ h = absurd (not_refused _ _ _ h)
 
 pub rule_text_is : (ts : List Tok) (r : RuleText) (left : List Tok) → rule_text_at ts ≡ Ok (r, left) → RuleOf ts r left
 unfolding rule_text_at
 rule_text_is ts r left e =
-    let a = chain_ok verb_at (λ v. chain (parameters_at statement.Rule) (λ p. chain (until_all ends_line (clause_at v p) no_clauses) (λ c. done (ruled v p c)))) ts r left e in
-    let b = chain_ok (parameters_at statement.Rule) (λ p. chain (until_all ends_line (clause_at a.0 p) no_clauses) (λ c. done (ruled a.0 p c))) a.1 r left a.3 in
+    let a = chain_ok verb_at (λ v. chain (parameters_at (statement_of v)) (λ p. chain (until_all ends_line (clause_at v p) no_clauses) (λ c. done (ruled v p c)))) ts r left e in
+    let b = chain_ok (parameters_at (statement_of a.0)) (λ p. chain (until_all ends_line (clause_at a.0 p) no_clauses) (λ c. done (ruled a.0 p c))) a.1 r left a.3 in
     let c = chain_ok (until_all ends_line (clause_at a.0 b.0) no_clauses) (λ c. done (ruled a.0 b.0 c)) b.1 r left b.3 in
     moved RuleOf ts {x = ruled a.0 b.0 c.0} {l = c.1} (ok_parts (ruled a.0 b.0 c.0) r c.1 left c.3) (record {
       a = a.1;
       b = b.1;
       verb = verb_is ts a.0 a.1 a.2;
-      parameters = parameters_are statement.Rule a.1 b.0 b.1 b.2;
-      clauses = until_is key.LineEnd ends_line ClauseOf (clause_at a.0 b.0) line_end_key (λ q. cc) (clause_is a.0 b.0) no_clauses b.1 c.0 c.1 c.2;
+      parameters = parameters_are (statement_of a.0) a.1 b.0 b.1 b.2;
+      clauses = until_is key.LineEnd ends_line (ClauseOf a.0) (clause_at a.0 b.0) line_end_key (λ q. cc) (clause_is a.0 b.0) no_clauses b.1 c.0 c.1 c.2;
     })
 
 -- clauses that are read keep their bounds
@@ -111,35 +122,39 @@ no_options_read = state_within (no {ts = token 1 key.No [] ∷ token 1 key.State
 
 record Bounded (c : Clauses) : Type 0 where
   tests : IfSome c.flags IsFlagTest
+  extras : AreExtras c.extras
   options : AreRead (state_options c.state)
 
-clause_bounded : {c d : Clauses} {ts left : List Tok} → ClauseOf c ts d left → Bounded c → Bounded d
-clause_bounded (flags g q) b = record { tests = flags_within q; options = b.options }
-clause_bounded (state g q) b = record { tests = b.tests; options = state_within q }
+clause_bounded : {v : Verb} {c d : Clauses} {ts left : List Tok} → ClauseOf v c ts d left → AreLexed ts → Bounded c → Bounded d
+clause_bounded (flags g q) l b = record { tests = flags_within q; extras = b.extras; options = b.options }
+clause_bounded (extra q) l b = record { tests = b.tests; extras = extra_within q l b.extras; options = b.options }
+clause_bounded (state t g q) l b = record { tests = b.tests; extras = b.extras; options = state_within q }
 
-clauses_bounded : {c d : Clauses} {ts left : List Tok} → Until key.LineEnd ClauseOf c ts d left → Bounded c → Bounded d
-clauses_bounded (ends w) b = b
-clauses_bounded (goes q u) b = clauses_bounded u (clause_bounded q b)
+-- a clause, and the tokens that it goes over
+abbrev ClauseOver : Verb → Clauses → List Tok → Clauses → List Tok → Type 0
+ClauseOver v c ts d left = ClauseOf v c ts d left × Passes (taking inside) ts left
 
-rule_within : {ts left : List Tok} {r : RuleText} (q : RuleOf ts r left) → AreLexed q.a → IsRuleText r
-rule_within q l =
-    let b = clauses_bounded q.clauses (record { tests = tt; options = no_options_read }) in
-    record { parameters = parameters_within q.parameters l; flags = b.tests; options = b.options }
+clauses_bounded : {v : Verb} {c d : Clauses} {ts left : List Tok} → Until key.LineEnd (ClauseOver v) c ts d left → AreLexed ts → Bounded c → Bounded d
+clauses_bounded (ends w) l b = b
+clauses_bounded (goes q u) l b = clauses_bounded u (passes_lexed q.1 l) (clause_bounded q.0 l b)
 
-policy_lexed : {ts left : List Tok} {b : Bool} → PolicyOf ts b left → AreLexed ts → AreLexed left
-policy_lexed none l = l
-policy_lexed (drop w) l = word_lexed w l
-policy_lexed (return w) l = word_lexed w l
-policy_lexed (return_rst w) l = word_lexed w l
-policy_lexed (return_icmp w) l = word_lexed w l
-policy_lexed (return_icmp6 w) l = word_lexed w l
-
-verb_lexed : {ts left : List Tok} {v : Verb} → VerbOf ts v left → AreLexed ts → AreLexed left
-verb_lexed (pass w) l = word_lexed w l
-verb_lexed (block w p) l = policy_lexed p (word_lexed w l)
+rule_within : (ts : List Tok) (r : RuleText) (left : List Tok) → rule_text_at ts ≡ Ok (r, left) → AreLexed ts → IsRuleText r
+unfolding rule_text_at
+rule_within ts r left e l =
+    let a = chain_ok verb_at (λ v. chain (parameters_at (statement_of v)) (λ p. chain (until_all ends_line (clause_at v p) no_clauses) (λ c. done (ruled v p c)))) ts r left e in
+    let b = chain_ok (parameters_at (statement_of a.0)) (λ p. chain (until_all ends_line (clause_at a.0 p) no_clauses) (λ c. done (ruled a.0 p c))) a.1 r left a.3 in
+    let c = chain_ok (until_all ends_line (clause_at a.0 b.0) no_clauses) (λ c. done (ruled a.0 b.0 c)) b.1 r left b.3 in
+    let behind_verb = passes_lexed (online_verb.took ts a.0 a.1 a.2) l in
+    let behind_parameters = passes_lexed ((online_parameters (statement_of a.0)).took a.1 b.0 b.1 b.2) behind_verb in
+    let clauses = until_is key.LineEnd ends_line (ClauseOver a.0) (clause_at a.0 b.0) line_end_key (λ q. cc)
+    (λ x us y vs h. (clause_is a.0 b.0 x us y vs h, (online_clause a.0 b.0 x).took us y vs h)) no_clauses b.1 c.0 c.1 c.2 in
+    let k = clauses_bounded clauses behind_parameters (record { tests = tt; extras = record { tag = tt; tagged = tt; received_on = tt }; options = no_options_read }) in
+    let q = parameters_are (statement_of a.0) a.1 b.0 b.1 b.2 in
+    moved (λ (us : List Tok) (x : RuleText) (m : List Tok). IsRuleText x) ts {x = ruled a.0 b.0 c.0} {l = c.1} (ok_parts (ruled a.0 b.0 c.0) r c.1 left c.3)
+    (record { parameters = parameters_within q behind_verb; quick = marks_within q.head.marks; flags = k.tests; extras = k.extras; options = k.options })
 
 pub rule_text_within : (ts left : List Tok) (r : Result RuleText Refusal) → AreLexed ts → Gives r left (rule_text_at ts) → IfOk r IsRuleText
-rule_text_within ts left (Ok r) l e = let q = rule_text_is ts r left e in rule_within q (verb_lexed q.verb l)
+rule_text_within ts left (Ok r) l e = rule_within ts r left e l
 rule_text_within ts left (Err x) l e = tt
 
 told_ok : (b : Option LoadRule) (n : ℕ) (ts : List Tok) (u : Unit {0}) (left : List Tok) → told b n ts ≡ Ok (u, left) → (b ≡ None) × (ts ≡ left)
@@ -381,6 +396,7 @@ statement_is p ts q left e = by_key (head ts).key refl e
     by_key key.Table g h = table_case g (p.depth == 0) refl h
     by_key key.Pass g h = let r = rule_is (head ts).line p ts q left h in subst (λ (z : Progress). StatementOf p ts z left) r.3 (rule r.0 r.1 r.2)
     by_key key.Block g h = let r = rule_is (head ts).line p ts q left h in subst (λ (z : Progress). StatementOf p ts z left) r.3 (rule r.0 r.1 r.2)
+    by_key key.Match g h = let r = rule_is (head ts).line p ts q left h in subst (λ (z : Progress). StatementOf p ts z left) r.3 (rule r.0 r.1 r.2)
     by_key key.Anchor g h = let a = anchor_is (head ts).line p ts (rest ts) (word_is key.Anchor ts g (λ q. cc)) q left h in subst (λ (z : Progress). StatementOf p ts z left) a.5 (anchor a.0 a.2 a.3 a.4)
     by_key key.CloseBrace g h = close_case g (p.depth == 0) refl h
     by_key _ g h = absurd (not_refused _ _ _ h)

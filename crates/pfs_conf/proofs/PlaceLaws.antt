@@ -14,7 +14,6 @@ use Rattle.pfs_conf_tokens.proofs.ReaderLaws.{line_end_before_end}
 use Rattle.pfs_conf_settings.specs.Drafts.{conf_of_draft}
 use Rattle.pfs_conf_filters.specs.Reading.{verb_at, parameters_at}
 use Rattle.pfs_conf_filters.specs.declared.phrases.Parameters.{Parameters}
-use Rattle.pfs_conf_filters.specs.declared.phrases.Statement.TheVariants as statement
 use Rattle.pfs_conf_filters.specs.declared.phrases.Verb.{Verb}
 use Rattle.pfs_conf_filters.proofs.OnlineLaws.{online_verb, online_parameters}
 use Rattle.pfs_conf_settings.specs.Settings.{settings_at}
@@ -35,6 +34,7 @@ use Rattle.pfs_conf.proofs.PhraseLaws.{statement_is, statements_are}
 use Rattle.pfs_conf.proofs.BreakLaws.{and_then}
 use Rattle.pfs_conf.proofs.BraceLaws.{further, at_once}
 use Rattle.pfs_conf.proofs.BracePhrases.{keeps_settings, keeps_parts, keeps_table_name}
+use Rattle.pfs_conf_filters.specs.Grammar.{statement_of}
 
 -- ---- parts of a statement
 
@@ -73,16 +73,16 @@ clauses_stop v p ts left w e = elim (bind_err (until_all ends_line (clause_at v 
   | inr b ↦ absurd (let h = b.2 in cc)
 ]
 
-behind_verb_stops : (v : Verb) (ts left : List Tok) (w : Why) → chain (parameters_at statement.Rule) (λ p. chain (until_all ends_line (clause_at v p) no_clauses) (λ c. done (ruled v p c))) ts ≡ Err (stop left w) → Passes in_line ts left
-behind_verb_stops v ts left w e = elim (bind_err (parameters_at statement.Rule ts) (λ x. chain (until_all ends_line (clause_at v x.0) no_clauses) (λ c. done (ruled v x.0 c)) x.1) (stop left w) e) [
-  | inl h ↦ (online_parameters statement.Rule).stopped ts left w h
-  | inr b ↦ passes_then ((online_parameters statement.Rule).took ts b.0.0 b.0.1 b.1) (clauses_stop v b.0.0 b.0.1 left w b.2)
+behind_verb_stops : (v : Verb) (ts left : List Tok) (w : Why) → chain (parameters_at (statement_of v)) (λ p. chain (until_all ends_line (clause_at v p) no_clauses) (λ c. done (ruled v p c))) ts ≡ Err (stop left w) → Passes in_line ts left
+behind_verb_stops v ts left w e = elim (bind_err (parameters_at (statement_of v) ts) (λ x. chain (until_all ends_line (clause_at v x.0) no_clauses) (λ c. done (ruled v x.0 c)) x.1) (stop left w) e) [
+  | inl h ↦ (online_parameters (statement_of v)).stopped ts left w h
+  | inr b ↦ passes_then ((online_parameters (statement_of v)).took ts b.0.0 b.0.1 b.1) (clauses_stop v b.0.0 b.0.1 left w b.2)
 ]
 
 rule_text_stops : (ts left : List Tok) (w : Why) → rule_text_at ts ≡ Err (stop left w) → Passes in_line ts left
 unfolding rule_text_at
 rule_text_stops ts left w e =
-    elim (bind_err (verb_at ts) (λ x. chain (parameters_at statement.Rule) (λ p. chain (until_all ends_line (clause_at x.0 p) no_clauses) (λ c. done (ruled x.0 p c))) x.1) (stop left w) e) [
+    elim (bind_err (verb_at ts) (λ x. chain (parameters_at (statement_of x.0)) (λ p. chain (until_all ends_line (clause_at x.0 p) no_clauses) (λ c. done (ruled x.0 p c))) x.1) (stop left w) e) [
       | inl h ↦ online_verb.stopped ts left w h
       | inr b ↦ passes_then (online_verb.took ts b.0.0 b.0.1 b.1) (behind_verb_stops b.0.0 b.0.1 left w b.2)
     ]
@@ -189,6 +189,7 @@ statement_stops p ts left w e = by_key (head ts).key refl e
     by_key key.Table g h = if_stops (p.depth == 0) (take (definition_at p)) (refuse why.Inner) ts left w (λ s. in_braces key.Table ts left g refl (table_stops p (rest ts) left w s)) (λ s. refuse_stops {A = Progress} why.Inner ts left w s) h
     by_key key.Pass g h = in_a_line (rule_stops (head ts).line p ts left w h)
     by_key key.Block g h = in_a_line (rule_stops (head ts).line p ts left w h)
+    by_key key.Match g h = in_a_line (rule_stops (head ts).line p ts left w h)
     by_key key.Anchor g h = in_a_line (behind_word key.Anchor ts left g refl (anchor_stops (head ts).line p (rest ts) left w h))
     by_key key.CloseBrace g h = if_stops (p.depth == 0) (refuse why.Statement) (take (ended (anchor_closed p))) ts left w (λ s. refuse_stops {A = Progress} why.Statement ts left w s) (λ s. in_a_line (behind_word key.CloseBrace ts left g refl (stay_there (ended_stops (anchor_closed p) (rest ts) left w s)))) h
     by_key _ g h = refuse_stops {A = Progress} why.Statement ts left w h

@@ -12,7 +12,7 @@ use Rattle.pfs_conf_tokens.proofs.ReaderLaws.{word_head, ended_reads, perhaps_re
 use Rattle.pfs_conf_values.specs.Configs.{Conf}
 use Rattle.pfs_conf_settings.specs.Drafts.{Drafted, conf_of_draft}
 use Rattle.pfs_conf_values.specs.declared.filters.FlagTest.{FlagTest}
-use Rattle.pfs_conf_filters.specs.Grammar.{Behind, VerbOf, pass, block, DirOf, inward, outward, FamilyOf, inet, inet6, slow, quick, MarksOf, of_anchor, HostsOf, every, sides, ParametersOf, FlagsOf}
+use Rattle.pfs_conf_filters.specs.Grammar.{Behind, VerbOf, pass, block, DirOf, inward, outward, FamilyOf, inet, inet6, slow, quick, MarksOf, of_anchor, HostsOf, every, sides, ParametersOf, FlagsOf, matching, statement_of}
 use Rattle.pfs_conf_filters.specs.Reading.{flags_at, begins_flags}
 use Rattle.pfs_addr_values.specs.declared.packets.Dir.{Dir}
 use Rattle.pfs_conf_values.specs.declared.filters.Family.{Family}
@@ -21,7 +21,7 @@ use Rattle.pfs_conf_filters.specs.declared.phrases.Parameters.{Parameters}
 use Rattle.pfs_conf_filters.specs.declared.phrases.Statement.TheVariants as statement
 use Rattle.pfs_conf_filters.specs.declared.phrases.Verb.{Verb}
 use Rattle.pfs_conf_filters.specs.declared.phrases.Marks.{Marks}
-use Rattle.pfs_conf_filters.proofs.ReadLaws.{no_policy, ends_parameters, verb_reads, parameters_read, flags_read, parameters_head, flags_head}
+use Rattle.pfs_conf_filters.proofs.ReadLaws.{no_policy, ends_parameters, verb_reads, parameters_read, flags_read, parameters_head, flags_head, extra_reads, extra_head}
 use Rattle.pfs_conf_options.specs.Grammar.{no, keep, proxy}
 use Rattle.pfs_conf_options.proofs.PhraseLaws.{ends_state, state_reads}
 use Rattle.pfs_conf_settings.specs.SettingGrammar.{SettingOf, profile, limit, limits, timeout, timeouts, route, routes}
@@ -35,36 +35,40 @@ use Rattle.pfs_conf.specs.declared.phrases.Clauses.{Clauses}
 use Rattle.pfs_conf.specs.declared.phrases.RuleText.{RuleText}
 use Rattle.pfs_conf.specs.declared.phrases.AnchorText.{AnchorText}
 use Rattle.pfs_conf.specs.declared.progress.Progress.{Progress}
-use Rattle.pfs_conf.specs.Grammar.{ClauseOf, flags, state, RuleOf, names_anchor, AnchorNameOf, unnamed, named, AnchorOf, NewTableOf, StatementOf, blank, set, table, rule, anchor, close, TextOf, CookiesOf, cookies}
+use Rattle.pfs_conf.specs.Grammar.{ClauseOf, flags, state, RuleOf, names_anchor, AnchorNameOf, unnamed, named, AnchorOf, NewTableOf, StatementOf, blank, set, table, rule, anchor, close, TextOf, CookiesOf, cookies, extra}
 use Rattle.pfs_conf.specs.Statements.{nothing, with_rule, with_anchor, with_definition, rule_breaks, anchor_breaks, text_breaks, with_cookies, cookies_break}
-use Rattle.pfs_conf.specs.Reading.{with_draft, anchor_closed, clause_at, rule_text_at, rule_line_at, anchor_name_at, brace_at, anchor_parts_at, in_head, anchor_text_at, anchor_at, set_at, new_name_at, definition_at, statement_at, statements_at, text_at, cookies_line_at, setting_line_at, set_by, told}
+use Rattle.pfs_conf.specs.Reading.{with_draft, anchor_closed, clause_at, rule_text_at, rule_line_at, anchor_name_at, brace_at, anchor_parts_at, in_head, anchor_text_at, anchor_at, set_at, new_name_at, definition_at, statement_at, statements_at, text_at, cookies_line_at, setting_line_at, set_by, told, clause_by, extra_act}
 use Rattle.pfs_conf.proofs.OnlineLaws.{clause_shrinks, statement_shrinks}
 
 -- ---- rules
 
-clause_reads : (v : Verb) (p : Parameters) {c d : Clauses} {ts left : List Tok} → ClauseOf c ts d left → ends_state (head left).key ≡ true → clause_at v p c ts ≡ Ok (d, left)
+clause_reads : (v : Verb) (p : Parameters) {c d : Clauses} {ts left : List Tok} → ClauseOf v c ts d left → ends_state (head left).key ≡ true → clause_at v p c ts ≡ Ok (d, left)
 unfolding clause_at
 clause_reads v p (flags g q) f = let h = word_head q.1 in rw (h.0, g, flags_read q) refl
-clause_reads v p (state g (no w s)) f = let h = word_head w in rw (h.0, g, state_reads (no w s) f) refl
-clause_reads v p (state g (keep w s k)) f = let h = word_head w in rw (h.0, g, state_reads (keep w s k) f) refl
-clause_reads v p (state g (proxy w s k)) f = let h = word_head w in rw (h.0, g, state_reads (proxy w s k) f) refl
+clause_reads v p {c = c} (extra q) f = rw (extra_head (λ k. clause_by v p c k ≡ extra_act c) refl refl refl refl q, extra_reads q) refl
+clause_reads v p (state t g (no w s)) f = let h = word_head w in rw (h.0, t, g, state_reads (no w s) f) refl
+clause_reads v p (state t g (keep w s k)) f = let h = word_head w in rw (h.0, t, g, state_reads (keep w s k) f) refl
+clause_reads v p (state t g (proxy w s k)) f = let h = word_head w in rw (h.0, t, g, state_reads (proxy w s k) f) refl
 
--- a clause begins with one of four words
-clause_head : (Q : Key → Type 0) → Q key.Flags → Q key.No → Q key.Keep → Q key.Synproxy → {c d : Clauses} {ts left : List Tok} → ClauseOf c ts d left → Q (head ts).key
-clause_head Q a b c e (flags g q) = subst Q (sym (word_head q.1).0) a
-clause_head Q a b c e (state g (no w s)) = subst Q (sym (word_head w).0) b
-clause_head Q a b c e (state g (keep w s k)) = subst Q (sym (word_head w).0) c
-clause_head Q a b c e (state g (proxy w s k)) = subst Q (sym (word_head w).0) e
+-- what a clause begins with
+clause_head : {v : Verb} (Q : Key → Type 0) → Q key.Flags → Q key.Tag → Q key.Not → Q key.Tagged → Q key.ReceivedOn → Q key.No → Q key.Keep → Q key.Synproxy
+    → {c d : Clauses} {ts left : List Tok} → ClauseOf v c ts d left → Q (head ts).key
+clause_head Q a t n g r b c e (flags h q) = subst Q (sym (word_head q.1).0) a
+clause_head Q a t n g r b c e (extra q) = extra_head Q t n g r q
+clause_head Q a t n g r b c e (state m h (no w s)) = subst Q (sym (word_head w).0) b
+clause_head Q a t n g r b c e (state m h (keep w s k)) = subst Q (sym (word_head w).0) c
+clause_head Q a t n g r b c e (state m h (proxy w s k)) = subst Q (sym (word_head w).0) e
 
-clauses_head : (Q : Key → Type 0) → Q key.Flags → Q key.No → Q key.Keep → Q key.Synproxy → Q key.LineEnd → {c d : Clauses} {ts left : List Tok} → Until key.LineEnd ClauseOf c ts d left → Q (head ts).key
-clauses_head Q a b c e l (ends w) = subst Q (sym (word_head w).0) l
-clauses_head Q a b c e l (goes q u) = clause_head Q a b c e q
+clauses_head : {v : Verb} (Q : Key → Type 0) → Q key.Flags → Q key.Tag → Q key.Not → Q key.Tagged → Q key.ReceivedOn → Q key.No → Q key.Keep → Q key.Synproxy → Q key.LineEnd
+    → {c d : Clauses} {ts left : List Tok} → Until key.LineEnd (ClauseOf v) c ts d left → Q (head ts).key
+clauses_head Q a t n g r b c e l (ends w) = subst Q (sym (word_head w).0) l
+clauses_head Q a t n g r b c e l (goes q u) = clause_head Q a t n g r b c e q
 
-clauses_read : (v : Verb) (p : Parameters) → Reads key.LineEnd ends_line ends_state ClauseOf (clause_at v p)
+clauses_read : (v : Verb) (p : Parameters) → Reads key.LineEnd ends_line ends_state (ClauseOf v) (clause_at v p)
 clauses_read v p = record {
   closes = refl;
   close_follows = refl;
-  begins = λ q. (clause_head (λ k. ends_line k ≡ false) refl refl refl refl q, clause_head (λ k. ends_state k ≡ true) refl refl refl refl q);
+  begins = λ q. (clause_head (λ k. ends_line k ≡ false) refl refl refl refl refl refl refl refl q, clause_head (λ k. ends_state k ≡ true) refl refl refl refl refl refl refl refl q);
   reads = λ q f. clause_reads v p q f;
   shrinks = clause_shrinks v p;
 }
@@ -72,9 +76,9 @@ clauses_read v p = record {
 pub rule_text_reads : {ts : List Tok} {r : RuleText} {left : List Tok} → RuleOf ts r left → rule_text_at ts ≡ Ok (r, left)
 unfolding rule_text_at
 rule_text_reads {r = r} q =
-    let behind_verb = parameters_head (λ k. no_policy k ≡ true) refl refl refl refl refl refl refl refl refl refl refl q.parameters (clauses_head (λ k. no_policy k ≡ true) refl refl refl refl refl q.clauses) in
-    let behind_parameters = clauses_head (λ k. ends_parameters k ≡ true) refl refl refl refl refl q.clauses in
-    rw (verb_reads q.verb behind_verb, parameters_read statement.Rule q.parameters behind_parameters, until_reads (clauses_read r.verb r.parameters) q.clauses) refl
+    let behind_verb = parameters_head (λ k. no_policy k ≡ true) refl refl refl refl refl refl refl refl refl refl refl q.parameters (clauses_head (λ k. no_policy k ≡ true) refl refl refl refl refl refl refl refl refl q.clauses) in
+    let behind_parameters = clauses_head (λ k. ends_parameters k ≡ true) refl refl refl refl refl refl refl refl refl q.clauses in
+    rw (verb_reads q.verb behind_verb, parameters_read (statement_of r.verb) q.parameters behind_parameters, until_reads (clauses_read r.verb r.parameters) q.clauses) refl
 
 pub rule_reads : (n : ℕ) (p : Progress) {ts : List Tok} (r : RuleText) {left : List Tok} → RuleOf ts r left → rule_breaks p.draft r ≡ None → rule_line_at n p ts ≡ Ok (with_rule n r p, left)
 unfolding rule_line_at
@@ -211,17 +215,20 @@ table_reads p name parts n q w = rw (table_name_reads p.draft n, parts_read q) (
 
 -- ---- statements and texts
 
-pub verb_key : {ts left : List Tok} {v : Verb} → VerbOf ts v left → (Q : Key → Type 0) → Q key.Pass → Q key.Block → Q (head ts).key
-verb_key (pass w) Q a b = subst Q (sym (word_head w).0) a
-verb_key (block w p) Q a b = subst Q (sym (word_head w).0) b
+pub verb_key : {ts left : List Tok} {v : Verb} → VerbOf ts v left → (Q : Key → Type 0) → Q key.Pass → Q key.Block → Q key.Match → Q (head ts).key
+verb_key (pass w) Q a b c = subst Q (sym (word_head w).0) a
+verb_key (block w p) Q a b c = subst Q (sym (word_head w).0) b
+verb_key (matching w) Q a b c = subst Q (sym (word_head w).0) c
 
-at_rule : (p : Progress) (ts : List Tok) (k : Key) → (head ts).key ≡ k → (res : Result (Progress × List Tok) Refused) → rule_line_at (head ts).line p ts ≡ res → (k ≡ key.Pass → statement_at p ts ≡ res) × (k ≡ key.Block → statement_at p ts ≡ res)
+at_rule : (p : Progress) (ts : List Tok) (k : Key) → (head ts).key ≡ k → (res : Result (Progress × List Tok) Refused) → rule_line_at (head ts).line p ts ≡ res
+    → (k ≡ key.Pass → statement_at p ts ≡ res) × (k ≡ key.Block → statement_at p ts ≡ res) × (k ≡ key.Match → statement_at p ts ≡ res)
 unfolding statement_at
-at_rule p ts k g res e = (λ h. rw (g ∙ h) e, λ h. rw (g ∙ h) e)
+at_rule p ts k g res e = (λ h. rw (g ∙ h) e, λ h. rw (g ∙ h) e, λ h. rw (g ∙ h) e)
 
 pub rule_statement : (p : Progress) {ts left : List Tok} {v : Verb} → VerbOf ts v left → (res : Result (Progress × List Tok) Refused) → rule_line_at (head ts).line p ts ≡ res → statement_at p ts ≡ res
 rule_statement p {ts = ts} (pass w) res e = (at_rule p ts key.Pass (word_head w).0 res e).0 refl
 rule_statement p {ts = ts} (block w q) res e = (at_rule p ts key.Block (word_head w).0 res e).1 refl
+rule_statement p {ts = ts} (matching w) res e = (at_rule p ts key.Match (word_head w).0 res e).2 refl
 
 pub anchor_statement : (p : Progress) {ts mid : List Tok} → Word key.Anchor ts mid → (res : Result (Progress × List Tok) Refused) → anchor_at (head ts).line p mid ≡ res → statement_at p ts ≡ res
 unfolding statement_at
@@ -246,7 +253,7 @@ statement_begins (blank w) = rw (word_head w).0 (refl, refl)
 statement_begins (set e w s l) = rw (word_head w).0 (refl, refl)
 statement_begins (cookies s e q k) = rw (word_head q.set).0 (refl, refl)
 statement_begins (table name parts e w n q l) = rw (word_head w).0 (refl, refl)
-statement_begins (rule r q e) = (verb_key q.verb (λ k. ends_text k ≡ false) refl refl, refl)
+statement_begins (rule r q e) = (verb_key q.verb (λ k. ends_text k ≡ false) refl refl refl, refl)
 statement_begins (anchor a q e l) = rw (word_head q.word).0 (refl, refl)
 statement_begins (close more w l) = rw (word_head w).0 (refl, refl)
 

@@ -6,7 +6,7 @@ use Rattle.pfs_conf_tokens.specs.declared.keys.Key.TheVariants as key
 use Rattle.pfs_conf_tokens.specs.declared.refusals.Why.{Why}
 use Rattle.pfs_conf_tokens.specs.declared.refusals.Why.TheVariants as why
 use Rattle.pfs_conf_tokens.specs.Keys.{is_word_key, ends_line}
-use Rattle.pfs_conf_tokens.specs.Reading.{closes_parens, closes_braces, Reader, Act, refuse, on_front, done, chain, skipping, number_at, comma_at}
+use Rattle.pfs_conf_tokens.specs.Reading.{closes_parens, closes_braces, Reader, Act, refuse, on_front, done, chain, skipping, number_at, comma_at, take}
 use Rattle.pfs_addr_values.specs.Prefixes.{Network}
 use Rattle.pfs_addr_values.specs.Protocols.{proto_in}
 use Rattle.pfs_addr.specs.Texts.{prefix_of}
@@ -28,8 +28,8 @@ use Rattle.pfs_conf_values.specs.declared.timeouts.TimeoutName.{TimeoutName}
 use Rattle.pfs_conf_filters.specs.declared.phrases.Statement.{Statement}
 use Rattle.pfs_conf_filters.specs.declared.phrases.Statement.TheVariants as statement
 use Rattle.pfs_conf_filters.specs.declared.phrases.Verb.TheVariants as verb
-use Rattle.pfs_conf_filters.specs.Values.{in_plain_word, interface_name, ports_of, flag_test}
-use Rattle.pfs_conf_filters.specs.Reading.{behind, clause, part, begins_dir, begins_on, begins_family, begins_proto, begins_from, begins_to, begins_port, begins_flags, interface_at, policy_by, policy_at, verb_by, verb_at, dir_by, dir_at, log_item_by, log_item_at, log_list_by, log_list_at, log_by, log_at, quick_by, quick_at, marks_of, marks_by, marks_at, negation_by, negation_at, interface, on_at, on_part_at, family_by, family_part_at, proto_at, proto_part_at, head_at, close_by, close_at, place_by, place_at, host_by, host_at, equals_by, equals_at, ports_at, ports_part_at, side_host_by, side_host_at, side, side_at, from_part_at, to_part_at, all_hosts, given_hosts, hosts_by, hosts_at, parameters_at, flags_at}
+use Rattle.pfs_conf_filters.specs.Values.{in_plain_word, interface_name, ports_of, flag_test, tag_name}
+use Rattle.pfs_conf_filters.specs.Reading.{behind, clause, part, begins_dir, begins_on, begins_family, begins_proto, begins_from, begins_to, begins_port, begins_flags, interface_at, policy_by, policy_at, verb_by, verb_at, dir_by, dir_at, log_item_by, log_item_at, log_list_by, log_list_at, log_by, log_at, quick_by, quick_at, marks_of, marks_by, marks_at, negation_by, negation_at, interface, on_at, on_part_at, family_by, family_part_at, proto_at, proto_part_at, head_at, close_by, close_at, place_by, place_at, host_by, host_at, equals_by, equals_at, ports_at, ports_part_at, side_host_by, side_host_at, side, side_at, from_part_at, to_part_at, all_hosts, given_hosts, hosts_by, hosts_at, parameters_at, flags_at, tag_name_at, tag_test, tag_at, tagged_at, received_on_at, asked_by, asks_both, extra_by, extra_at}
 use Rattle.pfs_conf_options.specs.Options.{none_given, proxied, rule_place}
 use Rattle.pfs_conf_options.specs.Reading.{track_by, track_at, rate_of, rate_found, rate_by, rate_at, name_closed_by, name_closed, table_by, table_at, flushed_by, flush_by, flush_at, overload_text_at, mark_once, timeout_by, mark_by, connection_by, option_by, option_at, state_options_at, kept_by, kept_at, kept_clause, proxied_clause, behind_state, state_word, state_by, state_at}
 use Rattle.pfs_conf_tokens.specs.Values.{in_word, table_name, table_name_at, value_at, valued}
@@ -49,6 +49,7 @@ use Rattle.pfs_conf_settings.specs.Syncookies.{shares_closed_at, shares_closed_b
 use Rattle.pfs_conf_values.specs.declared.syncookies.Syncookies.{Syncookies}
 use Rattle.pfs_conf_values.specs.declared.syncookies.Syncookies.TheVariants as cookies
 use Rattle.pfs_conf.proofs.UnbrokenLaws.{Unbroken, UnbrokenAct, unbroken_done, unbroken_chain, unbroken_front, unbroken_if, unbroken_once, unbroken_perhaps, unbroken_up_to, unbroken_comma, unbroken_list, unbroken_skipping, unbroken_number}
+use Rattle.pfs_conf_filters.specs.declared.phrases.Extras.{Extras}
 
 -- ---- parameters
 
@@ -73,6 +74,10 @@ unbroken_interface_name : Unbroken interface_at
 unfolding interface_at
 unbroken_interface_name = unbroken_value why.Plain interface_name
 
+unbroken_tag_name : Unbroken tag_name_at
+unfolding tag_name_at
+unbroken_tag_name = unbroken_value why.Plain tag_name
+
 unbroken_table_name : Unbroken table_name_at
 unfolding table_name_at
 unbroken_table_name = unbroken_value why.Plain table_name
@@ -91,6 +96,7 @@ unbroken_policy = unbroken_front (λ t. policy_by t.key) (λ t. policy_acts t.ke
 
 verb_acts : (k : Key) → UnbrokenAct (verb_by k)
 verb_acts key.Pass = unbroken_done verb.Pass
+verb_acts key.Match = unbroken_done verb.Match
 verb_acts key.Block = unbroken_chain policy_at (λ p. done (verb.Block p)) unbroken_policy (λ p. unbroken_done (verb.Block p))
 verb_acts _ = tt
 
@@ -148,6 +154,7 @@ log_then_quick = unbroken_chain log_at (λ l. chain quick_at (λ q. done (marks_
 marks_acts : (s : Statement) (k : Key) → UnbrokenAct (marks_by s k)
 marks_acts statement.Rule key.Quick = unbroken_chain log_at (λ l. done (marks_of l true)) unbroken_log (λ l. unbroken_done (marks_of l true))
 marks_acts statement.Rule _ = log_then_quick
+marks_acts statement.Match k = unbroken_chain log_at (λ l. done (marks_of l false)) unbroken_log (λ l. unbroken_done (marks_of l false))
 marks_acts statement.Anchor k = unbroken_chain quick_at (λ q. done (marks_of false q)) unbroken_quick (λ q. unbroken_done (marks_of false q))
 
 unbroken_marks : (s : Statement) → Unbroken (marks_at s)
@@ -270,6 +277,32 @@ hosts_acts _ = unbroken_sides
 unbroken_hosts : Unbroken hosts_at
 unfolding hosts_at
 unbroken_hosts = unbroken_front (λ t. hosts_by t.key) (λ t. hosts_acts t.key)
+
+tag_unbroken : (e : Extras) → Unbroken (tag_at e)
+unfolding tag_at
+tag_unbroken e = unbroken_chain tag_name_at (λ n. done (record e { tag = Some n })) unbroken_tag_name (λ n. unbroken_done (record e { tag = Some n }))
+
+tagged_unbroken : (e : Extras) (b : Bool) → Unbroken (tagged_at e b)
+unfolding tagged_at
+tagged_unbroken e b = unbroken_chain tag_name_at (λ n. done (record e { tagged = Some (tag_test n b) })) unbroken_tag_name (λ n. unbroken_done (record e { tagged = Some (tag_test n b) }))
+
+received_on_unbroken : (e : Extras) (b : Bool) → Unbroken (received_on_at e b)
+unfolding received_on_at
+received_on_unbroken e b = unbroken_chain interface_at (λ n. done (record e { received_on = Some (interface n b) })) unbroken_interface_name (λ n. unbroken_done (record e { received_on = Some (interface n b) }))
+
+asked_acts : (e : Extras) (b : Bool) (k : Key) → UnbrokenAct (asked_by e b k)
+asked_acts e b key.Tagged = unbroken_once e.tagged (take (tagged_at e b)) (tagged_unbroken e b)
+asked_acts e b key.ReceivedOn = unbroken_once e.received_on (take (received_on_at e b)) (received_on_unbroken e b)
+asked_acts e b _ = tt
+
+extra_acts : (e : Extras) (k : Key) → UnbrokenAct (extra_by e k)
+extra_acts e key.Tag = unbroken_once e.tag (take (tag_at e)) (tag_unbroken e)
+extra_acts e key.Not = unbroken_if (asks_both e) (refuse why.Again) (take (on_front (λ t. asked_by e true t.key))) tt (unbroken_front (λ t. asked_by e true t.key) (λ t. asked_acts e true t.key))
+extra_acts e k = asked_acts e false k
+
+pub unbroken_extra : (e : Extras) → Unbroken (extra_at e)
+unfolding extra_at
+unbroken_extra e = unbroken_front (λ t. extra_by e t.key) (λ t. extra_acts e t.key)
 
 pub unbroken_parameters : (s : Statement) → Unbroken (parameters_at s)
 unfolding parameters_at

@@ -9,7 +9,7 @@ use Rattle.pfs_conf_tokens.specs.declared.keys.Key.TheVariants as key
 use Rattle.pfs_conf_tokens.specs.Keys.{is_word_key}
 use Rattle.pfs_conf_tokens.specs.Words.{key_of_text}
 use Rattle.pfs_conf_tokens.specs.Numbers.{split_around}
-use Rattle.pfs_conf_tokens.specs.Grammar.{Word, Perhaps, absent, present, Until, ends, goes, NextOf, plain, comma}
+use Rattle.pfs_conf_tokens.specs.Grammar.{Word, Perhaps, absent, present, Until, ends, goes, NextOf, plain, comma, Passes, stays, over}
 use Rattle.pfs_conf_tokens.proofs.WordKeys.{key_of_Any, key_of_Rdomain}
 use Rattle.pfs_addr_values.specs.Names.{is_name, name_of}
 use Rattle.pfs_addr_values.specs.Numbers.{number_of}
@@ -21,7 +21,7 @@ use Rattle.pfs_addr_values.specs.FlagSets.{flags_of, is_flag_letter, names_lette
 use Rattle.pfs_addr_values.specs.declared.protocols.Proto.{Proto}
 use Rattle.pfs_addr_values.specs.declared.protocols.Proto.TheVariants as proto
 use Rattle.pfs_addr_values.specs.declared.flag_sets.Flags.{Flags}
-use Rattle.pfs_conf_values.specs.LoadRules.{IsInterface, IsProto, ArePorts, IsHost, IsSide, IsFlagTest, has_a_flag}
+use Rattle.pfs_conf_values.specs.LoadRules.{IsInterface, IsProto, ArePorts, IsHost, IsSide, IsFlagTest, has_a_flag, IsTag}
 use Rattle.pfs_conf_values.specs.declared.filters.FlagTest.{FlagTest}
 use Rattle.pfs_conf_values.specs.declared.filters.Host.{Host}
 use Rattle.pfs_conf_values.specs.declared.filters.Interface.{Interface}
@@ -30,14 +30,15 @@ use Rattle.pfs_conf_values.specs.declared.filters.Side.{Side}
 use Rattle.pfs_conf_filters.specs.declared.phrases.Hosts.{Hosts}
 use Rattle.pfs_conf_filters.specs.declared.phrases.Parameters.{Parameters}
 use Rattle.pfs_conf_filters.specs.declared.phrases.Statement.{Statement}
-use Rattle.pfs_conf_filters.specs.Values.{is_plain_word, in_plain_word, may_name_interface, interface_name, port_numbered, port_by, port_of, one_port, port_range, ports_around, ports_of, exactly, flags_around, flag_test_of, flag_test_by, flag_test}
+use Rattle.pfs_conf_filters.specs.Values.{is_plain_word, in_plain_word, may_name_interface, interface_name, port_numbered, port_by, port_of, one_port, port_range, ports_around, ports_of, exactly, flags_around, flag_test_of, flag_test_by, flag_test, tag_name}
 use Rattle.pfs_conf_tokens.specs.Values.{in_word}
-use Rattle.pfs_conf_filters.specs.Grammar.{Says, Behind, NegationOf, affirmed, negated, OnOf, on, HostOf, any, prefix, table, PortsOf, plainly, equals, SideOf, hosted, ported, HostsOf, every, sides, ParametersOf, FlagsOf, DirOf, inward, outward, LogItemOf, all, matches, user, to, bare, listed, LogOf, silent, logs, QuickOf, slow, quick, MarksOf, log_first, quick_first, of_anchor}
+use Rattle.pfs_conf_filters.specs.Grammar.{Says, Behind, NegationOf, affirmed, negated, OnOf, on, HostOf, any, prefix, table, PortsOf, plainly, equals, SideOf, hosted, ported, HostsOf, every, sides, ParametersOf, FlagsOf, DirOf, inward, outward, LogItemOf, all, matches, user, to, bare, listed, LogOf, silent, logs, QuickOf, slow, quick, MarksOf, log_first, quick_first, of_anchor, of_match, ExtraOf, tag, tagged, received_on}
 use Rattle.pfs_conf_filters.specs.Sides.{side_not_given, source_of, destination_of}
 use Rattle.pfs_addr_values.specs.declared.packets.Dir.{Dir}
 use Rattle.pfs_conf_filters.specs.declared.phrases.Marks.{Marks}
 use Rattle.pfs_conf_settings.proofs.RoutePhrases.{network_within}
-use Rattle.pfs_conf.specs.Within.{IsLexed, AreLexed, more, IsTableName, AreParameters}
+use Rattle.pfs_conf.specs.Within.{IsLexed, AreLexed, more, IsTableName, AreParameters, AreExtras, MayBeQuick}
+use Rattle.pfs_conf_filters.specs.declared.phrases.Extras.{Extras}
 
 -- ---- forms
 
@@ -304,6 +305,7 @@ quick_lexed (quick w) l = word_lexed w l
 marks_lexed : {s : Statement} {ts left : List Tok} {m : Marks} → MarksOf s ts m left → AreLexed ts → AreLexed left
 marks_lexed (log_first p q) l = quick_lexed q (log_lexed p l)
 marks_lexed (quick_first w p) l = log_lexed p (word_lexed w l)
+marks_lexed (of_match p) l = log_lexed p l
 marks_lexed (of_anchor q) l = quick_lexed q l
 
 pub parameters_within : {s : Statement} {ts left : List Tok} {p : Parameters} → ParametersOf s ts p left → AreLexed ts → AreParameters p
@@ -315,3 +317,25 @@ parameters_within q l =
       source = hosts.0;
       destination = hosts.1;
     }
+
+-- a match rule has no `quick`
+pub marks_within : {s : Statement} {ts left : List Tok} {m : Marks} → MarksOf s ts m left → MayBeQuick s m.quick
+marks_within (log_first p q) = tt
+marks_within (quick_first w p) = tt
+marks_within (of_match p) = refl
+marks_within (of_anchor q) = tt
+
+-- ---- what a rule has behind its parameters
+
+says_tag : {ts left : List Tok} {n : List ℕ} → Says tag_name ts n left → IsTag n
+says_tag q = says_word (name_of 63) IsTag (name_good 63) q
+
+pub extra_within : {e d : Extras} {ts left : List Tok} → ExtraOf e ts d left → AreLexed ts → AreExtras e → AreExtras d
+extra_within (tag n w q) l k = record { tag = says_tag q; tagged = k.tagged; received_on = k.received_on }
+extra_within (tagged n m w q) l k = record { tag = k.tag; tagged = says_tag q; received_on = k.received_on }
+extra_within (received_on {b = b} n m w q) l k = record { tag = k.tag; tagged = k.tagged; received_on = says_interface b q (word_lexed w (negation_lexed m l)) }
+
+-- tokens that are gone over leave tokens of the text
+pub passes_lexed : {p : Key → Bool} {ts left : List Tok} → Passes p ts left → AreLexed ts → AreLexed left
+passes_lexed stays l = l
+passes_lexed (over e q) (more x m) = passes_lexed q m

@@ -12,7 +12,9 @@ use Rattle.pfs_conf_settings.specs.Drafts.{Drafted, conf_of_draft, is_defined}
 use Rattle.pfs_conf_values.specs.Siblings.{has_sibling}
 use Rattle.pfs_conf_values.specs.declared.filters.FlagTest.{FlagTest}
 use Rattle.pfs_conf_filters.specs.declared.phrases.Statement.TheVariants as statement
-use Rattle.pfs_conf_filters.specs.Grammar.{VerbOf, ParametersOf, FlagsOf}
+use Rattle.pfs_conf_filters.specs.declared.phrases.Extras.{Extras}
+use Rattle.pfs_conf_filters.specs.declared.phrases.Verb.{Verb}
+use Rattle.pfs_conf_filters.specs.Grammar.{VerbOf, ParametersOf, FlagsOf, ExtraOf, statement_of, takes_state}
 use Rattle.pfs_conf_options.specs.Grammar.{StateOf, TableOf}
 use Rattle.pfs_conf_options.specs.declared.clauses.StateClause.{StateClause}
 use Rattle.pfs_conf_settings.specs.SettingGrammar.{SettingOf}
@@ -26,18 +28,19 @@ use Rattle.pfs_conf.specs.declared.phrases.AnchorText.{AnchorText}
 use Rattle.pfs_conf.specs.declared.progress.Progress.{Progress}
 use Rattle.pfs_conf.specs.Statements.{nothing, no_clauses, with_cookies, with_definition, with_rule, with_anchor, rule_breaks, anchor_breaks, cookies_break, text_breaks}
 
--- `flags` or a state clause is added to clauses that do not have it
-pub data ClauseOf : Clauses → List Tok → Clauses → List Tok → Type 0 where
-  flags : {c : Clauses} {ts left : List Tok} {f : FlagTest} → c.flags ≡ None → FlagsOf ts f left → ClauseOf c ts (record c { flags = Some f }) left
-  state : {c : Clauses} {ts left : List Tok} {s : StateClause} → c.state ≡ None → StateOf ts s left → ClauseOf c ts (record c { state = Some s }) left
+-- `flags`, an extra or a state clause is added to the clauses of a rule that begins so and does not have it
+pub data ClauseOf (v : Verb) : Clauses → List Tok → Clauses → List Tok → Type 0 where
+  flags : {c : Clauses} {ts left : List Tok} {f : FlagTest} → c.flags ≡ None → FlagsOf ts f left → ClauseOf v c ts (record c { flags = Some f }) left
+  extra : {c : Clauses} {ts left : List Tok} {e : Extras} → ExtraOf c.extras ts e left → ClauseOf v c ts (record c { extras = e }) left
+  state : {c : Clauses} {ts left : List Tok} {s : StateClause} → takes_state v ≡ true → c.state ≡ None → StateOf ts s left → ClauseOf v c ts (record c { state = Some s }) left
 
--- rule := action parameters (flags | state)* EOL
+-- rule := action parameters (flags | extra | state)* EOL
 pub record RuleOf (ts : List Tok) (r : RuleText) (left : List Tok) : Type 0 where
   pub a : List Tok
   pub b : List Tok
   pub verb : VerbOf ts r.verb a
-  pub parameters : ParametersOf statement.Rule a r.parameters b
-  pub clauses : Until key.LineEnd ClauseOf no_clauses b r.clauses left
+  pub parameters : ParametersOf (statement_of r.verb) a r.parameters b
+  pub clauses : Until key.LineEnd (ClauseOf r.verb) no_clauses b r.clauses left
 
 -- words that may begin what follows the name of an anchor are no names of anchors, unless they are quoted
 abbrev pub names_anchor : Key → Bool

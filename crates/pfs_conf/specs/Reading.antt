@@ -14,7 +14,8 @@ use Rattle.pfs_conf_values.specs.Configs.{Conf}
 use Rattle.pfs_conf_settings.specs.Drafts.{Drafted, conf_of_draft, is_defined}
 use Rattle.pfs_conf_values.specs.Siblings.{has_sibling}
 use Rattle.pfs_conf_values.specs.declared.filters.FlagTest.{FlagTest}
-use Rattle.pfs_conf_filters.specs.Reading.{verb_at, parameters_at, flags_at, begins_flags}
+use Rattle.pfs_conf_filters.specs.Grammar.{statement_of, takes_state}
+use Rattle.pfs_conf_filters.specs.Reading.{verb_at, parameters_at, flags_at, extra_at, begins_flags}
 use Rattle.pfs_conf_filters.specs.Repeats.{repeats, repeats_policy}
 use Rattle.pfs_conf_filters.specs.declared.phrases.Parameters.{Parameters}
 use Rattle.pfs_conf_filters.specs.declared.phrases.Statement.TheVariants as statement
@@ -50,19 +51,30 @@ why_repeated false = why.Plain
 
 -- ---- rules
 
--- `flags` and a state clause, in any order, each at most once
+-- the state clause, which a match rule has not
+abbrev pub state_act : Verb → Clauses → Act Clauses
+state_act v c = if takes_state v then once c.state (stay (chain state_at (λ s. done (record c { state = Some s })))) else refuse why.Plain
+
+abbrev pub extra_act : Clauses → Act Clauses
+extra_act c = stay (chain (extra_at c.extras) (λ e. done (record c { extras = e })))
+
+-- `flags`, extras and a state clause, in any order, each at most once
 abbrev pub clause_by : Verb → Parameters → Clauses → Key → Act Clauses
 clause_by v p c key.Flags = once c.flags (stay (chain flags_at (λ f. done (record c { flags = Some f }))))
-clause_by v p c key.No = once c.state (stay (chain state_at (λ s. done (record c { state = Some s }))))
-clause_by v p c key.Keep = once c.state (stay (chain state_at (λ s. done (record c { state = Some s }))))
-clause_by v p c key.Synproxy = once c.state (stay (chain state_at (λ s. done (record c { state = Some s }))))
+clause_by v p c key.Tag = extra_act c
+clause_by v p c key.Tagged = extra_act c
+clause_by v p c key.ReceivedOn = extra_act c
+clause_by v p c key.Not = extra_act c
+clause_by v p c key.No = state_act v c
+clause_by v p c key.Keep = state_act v c
+clause_by v p c key.Synproxy = state_act v c
 clause_by v p c k = refuse (why_repeated (repeats_policy v k || repeats p k))
 
 unfoldable pub clause_at : Verb → Parameters → Clauses → Reader Clauses
 clause_at v p c ts = on_front (λ t. clause_by v p c t.key) ts
 
 unfoldable pub rule_text_at : Reader RuleText
-rule_text_at ts = chain verb_at (λ v. chain (parameters_at statement.Rule) (λ p. chain (until_all ends_line (clause_at v p) no_clauses) (λ c.
+rule_text_at ts = chain verb_at (λ v. chain (parameters_at (statement_of v)) (λ p. chain (until_all ends_line (clause_at v p) no_clauses) (λ c.
     done (record { verb = v; parameters = p; clauses = c })))) ts
 
 -- a rule that begins on a line; its load rules are checked when its line end has been read
@@ -183,6 +195,7 @@ statement_by p line key.Set = outside p.depth (take (set_at line p))
 statement_by p line key.Table = outside p.depth (take (definition_at p))
 statement_by p line key.Pass = stay (rule_line_at line p)
 statement_by p line key.Block = stay (rule_line_at line p)
+statement_by p line key.Match = stay (rule_line_at line p)
 statement_by p line key.Anchor = take (anchor_at line p)
 statement_by p line key.CloseBrace = inside_anchor p.depth (take (ended (anchor_closed p)))
 statement_by p line _ = refuse why.Statement

@@ -7,6 +7,7 @@ use Rattle.pfs_conf_settings.specs.Drafts.{Drafted, empty_draft, number_of_table
 use Rattle.pfs_conf_values.specs.declared.syncookies.Syncookies.{Syncookies}
 use Rattle.pfs_conf_values.specs.declared.actions.Action.{Action}
 use Rattle.pfs_conf_values.specs.declared.actions.Action.TheVariants as action
+use Rattle.pfs_conf_values.specs.declared.filters.Came.{Came}
 use Rattle.pfs_conf_values.specs.declared.filters.Filter.{Filter}
 use Rattle.pfs_conf_values.specs.declared.filters.FlagTest.{FlagTest}
 use Rattle.pfs_conf_values.specs.declared.filters.FlagTest.TheVariants as flag_test
@@ -19,8 +20,10 @@ use Rattle.pfs_conf_values.specs.declared.items.Rule.{Rule}
 use Rattle.pfs_conf_values.specs.declared.items.ItemKind.TheVariants as what
 use Rattle.pfs_conf_filters.specs.declared.phrases.Verb.{Verb}
 use Rattle.pfs_conf_filters.specs.declared.phrases.Verb.TheVariants as verb
+use Rattle.pfs_conf_filters.specs.declared.phrases.Extras.{Extras}
 use Rattle.pfs_conf_filters.specs.declared.phrases.Hosts.{Hosts}
 use Rattle.pfs_conf_filters.specs.declared.phrases.Parameters.{Parameters}
+use Rattle.pfs_conf_filters.specs.Grammar.{no_extras}
 use Rattle.pfs_conf_filters.specs.Sides.{lacks_proto, source_of, destination_of}
 use Rattle.pfs_conf_options.specs.declared.clauses.Options.{Options}
 use Rattle.pfs_conf_options.specs.declared.clauses.OverloadText.{OverloadText}
@@ -84,7 +87,7 @@ name_hosts h d = name_host (destination_of h).host (name_host (source_of h).host
 -- ---- rules (pf.conf(5), PACKET FILTERING and STATEFUL FILTERING)
 
 abbrev pub no_clauses : Clauses
-no_clauses = record { flags = None; state = None }
+no_clauses = record { flags = None; extras = no_extras; state = None }
 
 -- the options of a state clause; none without one
 abbrev pub state_options : Option StateClause → Options
@@ -97,7 +100,9 @@ passing None table = action.Keep (resolved_options none_given table)
 passing (Some clause.No) table = action.Pass
 passing (Some (clause.Keep o)) table = action.Keep (resolved_options o table)
 
+-- a match rule decides nothing
 abbrev pub action_of : Verb → Option StateClause → Option TableNo → Action
+action_of verb.Match s table = action.Match
 action_of verb.Pass s table = passing s table
 action_of (verb.Block has_policy) s table = action.Block
 
@@ -109,6 +114,7 @@ opening_flags = flag_test.Exactly
 
 -- the flags that a rule asks for where none are given: S/SA if it keeps state, else any
 abbrev pub default_flags : Action → FlagTest
+default_flags action.Match = flag_test.Any
 default_flags action.Block = flag_test.Any
 default_flags action.Pass = flag_test.Any
 default_flags (action.Keep o) = opening_flags
@@ -121,11 +127,17 @@ name_rule r d = name_overload (state_options r.clauses.state).overload (name_hos
 abbrev pub rule_action : RuleText → Drafted → Action
 rule_action r d = action_of r.verb r.clauses.state (number_overload (state_options r.clauses.state).overload (name_hosts r.parameters.hosts d))
 
+-- what it asks of how a packet came
+abbrev pub came_said : Extras → Came
+came_said e = record { tagged = e.tagged; received_on = e.received_on }
+
 -- what a rule says
 abbrev pub rule_said : RuleText → Drafted → Rule
 rule_said r d = record {
   quick = r.parameters.head.marks.quick;
   filter = filter_said r.parameters (unwrap_or r.clauses.flags (default_flags (rule_action r d))) d;
+  came = came_said r.clauses.extras;
+  tag = r.clauses.extras.tag;
   action = rule_action r d;
 }
 

@@ -19,7 +19,8 @@ pub use kinds::Kind;
 pub use loading::load;
 pub use pfs_conf_show::show;
 pub use pfs_conf_values::{
-    Action, Anchor, AnchorName, Config, Entries, Family, Filter, FlagTest, Host, Interface, Item,
-    ItemKind, LimitName, Overload, Ports, Profile, Rate, Route, Rule, RuleNo, RuleTimeouts, Scope,
-    Side, StateOptions, Syncookies, TableDef, TableName, TableNo, TimeoutName,
+    Action, Anchor, AnchorName, Came, Config, Entries, Family, Filter, FlagTest, Host, Interface,
+    Item, ItemKind, LimitName, Overload, Ports, Profile, Rate, Route, Rule, RuleNo, RuleTimeouts,
+    Scope, Side, StateOptions, Syncookies, TableDef, TableName, TableNo, TagName, Tagged,
+    TimeoutName,
 };

@@ -2,15 +2,17 @@
 
 ghost use Rattle.std.specs.Prelude.{◌≡◌, IfOk, OnOk, IfSome};
 ghost use Rattle.pfs_conf_values.specs.LoadRules.{IsHost, IsSide};
-ghost use Rattle.pfs_conf.specs.Statements.{action_of, anchor_said, default_flags, name_host, name_overload, name_rule, name_hosts, number_host, number_overload, number_side, passing, rule_said, state_options};
+ghost use Rattle.pfs_conf.specs.Statements.{action_of, anchor_said, came_said, default_flags, name_host, name_overload, name_rule, name_hosts, number_host, number_overload, number_side, passing, rule_said, state_options};
 ghost use Rattle.pfs_conf.specs.Within.{IsAnchorText, IsRuleText, IsTableName};
 
 use crate::phrases::{AnchorText, RuleText};
 use pfs_addr_values::{Flags, NoMemory};
-use pfs_conf_filters::{Head, Verb};
+use pfs_conf_filters::{Extras, Head, Verb};
 use pfs_conf_options::{Options, OverloadText, StateClause};
 use pfs_conf_settings::Draft;
-use pfs_conf_values::{Action, Anchor, Filter, FlagTest, Host, Rule, Side, TableName, TableNo};
+use pfs_conf_values::{
+    Action, Anchor, Came, Filter, FlagTest, Host, Rule, Side, TableName, TableNo,
+};
 
 /// What a rule says. Its tables are used, that of the source first and that of `overload` last.
 pub fn number_rule(draft: &mut Draft, text: &RuleText) -> Result<Rule, NoMemory>
@@ -27,6 +29,8 @@ pub fn number_rule(draft: &mut Draft, text: &RuleText) -> Result<Rule, NoMemory>
     Ok(Rule {
         quick: text.parameters.head.marks.quick,
         filter,
+        came: came(text.clauses.extras),
+        tag: text.clauses.extras.tag,
         action,
     })
 }
@@ -46,6 +50,15 @@ pub fn number_anchor(draft: &mut Draft, text: &AnchorText) -> Result<Anchor, NoM
         quick: text.parameters.head.marks.quick,
         filter,
     })
+}
+
+fn came(extras: Extras) -> Came
+    ensures { result ≡ came_said extras }
+{
+    Came {
+        tagged: extras.tagged,
+        received_on: extras.received_on,
+    }
 }
 
 fn filter(head: Head, from: Side<TableNo>, to: Side<TableNo>, flags: FlagTest) -> Filter
@@ -116,11 +129,12 @@ pub fn state_options(state: Option<StateClause>) -> Options
     }
 }
 
-/// A pass rule keeps state unless it says `no state`. (pf.conf(5), STATEFUL FILTERING)
+/// A pass rule keeps state unless it says `no state`; a match rule decides nothing. (pf.conf(5), STATEFUL FILTERING)
 fn action_of(verb: Verb, state: Option<StateClause>, table: Option<TableNo>) -> Action
     ensures { result ≡ action_of verb state table }
 {
     match (verb, state) {
+        (Verb::Match, _) => Action::Match,
         (Verb::Block { .. }, _) => Action::Block,
         (Verb::Pass, None) => Action::Keep(Options::new().resolved(table)),
         (Verb::Pass, Some(StateClause::No)) => Action::Pass,
@@ -134,7 +148,7 @@ fn default_flags(action: &Action) -> FlagTest
     ensures { result ≡ default_flags action.now }
 {
     match action {
-        Action::Block | Action::Pass => FlagTest::Any,
+        Action::Match | Action::Block | Action::Pass => FlagTest::Any,
         Action::Keep(_) => FlagTest::Exactly {
             set: Flags {
                 fin: false,

@@ -1,6 +1,6 @@
 //! Statements as they are written: tables by their names, and each part with whether it is given.
 
-use pfs_conf_filters::{Parameters, Verb};
+use pfs_conf_filters::{Extras, Parameters, Verb};
 use pfs_conf_options::StateClause;
 use pfs_conf_values::{AnchorName, FlagTest};
 
@@ -9,6 +9,8 @@ use pfs_conf_values::{AnchorName, FlagTest};
 pub struct Clauses {
     /// `flags`
     pub flags: Option<FlagTest>,
+    /// `tag`, `tagged` and `received-on`
+    pub extras: Extras,
     /// `keep state` or `no state`
     pub state: Option<StateClause>,
 }

@@ -2,10 +2,10 @@
 
 ghost use Rattle.std.specs.Prelude.{◌≡◌, IfOk, OnOk, None};
 ghost use Rattle.pfs_conf_tokens.specs.Keys.{ends_line};
-ghost use Rattle.pfs_conf_tokens.specs.Reading.{until_all};
+ghost use Rattle.pfs_conf_tokens.specs.Reading.{act, until_all};
 ghost use Rattle.pfs_conf_tokens.specs.Giving.{Gives};
 ghost use Rattle.pfs_conf.specs.Statements.{no_clauses, rule_breaks, with_rule};
-ghost use Rattle.pfs_conf.specs.Reading.{clause_at, rule_text_at, rule_line_at};
+ghost use Rattle.pfs_conf.specs.Reading.{clause_at, rule_text_at, rule_line_at, state_act};
 ghost use Rattle.pfs_conf.specs.Giving.{Comes, IsAtDepth};
 ghost use Rattle.pfs_conf.specs.Within.{AreLexed, IsRuleText};
 
@@ -14,7 +14,9 @@ use crate::numbering::number_rule;
 use crate::phrases::{Clauses, RuleText};
 use crate::progress::Progress;
 use pfs_addr_values::NoMemory;
-use pfs_conf_filters::{Parameters, Statement, Verb, read_flags, read_parameters, read_verb};
+use pfs_conf_filters::{
+    Extras, Parameters, Verb, read_extra, read_flags, read_parameters, read_verb,
+};
 use pfs_conf_options::state_clause;
 use pfs_conf_tokens::{Cursor, Key, ReadError, Refusal, Why};
 
@@ -69,7 +71,7 @@ fn read_rule(cursor: &mut Cursor) -> Result<RuleText, Refusal>
     ensures { Gives result cursor.new (rule_text_at cursor.old) }
 {
     let verb = read_verb(cursor)?;
-    let parameters = read_parameters(cursor, Statement::Rule)?;
+    let parameters = read_parameters(cursor, verb.statement())?;
     let clauses = clauses(cursor, verb, &parameters)?;
     Ok(RuleText {
         verb,
@@ -83,6 +85,7 @@ fn clauses(cursor: &mut Cursor, verb: Verb, parameters: &Parameters) -> Result<C
 {
     let mut clauses = Clauses {
         flags: None,
+        extras: Extras::new(),
         state: None,
     };
     while !cursor.is_at_line_end() {
@@ -112,16 +115,11 @@ fn clause(
                 ..clauses
             })
         }
-        Key::No | Key::Keep | Key::Synproxy => {
-            if clauses.state.is_some() {
-                return Err(Refusal::Stop(Why::Again));
-            }
-            let state = state_clause(cursor)?;
-            Ok(Clauses {
-                state: Some(state),
-                ..clauses
-            })
+        Key::Tag | Key::Tagged | Key::ReceivedOn | Key::Not => {
+            let extras = read_extra(cursor, clauses.extras)?;
+            Ok(Clauses { extras, ..clauses })
         }
+        Key::No | Key::Keep | Key::Synproxy => state(cursor, verb, clauses),
         key => {
             if verb.has(key) || parameters.have(key) {
                 Err(Refusal::Stop(Why::Again))
@@ -130,4 +128,21 @@ fn clause(
             }
         }
     }
+}
+
+/// The state clause, which a `match` rule has not.
+fn state(cursor: &mut Cursor, verb: Verb, clauses: Clauses) -> Result<Clauses, Refusal>
+    ensures { Gives result cursor.new (act (state_act verb clauses) cursor.old) }
+{
+    if !verb.takes_state() {
+        return Err(Refusal::Stop(Why::Plain));
+    }
+    if clauses.state.is_some() {
+        return Err(Refusal::Stop(Why::Again));
+    }
+    let state = state_clause(cursor)?;
+    Ok(Clauses {
+        state: Some(state),
+        ..clauses
+    })
 }

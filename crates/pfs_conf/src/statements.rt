@@ -88,7 +88,7 @@ fn statement(alloc: Global, cursor: &mut Cursor, progress: &mut Progress) -> Res
             cursor.advance();
             table(alloc, cursor, progress)
         }
-        Key::Pass | Key::Block => rule(cursor, progress, line),
+        Key::Pass | Key::Block | Key::Match => rule(cursor, progress, line),
         Key::Anchor => {
             cursor.advance();
             anchor(cursor, progress, line)

@@ -1,14 +1,14 @@
 -- Each reader of parameters looks no further than the token in front of what it leaves, and goes over tokens of one line.
 --
 -- A crate above imports them as `use Rattle.pfs_conf_filters.proofs.OnlineLaws.{online_verb, ..}`.
-use Rattle.std.proofs.Common.{◌≡◌, ℕ, Bool, true, false, List, Option, Some, refl}
+use Rattle.std.proofs.Common.{◌≡◌, ℕ, Bool, true, false, List, Option, Some, refl, cond}
 use Rattle.pfs_conf_tokens.specs.Tokens.{Tok}
 use Rattle.pfs_conf_tokens.specs.Keys.{in_line}
-use Rattle.pfs_conf_tokens.specs.Reading.{closes_parens, Reader, on_front, done, chain, next_of}
+use Rattle.pfs_conf_tokens.specs.Reading.{closes_parens, Reader, on_front, done, chain, next_of, take, refuse}
 use Rattle.pfs_conf_tokens.specs.declared.keys.Key.{Key}
 use Rattle.pfs_conf_tokens.specs.declared.keys.Key.TheVariants as key
 use Rattle.pfs_conf_tokens.specs.declared.refusals.Why.TheVariants as why
-use Rattle.pfs_conf_tokens.proofs.Laws.{Online, OnlineAct, Taking, Shrinks, inside, online_done, online_chain, online_front, online_taking, online_perhaps, front_shrinks, chain_shrinks, chain_shrinks_behind}
+use Rattle.pfs_conf_tokens.proofs.Laws.{Online, OnlineAct, Taking, Shrinks, inside, online_done, online_chain, online_front, online_taking, online_perhaps, front_shrinks, chain_shrinks, chain_shrinks_behind, once_taking}
 use Rattle.pfs_conf_tokens.proofs.ReaderLaws.{passes_in_line, closes_parens_in_line, online_list, next_shrinks}
 use Rattle.pfs_addr_values.specs.declared.packets.Dir.TheVariants as dir
 use Rattle.pfs_conf_values.specs.declared.filters.Family.TheVariants as family
@@ -19,10 +19,11 @@ use Rattle.pfs_conf_filters.specs.declared.phrases.Statement.{Statement}
 use Rattle.pfs_conf_filters.specs.declared.phrases.Statement.TheVariants as statement
 use Rattle.pfs_addr.specs.Texts.{prefix_of}
 use Rattle.pfs_addr_values.specs.Protocols.{proto_in}
-use Rattle.pfs_conf_filters.specs.Values.{is_plain_word, in_plain_word, may_name_interface, interface_name, ports_of, flag_test_by, flag_test}
-use Rattle.pfs_conf_filters.specs.Reading.{behind, clause, part, begins_dir, begins_on, begins_family, begins_proto, begins_from, begins_to, begins_port, begins_flags, interface_at, policy_by, policy_at, verb_by, verb_at, dir_by, dir_at, log_item_by, log_item_at, log_list_by, log_list_at, log_by, log_at, quick_by, quick_at, marks_of, marks_by, marks_at, negation_by, negation_at, interface, on_at, on_part_at, family_by, family_part_at, proto_at, proto_part_at, head_at, close_by, close_at, place_by, place_at, host_by, host_at, equals_by, equals_at, ports_at, ports_part_at, side_host_by, side_host_at, side, side_at, from_part_at, to_part_at, all_hosts, given_hosts, hosts_by, hosts_at, parameters_at, flags_at}
+use Rattle.pfs_conf_filters.specs.Values.{is_plain_word, in_plain_word, may_name_interface, interface_name, ports_of, flag_test_by, flag_test, tag_name}
+use Rattle.pfs_conf_filters.specs.Reading.{behind, clause, part, begins_dir, begins_on, begins_family, begins_proto, begins_from, begins_to, begins_port, begins_flags, interface_at, policy_by, policy_at, verb_by, verb_at, dir_by, dir_at, log_item_by, log_item_at, log_list_by, log_list_at, log_by, log_at, quick_by, quick_at, marks_of, marks_by, marks_at, negation_by, negation_at, interface, on_at, on_part_at, family_by, family_part_at, proto_at, proto_part_at, head_at, close_by, close_at, place_by, place_at, host_by, host_at, equals_by, equals_at, ports_at, ports_part_at, side_host_by, side_host_at, side, side_at, from_part_at, to_part_at, all_hosts, given_hosts, hosts_by, hosts_at, parameters_at, flags_at, tag_name_at, tag_test, tag_at, tagged_at, received_on_at, asked_by, asks_both, extra_by, extra_at}
 use Rattle.pfs_conf_tokens.specs.Values.{in_word, table_name_at, value_at}
 use Rattle.pfs_conf_tokens.proofs.ValueLaws.{passed, in_word_in_line, online_value, value_shrinks, online_table_name}
+use Rattle.pfs_conf_filters.specs.declared.phrases.Extras.{Extras}
 
 -- ---- words that say a value
 
@@ -64,6 +65,10 @@ pub online_interface_name : Online inside interface_at
 unfolding interface_at
 online_interface_name = online_value why.Plain interface_name interface_in_line
 
+pub online_tag_name : Online inside tag_name_at
+unfolding tag_name_at
+online_tag_name = online_value why.Plain tag_name (in_word_in_line _)
+
 -- ---- the action
 
 policy_acts : (k : Key) → OnlineAct inside k (policy_by k)
@@ -80,6 +85,7 @@ online_policy = online_front (λ t. policy_by t.key) (λ t. policy_acts t.key)
 
 verb_taking : (k : Key) → Taking inside k (verb_by k)
 verb_taking key.Pass = (refl, online_done verb.Pass)
+verb_taking key.Match = (refl, online_done verb.Match)
 verb_taking key.Block = (refl, online_chain policy_at (λ p. done (verb.Block p)) online_policy (λ p. online_done (verb.Block p)))
 verb_taking _ = tt
 
@@ -147,6 +153,7 @@ online_quick = online_front (λ t. quick_by t.key) (λ t. quick_acts t.key)
 marks_acts : (s : Statement) (k : Key) → OnlineAct inside k (marks_by s k)
 marks_acts statement.Rule key.Quick = (refl, online_chain log_at (λ l. done (marks_of l true)) online_log (λ l. online_done (marks_of l true)))
 marks_acts statement.Rule _ = online_chain log_at (λ l. chain quick_at (λ q. done (marks_of l q))) online_log (λ l. online_chain quick_at (λ q. done (marks_of l q)) online_quick (λ q. online_done (marks_of l q)))
+marks_acts statement.Match k = online_chain log_at (λ l. done (marks_of l false)) online_log (λ l. online_done (marks_of l false))
 marks_acts statement.Anchor k = online_chain quick_at (λ q. done (marks_of false q)) online_quick (λ q. online_done (marks_of false q))
 
 pub online_marks : (s : Statement) → Online inside (marks_at s)
@@ -285,3 +292,39 @@ online_flags = online_clause begins_flags (value_at why.Plain flag_test) refl re
 pub flags_shrinks : Shrinks flags_at
 unfolding flags_at
 flags_shrinks = clause_shrinks begins_flags (value_at why.Plain flag_test) refl refl (online_value why.Plain flag_test (λ t x e. flags_in_line t.text t.key x e))
+
+-- ---- what a rule has behind its parameters
+
+online_tag : (e : Extras) → Online inside (tag_at e)
+unfolding tag_at
+online_tag e = online_chain tag_name_at (λ n. done (record e { tag = Some n })) online_tag_name (λ n. online_done (record e { tag = Some n }))
+
+online_tagged : (e : Extras) (b : Bool) → Online inside (tagged_at e b)
+unfolding tagged_at
+online_tagged e b = online_chain tag_name_at (λ n. done (record e { tagged = Some (tag_test n b) })) online_tag_name (λ n. online_done (record e { tagged = Some (tag_test n b) }))
+
+online_received_on : (e : Extras) (b : Bool) → Online inside (received_on_at e b)
+unfolding received_on_at
+online_received_on e b = online_chain interface_at (λ n. done (record e { received_on = Some (interface n b) })) online_interface_name (λ n. online_done (record e { received_on = Some (interface n b) }))
+
+asked_taking : (e : Extras) (b : Bool) (k : Key) → Taking inside k (asked_by e b k)
+asked_taking e b key.Tagged = once_taking inside key.Tagged e.tagged (take (tagged_at e b)) (refl, online_tagged e b)
+asked_taking e b key.ReceivedOn = once_taking inside key.ReceivedOn e.received_on (take (received_on_at e b)) (refl, online_received_on e b)
+asked_taking e b _ = tt
+
+negated_taking : (e : Extras) (both : Bool) → Taking inside key.Not (cond both (refuse why.Again) (take (on_front (λ t. asked_by e true t.key))))
+negated_taking e true = tt
+negated_taking e false = (refl, online_taking (λ t. asked_by e true t.key) (λ t. asked_taking e true t.key))
+
+extra_taking : (e : Extras) (k : Key) → Taking inside k (extra_by e k)
+extra_taking e key.Tag = once_taking inside key.Tag e.tag (take (tag_at e)) (refl, online_tag e)
+extra_taking e key.Not = negated_taking e (asks_both e)
+extra_taking e k = asked_taking e false k
+
+pub online_extra : (e : Extras) → Online inside (extra_at e)
+unfolding extra_at
+online_extra e = online_taking (λ t. extra_by e t.key) (λ t. extra_taking e t.key)
+
+pub extra_shrinks : (e : Extras) → Shrinks (extra_at e)
+unfolding extra_at
+extra_shrinks e = front_shrinks inside (λ t. extra_by e t.key) (λ t. extra_taking e t.key)

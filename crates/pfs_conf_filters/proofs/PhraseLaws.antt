@@ -4,7 +4,7 @@
 use Rattle.std.proofs.Common.{◌≡◌, ℕ, Bool, true, false, cond, List, [], ◌∷◌, Option, Some, None, Ok, refl, sym, ap, subst, ◌∙◌}
 use borrow.Author.Tests.{clash}
 use Rattle.pfs_conf_tokens.specs.Tokens.{Tok, head}
-use Rattle.pfs_conf_tokens.specs.Reading.{rest, closes_parens, Reader, stay, act, on_front, done, chain}
+use Rattle.pfs_conf_tokens.specs.Reading.{rest, closes_parens, Reader, stay, act, on_front, done, chain, take, refuse, once}
 use Rattle.pfs_conf_tokens.specs.Keys.{in_line}
 use Rattle.pfs_conf_tokens.specs.Grammar.{Word, Perhaps}
 use Rattle.pfs_conf_tokens.specs.declared.keys.Key.{Key}
@@ -34,12 +34,14 @@ use Rattle.pfs_conf_filters.specs.declared.phrases.Marks.{Marks}
 use Rattle.pfs_conf_filters.specs.declared.phrases.Head.{Head}
 use Rattle.pfs_conf_filters.specs.declared.phrases.Hosts.{Hosts}
 use Rattle.pfs_conf_filters.specs.declared.phrases.Parameters.{Parameters}
-use Rattle.pfs_conf_filters.specs.Values.{in_plain_word, interface_name, ports_of, flag_test}
-use Rattle.pfs_conf_filters.specs.Reading.{behind, clause, part, begins_dir, begins_on, begins_family, begins_proto, begins_from, begins_to, begins_port, begins_flags, interface_at, policy_by, policy_at, verb_by, verb_at, dir_by, dir_at, log_item_by, log_item_at, log_list_by, log_list_at, log_by, log_at, quick_by, quick_at, marks_of, marks_by, marks_at, negation_by, negation_at, interface, on_at, on_part_at, family_by, family_part_at, proto_at, proto_part_at, head_at, close_by, close_at, place_by, place_at, host_by, host_at, equals_by, equals_at, ports_at, ports_part_at, side_host_by, side_host_at, side, side_at, from_part_at, to_part_at, all_hosts, given_hosts, hosts_by, hosts_at, parameters_at, flags_at}
-use Rattle.pfs_conf_filters.specs.Grammar.{Says, Behind, PolicyOf, none, drop, return, return_rst, return_icmp, return_icmp6, VerbOf, pass, block, DirOf, inward, outward, LogItemOf, all, matches, user, to, LogListOf, bare, listed, LogOf, silent, logs, QuickOf, slow, quick, MarksOf, log_first, quick_first, of_anchor, NegationOf, affirmed, negated, OnOf, on, FamilyOf, inet, inet6, HeadOf, HostOf, any, prefix, table, PortsOf, plainly, equals, SideOf, hosted, ported, HostsOf, every, sides, ParametersOf, FlagsOf}
+use Rattle.pfs_conf_filters.specs.Values.{in_plain_word, interface_name, ports_of, flag_test, tag_name}
+use Rattle.pfs_conf_filters.specs.Reading.{behind, clause, part, begins_dir, begins_on, begins_family, begins_proto, begins_from, begins_to, begins_port, begins_flags, interface_at, policy_by, policy_at, verb_by, verb_at, dir_by, dir_at, log_item_by, log_item_at, log_list_by, log_list_at, log_by, log_at, quick_by, quick_at, marks_of, marks_by, marks_at, negation_by, negation_at, interface, on_at, on_part_at, family_by, family_part_at, proto_at, proto_part_at, head_at, close_by, close_at, place_by, place_at, host_by, host_at, equals_by, equals_at, ports_at, ports_part_at, side_host_by, side_host_at, side, side_at, from_part_at, to_part_at, all_hosts, given_hosts, hosts_by, hosts_at, parameters_at, flags_at, tag_name_at, tag_test, tag_at, tagged_at, received_on_at, asked_by, asks_both, extra_by, extra_at}
+use Rattle.pfs_conf_filters.specs.Grammar.{Says, Behind, PolicyOf, none, drop, return, return_rst, return_icmp, return_icmp6, VerbOf, pass, block, DirOf, inward, outward, LogItemOf, all, matches, user, to, LogListOf, bare, listed, LogOf, silent, logs, QuickOf, slow, quick, MarksOf, log_first, quick_first, of_anchor, NegationOf, affirmed, negated, OnOf, on, FamilyOf, inet, inet6, HeadOf, HostOf, any, prefix, table, PortsOf, plainly, equals, SideOf, hosted, ported, HostsOf, every, sides, ParametersOf, FlagsOf, matching, of_match, ExtraOf, tag, tagged, received_on}
 use Rattle.pfs_conf_filters.proofs.OnlineLaws.{in_plain_word_in_line, interface_in_line, flags_in_line}
 use Rattle.pfs_conf_tokens.proofs.ValueLaws.{in_word_in_line}
 use Rattle.pfs_conf_tokens.specs.Values.{in_word, table_name, table_name_at, value_at, valued}
+use Rattle.pfs_conf_filters.specs.declared.phrases.Extras.{Extras}
+use Rattle.pfs_conf_values.specs.declared.filters.Tagged.{Tagged}
 
 -- ---- forms
 
@@ -118,6 +120,10 @@ interface_name_is : (ts : List Tok) (x : List ℕ) (left : List Tok) → interfa
 unfolding interface_at
 interface_name_is ts x left e = value_is why.Plain interface_name interface_in_line ts x left e
 
+tag_name_is : (ts : List Tok) (x : List ℕ) (left : List Tok) → tag_name_at ts ≡ Ok (x, left) → Says tag_name ts x left
+unfolding tag_name_at
+tag_name_is ts x left e = value_is why.Plain tag_name (in_word_in_line _) ts x left e
+
 table_name_is : (ts : List Tok) (x : List ℕ) (left : List Tok) → table_name_at ts ≡ Ok (x, left) → Says table_name ts x left
 unfolding table_name_at
 table_name_is ts x left e = value_is why.Plain table_name (in_word_in_line _) ts x left e
@@ -145,6 +151,7 @@ verb_is ts x left e = by_key (head ts).key refl e
   where
     by_key : (k : Key) → (head ts).key ≡ k → act (verb_by k) ts ≡ Ok (x, left) → VerbOf ts x left
     by_key key.Pass g h = moved VerbOf ts (ok_parts verb.Pass x (rest ts) left h) (pass (word_is key.Pass ts g (λ q. cc)))
+    by_key key.Match g h = moved VerbOf ts (ok_parts verb.Match x (rest ts) left h) (matching (word_is key.Match ts g (λ q. cc)))
     by_key key.Block g h =
         let c = chain_ok policy_at (λ p. done (verb.Block p)) (rest ts) x left h in
         moved VerbOf ts (ok_parts (verb.Block c.0) x c.1 left c.3) (block (word_is key.Block ts g (λ q. cc)) (policy_is (rest ts) c.0 c.1 c.2))
@@ -232,6 +239,9 @@ marks_are s ts m left e = by_key s (head ts).key refl e
         let c = chain_ok log_at (λ l. done (marks_of l true)) (rest ts) m left h in
         moved (MarksOf statement.Rule) ts (ok_parts (marks_of c.0 true) m c.1 left c.3) (quick_then (word_is key.Quick ts g (λ q. cc)) (log_is (rest ts) c.0 c.1 c.2))
     by_key statement.Rule _ g h = log_in_front h
+    by_key statement.Match k g h =
+        let c = chain_ok log_at (λ l. done (marks_of l false)) ts m left h in
+        moved (MarksOf statement.Match) ts (ok_parts (marks_of c.0 false) m c.1 left c.3) (of_match (log_is ts c.0 c.1 c.2))
     by_key statement.Anchor k g h =
         let c = chain_ok quick_at (λ q. done (marks_of false q)) ts m left h in
         moved (MarksOf statement.Anchor) ts (ok_parts (marks_of false c.0) m c.1 left c.3) (of_anchor (quick_is ts c.0 c.1 c.2))
@@ -416,3 +426,52 @@ parameters_are s ts p left e =
 pub flags_are : (ts : List Tok) (x : FlagTest) (left : List Tok) → flags_at ts ≡ Ok (x, left) → FlagsOf ts x left
 unfolding flags_at
 flags_are ts x left e = clause_is key.Flags begins_flags (value_at why.Plain flag_test) (Says flag_test) flags_only (λ q. cc) (value_is why.Plain flag_test (λ t y h. flags_in_line t.text t.key y h)) ts x left e
+
+-- ---- what a rule has behind its parameters
+
+tag_is : (e : Extras) (ts : List Tok) → (head ts).key ≡ key.Tag → (o : Option (List ℕ)) → e.tag ≡ o → (x : Extras) (left : List Tok) → act (once o (take (tag_at e))) ts ≡ Ok (x, left) → ExtraOf e ts x left
+unfolding tag_at
+tag_is e ts g None n x left h =
+    let c = chain_ok tag_name_at (λ m. done (record e { tag = Some m })) (rest ts) x left h in
+    moved (ExtraOf e) ts (ok_parts (record e { tag = Some c.0 }) x c.1 left c.3) (tag n (word_is key.Tag ts g (λ q. cc)) (tag_name_is (rest ts) c.0 c.1 c.2))
+tag_is e ts g (Some y) n x left h = absurd cc
+
+tagged_is : (e : Extras) (b : Bool) (whole ts : List Tok) → NegationOf whole b ts → (head ts).key ≡ key.Tagged → (o : Option Tagged) → e.tagged ≡ o
+    → (x : Extras) (left : List Tok) → act (once o (take (tagged_at e b))) ts ≡ Ok (x, left) → ExtraOf e whole x left
+unfolding tagged_at
+tagged_is e b whole ts m g None n x left h =
+    let c = chain_ok tag_name_at (λ t. done (record e { tagged = Some (tag_test t b) })) (rest ts) x left h in
+    moved (ExtraOf e) whole (ok_parts (record e { tagged = Some (tag_test c.0 b) }) x c.1 left c.3) (tagged n m (word_is key.Tagged ts g (λ q. cc)) (tag_name_is (rest ts) c.0 c.1 c.2))
+tagged_is e b whole ts m g (Some y) n x left h = absurd cc
+
+received_on_is : (e : Extras) (b : Bool) (whole ts : List Tok) → NegationOf whole b ts → (head ts).key ≡ key.ReceivedOn → (o : Option Interface) → e.received_on ≡ o
+    → (x : Extras) (left : List Tok) → act (once o (take (received_on_at e b))) ts ≡ Ok (x, left) → ExtraOf e whole x left
+unfolding received_on_at
+received_on_is e b whole ts m g None n x left h =
+    let c = chain_ok interface_at (λ i. done (record e { received_on = Some (interface i b) })) (rest ts) x left h in
+    moved (ExtraOf e) whole (ok_parts (record e { received_on = Some (interface c.0 b) }) x c.1 left c.3) (received_on n m (word_is key.ReceivedOn ts g (λ q. cc)) (interface_name_is (rest ts) c.0 c.1 c.2))
+received_on_is e b whole ts m g (Some y) n x left h = absurd cc
+
+asked_is : (e : Extras) (b : Bool) (whole ts : List Tok) → NegationOf whole b ts → (x : Extras) (left : List Tok) → on_front (λ t. asked_by e b t.key) ts ≡ Ok (x, left) → ExtraOf e whole x left
+asked_is e b whole ts m x left e' = by_key (head ts).key refl e'
+  where
+    by_key : (k : Key) → (head ts).key ≡ k → act (asked_by e b k) ts ≡ Ok (x, left) → ExtraOf e whole x left
+    by_key key.Tagged g h = tagged_is e b whole ts m g e.tagged refl x left h
+    by_key key.ReceivedOn g h = received_on_is e b whole ts m g e.received_on refl x left h
+    by_key _ g h = absurd (not_refused _ _ _ h)
+
+pub extra_is : (e : Extras) (ts : List Tok) (x : Extras) (left : List Tok) → extra_at e ts ≡ Ok (x, left) → ExtraOf e ts x left
+unfolding extra_at
+extra_is e ts x left e' = by_key (head ts).key refl e'
+  where
+    after_not : (head ts).key ≡ key.Not → (both : Bool) → act (cond both (refuse why.Again) (take (on_front (λ t. asked_by e true t.key)))) ts ≡ Ok (x, left) → ExtraOf e ts x left
+    after_not g true h = absurd (not_refused _ _ _ h)
+    after_not g false h = asked_is e true ts (rest ts) (negated (word_is key.Not ts g (λ q. cc))) x left h
+
+    affirmed_is : (k : Key) → (head ts).key ≡ k → act (asked_by e false k) ts ≡ Ok (x, left) → ExtraOf e ts x left
+    affirmed_is k g h = asked_is e false ts ts affirmed x left (ap (λ (z : Key). act (asked_by e false z) ts) g ∙ h)
+
+    by_key : (k : Key) → (head ts).key ≡ k → act (extra_by e k) ts ≡ Ok (x, left) → ExtraOf e ts x left
+    by_key key.Tag g h = tag_is e ts g e.tag refl x left h
+    by_key key.Not g h = after_not g (asks_both e) h
+    by_key k g h = affirmed_is k g h

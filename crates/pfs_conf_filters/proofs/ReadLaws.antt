@@ -1,7 +1,7 @@
 -- Each phrase of the grammar of parameters is read, if what follows it does not continue it.
 --
 -- A crate above imports them as `use Rattle.pfs_conf_filters.proofs.ReadLaws.{verb_reads, parameters_read, flags_read}`.
-use Rattle.std.proofs.Common.{◌≡◌, ℕ, Bool, true, false, not, ◌&&◌, ◌||◌, List, Option, Some, Ok, refl, ap, ◌∙◌}
+use Rattle.std.proofs.Common.{◌≡◌, ℕ, Bool, true, false, not, ◌&&◌, ◌||◌, List, Option, Some, Ok, refl, ap, ◌∙◌, None, is_some}
 use Rattle.std.proofs.lemmas.Bool.{and_parts}
 use Rattle.pfs_conf_tokens.specs.Tokens.{Tok, head}
 use Rattle.pfs_conf_tokens.specs.Keys.{is_word_key}
@@ -31,12 +31,14 @@ use Rattle.pfs_conf_filters.specs.declared.phrases.Marks.{Marks}
 use Rattle.pfs_conf_filters.specs.declared.phrases.Head.{Head}
 use Rattle.pfs_conf_filters.specs.declared.phrases.Hosts.{Hosts}
 use Rattle.pfs_conf_filters.specs.declared.phrases.Parameters.{Parameters}
-use Rattle.pfs_conf_filters.specs.Values.{is_plain_word, in_plain_word, may_name_interface, interface_name, ports_of, flag_test}
-use Rattle.pfs_conf_filters.specs.Reading.{clause, part, begins_dir, begins_on, begins_family, begins_proto, begins_from, begins_to, begins_port, begins_flags, interface_at, policy_by, policy_at, verb_at, dir_by, dir_at, log_item_at, log_list_by, log_list_at, log_by, log_at, quick_by, quick_at, marks_of, rule_marks_by, marks_at, negation_by, negation_at, on_at, on_part_at, family_by, family_part_at, proto_at, proto_part_at, head_at, close_at, place_by, place_at, host_by, host_at, equals_by, equals_at, ports_at, ports_part_at, side_host_by, side_host_at, side_at, from_part_at, to_part_at, given_hosts, hosts_by, hosts_at, parameters_at, flags_at}
-use Rattle.pfs_conf_filters.specs.Grammar.{Says, Behind, PolicyOf, none, drop, return, return_rst, return_icmp, return_icmp6, VerbOf, pass, block, DirOf, inward, outward, LogItemOf, all, matches, user, to, LogListOf, bare, listed, LogOf, silent, logs, QuickOf, slow, quick, MarksOf, log_first, quick_first, of_anchor, NegationOf, affirmed, negated, OnOf, on, FamilyOf, inet, inet6, HeadOf, HostOf, any, prefix, table, PortsOf, plainly, equals, SideOf, hosted, ported, HostsOf, every, sides, ParametersOf, FlagsOf}
+use Rattle.pfs_conf_filters.specs.Values.{is_plain_word, in_plain_word, may_name_interface, interface_name, ports_of, flag_test, tag_name}
+use Rattle.pfs_conf_filters.specs.Reading.{clause, part, begins_dir, begins_on, begins_family, begins_proto, begins_from, begins_to, begins_port, begins_flags, interface_at, policy_by, policy_at, verb_at, dir_by, dir_at, log_item_at, log_list_by, log_list_at, log_by, log_at, quick_by, quick_at, marks_of, rule_marks_by, marks_at, negation_by, negation_at, on_at, on_part_at, family_by, family_part_at, proto_at, proto_part_at, head_at, close_at, place_by, place_at, host_by, host_at, equals_by, equals_at, ports_at, ports_part_at, side_host_by, side_host_at, side_at, from_part_at, to_part_at, given_hosts, hosts_by, hosts_at, parameters_at, flags_at, tag_name_at, tag_at, tagged_at, received_on_at, asks_both, extra_at}
+use Rattle.pfs_conf_filters.specs.Grammar.{Says, Behind, PolicyOf, none, drop, return, return_rst, return_icmp, return_icmp6, VerbOf, pass, block, DirOf, inward, outward, LogItemOf, all, matches, user, to, LogListOf, bare, listed, LogOf, silent, logs, QuickOf, slow, quick, MarksOf, log_first, quick_first, of_anchor, NegationOf, affirmed, negated, OnOf, on, FamilyOf, inet, inet6, HeadOf, HostOf, any, prefix, table, PortsOf, plainly, equals, SideOf, hosted, ported, HostsOf, every, sides, ParametersOf, FlagsOf, matching, of_match, ExtraOf, tag, tagged, received_on}
 use Rattle.pfs_conf_filters.proofs.OnlineLaws.{log_item_shrinks}
 use Rattle.pfs_conf_tokens.proofs.ValueLaws.{passed}
 use Rattle.pfs_conf_tokens.specs.Values.{in_word, table_name, table_name_at, value_at}
+use Rattle.pfs_conf_filters.specs.declared.phrases.Extras.{Extras}
+use Rattle.pfs_conf_values.specs.declared.filters.Tagged.{Tagged}
 
 -- ---- what may follow
 
@@ -117,6 +119,10 @@ interface_name_reads : {ts : List Tok} {x : List ℕ} {left : List Tok} → Says
 unfolding interface_at
 interface_name_reads s = value_reads why.Plain interface_name s
 
+tag_name_reads : {ts : List Tok} {x : List ℕ} {left : List Tok} → Says tag_name ts x left → tag_name_at ts ≡ Ok (x, left)
+unfolding tag_name_at
+tag_name_reads s = value_reads why.Plain tag_name s
+
 table_name_reads : {ts : List Tok} {x : List ℕ} {left : List Tok} → Says table_name ts x left → table_name_at ts ≡ Ok (x, left)
 unfolding table_name_at
 table_name_reads s = value_reads why.Plain table_name s
@@ -143,6 +149,7 @@ policy_reads (return_icmp6 w) f = let h = word_head w in rw (h.0, h.1) refl
 pub verb_reads : {ts : List Tok} {x : Verb} {left : List Tok} → VerbOf ts x left → no_policy (head left).key ≡ true → verb_at ts ≡ Ok (x, left)
 unfolding verb_at
 verb_reads (pass w) f = let h = word_head w in rw (h.0, h.1) refl
+verb_reads (matching w) f = let h = word_head w in rw (h.0, h.1) refl
 verb_reads (block w p) f = let h = word_head w in rw (h.0, h.1, policy_reads p f) refl
 
 -- ---- direction, log and quick
@@ -203,6 +210,7 @@ log_head Q h (logs w l) f = word_key key.Log Q h w
 marks_head : (Q : Key → Type 0) → Q key.Quick → Q key.Log → {s : Statement} {ts : List Tok} {m : Marks} {left : List Tok} → MarksOf s ts m left → Q (head left).key → Q (head ts).key
 marks_head Q q l (log_first a b) f = log_head Q l a (quick_head Q q b f)
 marks_head Q q l (quick_first w a) f = word_key key.Quick Q q w
+marks_head Q q l (of_match a) f = log_head Q l a f
 marks_head Q q l (of_anchor b) f = quick_head Q q b f
 
 rule_marks_stay : (k : Key) → SaysNo quick_by k → rule_marks_by k ≡ stay (chain log_at (λ l. chain quick_at (λ q. done (marks_of l q))))
@@ -223,6 +231,7 @@ marks_read {left = left} (log_first silent (quick w)) f g h = let v = word_head 
 marks_read (log_first (logs w l) b) f g h =
     rule_marks_read (word_key key.Log (SaysNo quick_by) refl w) (logs w l) b (quick_head (SaysNo log_by) refl b f) (quick_head NoLogList refl b g) h
 marks_read (quick_first w a) f g h = let v = word_head w in rw (v.0, v.1, log_reads a f g) refl
+marks_read (of_match a) f g h = rw (log_reads a f g) refl
 marks_read (of_anchor b) f g h = rw (quick_reads b h) refl
 
 -- ---- interface, family and protocol
@@ -491,3 +500,30 @@ flags_read b = (behind_reads key.Flags begins_flags (value_at why.Plain flag_tes
 -- flags begin with their word
 pub flags_head : (Q : Key → Type 0) → Q key.Flags → {ts : List Tok} {x : FlagTest} {left : List Tok} → FlagsOf ts x left → Q (head ts).key
 flags_head Q h b = word_key key.Flags Q h b.1
+
+-- ---- what a rule has behind its parameters
+
+-- where one part is not given yet, a `!` may begin it
+tagged_missing : (e : Extras) → e.tagged ≡ None → asks_both e ≡ false
+tagged_missing e n = ap (λ (o : Option Tagged). is_some o && is_some e.received_on) n
+
+received_on_missing : (e : Extras) → e.received_on ≡ None → asks_both e ≡ false
+received_on_missing e n = ap (λ (o : Option Interface). is_some e.tagged && is_some o) n ∙ none (is_some e.tagged)
+  where
+    none : (b : Bool) → (b && false) ≡ false
+    none true = refl
+    none false = refl
+
+pub extra_reads : {e d : Extras} {ts left : List Tok} → ExtraOf e ts d left → extra_at e ts ≡ Ok (d, left)
+unfolding extra_at tag_at tagged_at received_on_at
+extra_reads (tag n w s) = let h = word_head w in rw (h.0, n, h.1, tag_name_reads s) refl
+extra_reads (tagged n affirmed w s) = let h = word_head w in rw (h.0, n, h.1, tag_name_reads s) refl
+extra_reads {e = e} (tagged n (negated v) w s) = let g = word_head v in let h = word_head w in rw (g.0, tagged_missing e n, g.1, h.0, n, h.1, tag_name_reads s) refl
+extra_reads (received_on n affirmed w s) = let h = word_head w in rw (h.0, n, h.1, interface_name_reads s) refl
+extra_reads {e = e} (received_on n (negated v) w s) = let g = word_head v in let h = word_head w in rw (g.0, received_on_missing e n, g.1, h.0, n, h.1, interface_name_reads s) refl
+
+-- what each part begins with
+pub extra_head : (Q : Key → Type 0) → Q key.Tag → Q key.Not → Q key.Tagged → Q key.ReceivedOn → {e d : Extras} {ts left : List Tok} → ExtraOf e ts d left → Q (head ts).key
+extra_head Q a b c d (tag n w s) = word_key key.Tag Q a w
+extra_head Q a b c d (tagged n m w s) = negation_head Q b m (word_key key.Tagged Q c w)
+extra_head Q a b c d (received_on n m w s) = negation_head Q b m (word_key key.ReceivedOn Q d w)

@@ -24,9 +24,10 @@ use Rattle.pfs_conf_filters.specs.declared.phrases.Marks.{Marks}
 use Rattle.pfs_conf_filters.specs.declared.phrases.Head.{Head}
 use Rattle.pfs_conf_filters.specs.declared.phrases.Hosts.{Hosts}
 use Rattle.pfs_conf_filters.specs.declared.phrases.Parameters.{Parameters}
+use Rattle.pfs_conf_filters.specs.declared.phrases.Extras.{Extras}
 use Rattle.pfs_addr.specs.Texts.{prefix_of}
 use Rattle.pfs_addr_values.specs.Protocols.{proto_in}
-use Rattle.pfs_conf_filters.specs.Values.{in_plain_word, interface_name, ports_of, flag_test}
+use Rattle.pfs_conf_filters.specs.Values.{in_plain_word, interface_name, tag_name, ports_of, flag_test}
 use Rattle.pfs_conf_tokens.specs.Values.{in_word, table_name}
 
 -- a token that says a value
@@ -50,6 +51,17 @@ pub data PolicyOf : List Tok → Bool → List Tok → Type 0 where
 pub data VerbOf : List Tok → Verb → List Tok → Type 0 where
   pass : {ts left : List Tok} → Word key.Pass ts left → VerbOf ts verb.Pass left
   block : {ts mid left : List Tok} {p : Bool} → Word key.Block ts mid → PolicyOf mid p left → VerbOf ts (verb.Block p) left
+  matching : {ts left : List Tok} → Word key.Match ts left → VerbOf ts verb.Match left
+
+-- what the parameters behind it belong to
+abbrev pub statement_of : Verb → Statement
+statement_of verb.Match = statement.Match
+statement_of _ = statement.Rule
+
+-- a match rule has no state clause
+abbrev pub takes_state : Verb → Bool
+takes_state verb.Match = false
+takes_state _ = true
 
 pub data DirOf : List Tok → Dir → List Tok → Type 0 where
   inward : {ts left : List Tok} → Word key.In ts left → DirOf ts dir.In left
@@ -75,10 +87,11 @@ pub data QuickOf : List Tok → Bool → List Tok → Type 0 where
   slow : {ts : List Tok} → QuickOf ts false ts
   quick : {ts left : List Tok} → Word key.Quick ts left → QuickOf ts true left
 
--- `log` and `quick` of a rule, in either order; an anchor has no `log`
+-- `log` and `quick` of a rule, in either order; a match rule has no `quick`, an anchor no `log`
 pub data MarksOf : Statement → List Tok → Marks → List Tok → Type 0 where
   log_first : {ts mid left : List Tok} {l q : Bool} → LogOf ts l mid → QuickOf mid q left → MarksOf statement.Rule ts (record { log = l; quick = q }) left
   quick_first : {ts mid left : List Tok} → Word key.Quick ts mid → LogOf mid true left → MarksOf statement.Rule ts (record { log = true; quick = true }) left
+  of_match : {ts left : List Tok} {l : Bool} → LogOf ts l left → MarksOf statement.Match ts (record { log = l; quick = false }) left
   of_anchor : {ts left : List Tok} {q : Bool} → QuickOf ts q left → MarksOf statement.Anchor ts (record { log = false; quick = q }) left
 
 pub data NegationOf : List Tok → Bool → List Tok → Type 0 where
@@ -133,3 +146,15 @@ pub record ParametersOf (s : Statement) (ts : List Tok) (p : Parameters) (left :
 -- which TCP flags are asked for
 abbrev pub FlagsOf : List Tok → FlagTest → List Tok → Type 0
 FlagsOf ts x left = Behind key.Flags (Says flag_test) ts x left
+
+-- none of what a rule may have behind its parameters
+abbrev pub no_extras : Extras
+no_extras = record { tag = None; tagged = None; received_on = None }
+
+-- one part of it is added to those that a rule has: one that it has not yet
+pub data ExtraOf : Extras → List Tok → Extras → List Tok → Type 0 where
+  tag : {e : Extras} {ts mid left : List Tok} {n : List ℕ} → e.tag ≡ None → Word key.Tag ts mid → Says tag_name mid n left → ExtraOf e ts (record e { tag = Some n }) left
+  tagged : {e : Extras} {ts word mid left : List Tok} {b : Bool} {n : List ℕ} → e.tagged ≡ None → NegationOf ts b word → Word key.Tagged word mid → Says tag_name mid n left
+      → ExtraOf e ts (record e { tagged = Some (record { name = n; negated = b }) }) left
+  received_on : {e : Extras} {ts word mid left : List Tok} {b : Bool} {n : List ℕ} → e.received_on ≡ None → NegationOf ts b word → Word key.ReceivedOn word mid → Says interface_name mid n left
+      → ExtraOf e ts (record e { received_on = Some (record { name = n; negated = b }) }) left

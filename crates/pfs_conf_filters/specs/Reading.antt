@@ -1,7 +1,7 @@
 -- Reading the parameters from left to right: one definition for each reader of the code, made of the parts of pfs_conf_tokens
 -- alone, so that each looks no further than the token in front of what it leaves. (own)
-use Rattle.std.specs.Prelude.{ℕ, Bool, true, false, List, Option, None}
-use Rattle.pfs_conf_tokens.specs.Reading.{closes_parens, Reader, Act, take, stay, refuse, on_front, done, chain, perhaps, list_all}
+use Rattle.std.specs.Prelude.{ℕ, Bool, true, false, ◌&&◌, List, Option, Some, None, is_some, if◌then◌else◌}
+use Rattle.pfs_conf_tokens.specs.Reading.{closes_parens, Reader, Act, take, stay, refuse, on_front, done, chain, once, perhaps, list_all}
 use Rattle.pfs_conf_tokens.specs.declared.keys.Key.{Key}
 use Rattle.pfs_conf_tokens.specs.declared.keys.Key.TheVariants as key
 use Rattle.pfs_conf_tokens.specs.declared.refusals.Why.TheVariants as why
@@ -11,6 +11,7 @@ use Rattle.pfs_addr_values.specs.declared.protocols.Proto.{Proto}
 use Rattle.pfs_conf_values.specs.declared.filters.Family.{Family}
 use Rattle.pfs_conf_values.specs.declared.filters.Family.TheVariants as family
 use Rattle.pfs_conf_values.specs.declared.filters.Interface.{Interface}
+use Rattle.pfs_conf_values.specs.declared.filters.Tagged.{Tagged}
 use Rattle.pfs_conf_values.specs.declared.filters.Host.{Host}
 use Rattle.pfs_conf_values.specs.declared.filters.Host.TheVariants as host
 use Rattle.pfs_conf_values.specs.declared.filters.Ports.{Ports}
@@ -24,9 +25,10 @@ use Rattle.pfs_conf_filters.specs.declared.phrases.Marks.{Marks}
 use Rattle.pfs_conf_filters.specs.declared.phrases.Head.{Head}
 use Rattle.pfs_conf_filters.specs.declared.phrases.Hosts.{Hosts}
 use Rattle.pfs_conf_filters.specs.declared.phrases.Parameters.{Parameters}
+use Rattle.pfs_conf_filters.specs.declared.phrases.Extras.{Extras}
 use Rattle.pfs_addr.specs.Texts.{prefix_of}
 use Rattle.pfs_addr_values.specs.Protocols.{proto_in}
-use Rattle.pfs_conf_filters.specs.Values.{in_plain_word, interface_name, ports_of, flag_test}
+use Rattle.pfs_conf_filters.specs.Values.{in_plain_word, interface_name, tag_name, ports_of, flag_test}
 use Rattle.pfs_conf_tokens.specs.Values.{in_word, table_name_at, value_at}
 
 -- a part that one word begins, and what follows the word
@@ -82,6 +84,9 @@ begins_flags _ = false
 unfoldable pub interface_at : Reader (List ℕ)
 interface_at ts = value_at why.Plain interface_name ts
 
+unfoldable pub tag_name_at : Reader (List ℕ)
+tag_name_at ts = value_at why.Plain tag_name ts
+
 -- ---- the action
 
 -- a word that says how a packet is blocked
@@ -99,6 +104,7 @@ policy_at ts = on_front (λ t. policy_by t.key) ts
 abbrev pub verb_by : Key → Act Verb
 verb_by key.Pass = take (done verb.Pass)
 verb_by key.Block = take (chain policy_at (λ p. done (verb.Block p)))
+verb_by key.Match = take (done verb.Match)
 verb_by _ = refuse why.Statement
 
 unfoldable pub verb_at : Reader Verb
@@ -150,13 +156,14 @@ quick_at ts = on_front (λ t. quick_by t.key) ts
 abbrev pub marks_of : Bool → Bool → Marks
 marks_of l q = record { log = l; quick = q }
 
--- of a rule, `log` and `quick` in either order; an anchor logs nothing
+-- of a rule, `log` and `quick` in either order; a match rule is not quick; an anchor logs nothing
 abbrev pub rule_marks_by : Key → Act Marks
 rule_marks_by key.Quick = take (chain log_at (λ l. done (marks_of l true)))
 rule_marks_by _ = stay (chain log_at (λ l. chain quick_at (λ q. done (marks_of l q))))
 
 abbrev pub marks_by : Statement → Key → Act Marks
 marks_by statement.Rule k = rule_marks_by k
+marks_by statement.Match k = stay (chain log_at (λ l. done (marks_of l false)))
 marks_by statement.Anchor k = stay (chain quick_at (λ q. done (marks_of false q)))
 
 unfoldable pub marks_at : Statement → Reader Marks
@@ -277,3 +284,36 @@ parameters_at s ts = chain (head_at s) (λ h. chain hosts_at (λ o. done (record
 
 unfoldable pub flags_at : Reader FlagTest
 flags_at ts = clause begins_flags (value_at why.Plain flag_test) ts
+
+-- ---- what a rule has behind its parameters
+
+abbrev pub tag_test : List ℕ → Bool → Tagged
+tag_test n b = record { name = n; negated = b }
+
+unfoldable pub tag_at : Extras → Reader Extras
+tag_at e ts = chain tag_name_at (λ n. done (record e { tag = Some n })) ts
+
+unfoldable pub tagged_at : Extras → Bool → Reader Extras
+tagged_at e b ts = chain tag_name_at (λ n. done (record e { tagged = Some (tag_test n b) })) ts
+
+unfoldable pub received_on_at : Extras → Bool → Reader Extras
+received_on_at e b ts = chain interface_at (λ n. done (record e { received_on = Some (interface n b) })) ts
+
+-- what is asked of how a packet came, after its `!` if it has one
+abbrev pub asked_by : Extras → Bool → Key → Act Extras
+asked_by e b key.Tagged = once e.tagged (take (tagged_at e b))
+asked_by e b key.ReceivedOn = once e.received_on (take (received_on_at e b))
+asked_by e b _ = refuse why.Plain
+
+-- both parts are given that a `!` may begin
+abbrev pub asks_both : Extras → Bool
+asks_both e = is_some e.tagged && is_some e.received_on
+
+-- a `!` is repeated where both are
+abbrev pub extra_by : Extras → Key → Act Extras
+extra_by e key.Tag = once e.tag (take (tag_at e))
+extra_by e key.Not = if asks_both e then refuse why.Again else take (on_front (λ t. asked_by e true t.key))
+extra_by e k = asked_by e false k
+
+unfoldable pub extra_at : Extras → Reader Extras
+extra_at e ts = on_front (λ t. extra_by e t.key) ts

@@ -26,6 +26,7 @@ repeats p _ = false
 abbrev pub sends_policy : Verb → Bool
 sends_policy verb.Pass = false
 sends_policy (verb.Block p) = p
+sends_policy verb.Match = false
 
 -- whether a word says once more how a packet is blocked
 abbrev pub repeats_policy : Verb → Key → Bool

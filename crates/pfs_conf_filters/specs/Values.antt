@@ -4,6 +4,7 @@ use Rattle.pfs_conf_tokens.specs.Tokens.{Tok}
 use Rattle.pfs_conf_tokens.specs.Keys.{is_word_key}
 use Rattle.pfs_conf_tokens.specs.Words.{key_of_text}
 use Rattle.pfs_conf_tokens.specs.Numbers.{number_written, split_around}
+use Rattle.pfs_conf_tokens.specs.Values.{in_word}
 use Rattle.pfs_conf_tokens.specs.declared.keys.Key.{Key}
 use Rattle.pfs_conf_tokens.specs.declared.keys.Key.TheVariants as key
 use Rattle.pfs_addr_values.specs.Names.{name_of}
@@ -31,6 +32,10 @@ may_name_interface k = is_word_key k
 -- the name of an interface, of 1 to 15 bytes
 abbrev pub interface_name : Tok → Option (List ℕ)
 interface_name t = if may_name_interface t.key then name_of 15 t.text else None
+
+-- the name of a tag, of 1 to 63 bytes
+abbrev pub tag_name : Tok → Option (List ℕ)
+tag_name t = in_word (name_of 63) t
 
 -- ports are at most 65535
 abbrev pub port_numbered : Option ℕ → Option ℕ

@@ -12,8 +12,8 @@ use pfs_addr_values::Dir;
 use pfs_conf_tokens::{Cursor, Key, Refusal, Why};
 use pfs_conf_values::{Family, Interface};
 
-/// Reads what a rule begins with: `pass`, or `block` with at most one of `drop`, `return`, `return-rst`, `return-icmp`
-/// and `return-icmp6`, which has no effect. (pf.conf(5), PACKET FILTERING)
+/// Reads what a rule begins with: `pass`, `match`, or `block` with at most one of `drop`, `return`, `return-rst`,
+/// `return-icmp` and `return-icmp6`, which has no effect. (pf.conf(5), PACKET FILTERING)
 ///
 /// At any other token the cursor stays, and reading stops. It takes no memory.
 #[tactic(auto, unfolding(crate::specs::Reading::verb_at))]
@@ -29,6 +29,10 @@ pub fn read_verb(cursor: &mut Cursor) -> Result<Verb, Refusal>
             cursor.advance();
             let has_policy = policy(cursor)?;
             Ok(Verb::Block { has_policy })
+        }
+        Key::Match => {
+            cursor.advance();
+            Ok(Verb::Match)
         }
         _ => Err(Refusal::Stop(Why::Statement)),
     }
@@ -83,13 +87,17 @@ fn dir(cursor: &mut Cursor) -> Result<Option<Dir>, Refusal>
     }
 }
 
-/// `log` and `quick`: of a rule in either order, of an anchor `quick` alone.
+/// `log` and `quick`: of a rule in either order, of a `match` rule `log` alone, of an anchor `quick` alone.
 #[tactic(auto, unfolding(crate::specs::Reading::marks_at))]
 fn marks(cursor: &mut Cursor, statement: Statement) -> Result<Marks, Refusal>
     ensures { Gives result cursor.new (marks_at statement cursor.old) }
 {
     match statement {
         Statement::Rule => rule_marks(cursor),
+        Statement::Match => {
+            let log = log(cursor)?;
+            Ok(Marks { log, quick: false })
+        }
         Statement::Anchor => {
             let quick = quick(cursor)?;
             Ok(Marks { log: false, quick })

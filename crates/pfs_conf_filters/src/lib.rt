@@ -2,6 +2,7 @@
 #![tactic(auto)]
 
 mod endpoints;
+mod extras;
 mod flag_words;
 mod heads;
 mod phrases;
@@ -10,6 +11,7 @@ mod services;
 mod words;
 
 pub use endpoints::read_parameters;
+pub use extras::read_extra;
 pub use flag_words::read_flags;
 pub use heads::read_verb;
-pub use phrases::{Head, Hosts, Marks, Parameters, Statement, Verb};
+pub use phrases::{Extras, Head, Hosts, Marks, Parameters, Statement, Verb};

@@ -1,7 +1,7 @@
 //! What is read of a statement, as it is written: tables by their names, and each part with whether it is given.
 
 use pfs_addr_values::{Dir, Proto};
-use pfs_conf_values::{Family, Interface, Side, TableName};
+use pfs_conf_values::{Family, Interface, Side, TableName, TagName, Tagged};
 
 /// What a rule begins with. (pf.conf(5), PACKET FILTERING)
 #[derive(Debug, Clone, Copy, PartialEq, Eq)]
@@ -13,13 +13,17 @@ pub enum Verb {
         /// Whether `drop`, `return`, `return-rst`, `return-icmp` or `return-icmp6` follows.
         has_policy: bool,
     },
+    /// `match`
+    Match,
 }
 
 /// What the parameters belong to.
 #[derive(Debug, Clone, Copy, PartialEq, Eq)]
 pub enum Statement {
-    /// A rule.
+    /// A `pass` or `block` rule.
     Rule,
+    /// A `match` rule, which has no `quick`.
+    Match,
     /// The head of an anchor, which has no `log`.
     Anchor,
 }
@@ -66,4 +70,16 @@ pub struct Parameters {
     pub head: Head,
     /// The hosts.
     pub hosts: Hosts,
+}
+
+/// What a rule has behind its parameters, in any order, beside `flags` and its state. An anchor has none of it.
+/// (pf.conf(5), PARAMETERS)
+#[derive(Debug, Clone, Copy, PartialEq, Eq)]
+pub struct Extras {
+    /// `tag NAME`
+    pub tag: Option<TagName>,
+    /// `tagged NAME` or `! tagged NAME`
+    pub tagged: Option<Tagged>,
+    /// `received-on IF` or `! received-on IF`
+    pub received_on: Option<Interface>,
 }

@@ -2,9 +2,10 @@
 
 ghost use Rattle.std.specs.Prelude.{◌≡◌};
 ghost use Rattle.pfs_conf_filters.specs.Sides.{source_of, destination_of, gives_ports, lacks_proto};
+ghost use Rattle.pfs_conf_filters.specs.Grammar.{statement_of, takes_state};
 ghost use Rattle.pfs_conf_filters.specs.Repeats.{repeats, repeats_policy};
 
-use crate::phrases::{Hosts, Parameters, Verb};
+use crate::phrases::{Hosts, Parameters, Statement, Verb};
 use pfs_conf_tokens::Key;
 use pfs_conf_values::{Host, Side, TableName};
 
@@ -71,6 +72,26 @@ impl Parameters {
 }
 
 impl Verb {
+    /// What the parameters that follow belong to.
+    pub fn statement(self) -> Statement
+        ensures { result ≡ statement_of self }
+    {
+        match self {
+            Verb::Pass | Verb::Block { .. } => Statement::Rule,
+            Verb::Match => Statement::Match,
+        }
+    }
+
+    /// Whether a state clause may follow: a `match` rule has none.
+    pub fn takes_state(self) -> bool
+        ensures { result ≡ takes_state self }
+    {
+        match self {
+            Verb::Pass | Verb::Block { .. } => true,
+            Verb::Match => false,
+        }
+    }
+
     /// Whether this word says once more how packets are blocked: `drop` or one of `return`, `return-rst`, `return-icmp`
     /// and `return-icmp6` where one of them is given already. (own to this profile)
     pub fn has(self, key: Key) -> bool

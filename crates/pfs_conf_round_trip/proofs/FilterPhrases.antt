@@ -26,7 +26,7 @@ use Rattle.pfs_addr_values.specs.declared.packets.Dir.TheVariants as dir
 use Rattle.pfs_addr_values.specs.declared.protocols.Proto.{Proto}
 use Rattle.pfs_addr_values.specs.declared.protocols.Proto.TheVariants as proto
 use Rattle.pfs_conf_values.specs.Invariants.{IsTable}
-use Rattle.pfs_conf_values.specs.LoadRules.{ArePorts, IsFilter, IsFlagTest, IsHost, IsInterface, IsProto, IsSide, IsTableNo, has_a_flag}
+use Rattle.pfs_conf_values.specs.LoadRules.{ArePorts, IsFilter, IsFlagTest, IsHost, IsInterface, IsProto, IsSide, IsTableNo, has_a_flag, IsTag}
 use Rattle.pfs_conf_values.specs.declared.filters.Family.{Family}
 use Rattle.pfs_conf_values.specs.declared.filters.Family.TheVariants as family
 use Rattle.pfs_conf_values.specs.declared.filters.Filter.{Filter}
@@ -39,9 +39,9 @@ use Rattle.pfs_conf_values.specs.declared.filters.Ports.{Ports}
 use Rattle.pfs_conf_values.specs.declared.filters.Side.{Side}
 use Rattle.pfs_conf_values.specs.declared.filters.TableNo.{TableNo}
 use Rattle.pfs_conf_values.specs.declared.tables.TableDef.{TableDef}
-use Rattle.pfs_conf_filters.specs.Grammar.{Behind, DirOf, FamilyOf, FlagsOf, HostOf, HostsOf, MarksOf, OnOf, ParametersOf, PortsOf, QuickOf, Says, SideOf, inward, outward, slow, quick, silent, log_first, of_anchor, affirmed, negated, on, inet, inet6, any, prefix, table, plainly, hosted, every, sides}
+use Rattle.pfs_conf_filters.specs.Grammar.{Behind, DirOf, FamilyOf, FlagsOf, HostOf, HostsOf, MarksOf, OnOf, ParametersOf, PortsOf, QuickOf, Says, SideOf, inward, outward, slow, quick, silent, log_first, of_anchor, affirmed, negated, on, inet, inet6, any, prefix, table, plainly, hosted, every, sides, of_match}
 use Rattle.pfs_conf_filters.specs.Reading.{all_hosts, given_hosts, interface, marks_of}
-use Rattle.pfs_conf_filters.specs.Values.{is_plain_word, exactly, flag_test, flag_test_by, flag_test_of, flags_around, in_plain_word, interface_name, may_name_interface, ports_of}
+use Rattle.pfs_conf_filters.specs.Values.{is_plain_word, exactly, flag_test, flag_test_by, flag_test_of, flags_around, in_plain_word, interface_name, may_name_interface, ports_of, tag_name}
 use Rattle.pfs_conf_tokens.specs.Values.{in_word, table_name}
 use Rattle.pfs_conf_filters.specs.declared.phrases.Statement.{Statement}
 use Rattle.pfs_conf_filters.specs.declared.phrases.Statement.TheVariants as statement
@@ -55,6 +55,7 @@ use Rattle.pfs_conf_round_trip.proofs.Numbers.{ports_again, ports_word}
 use Rattle.pfs_conf_round_trip.proofs.PrefixWords.{prefix_again, prefix_plain, prefix_word}
 use Rattle.pfs_addr.proofs.ProtocolLaws.{no_word, proto_again, proto_known}
 use Rattle.pfs_conf_round_trip.proofs.Pieces.{all_append, at, mark, text_append, word, word_between}
+use Rattle.pfs_conf.specs.Within.{MayBeQuick}
 
 -- a word that says a value
 says : {A : Type 0} (value : Tok → Option A) (line : ℕ) (w more : List ℕ) (x : A) → is_word_text w ≡ true → breaks more ≡ true → value (token line (key_of_text w) w) ≡ Some x
@@ -72,11 +73,13 @@ pub quick_reads : (q : Bool) (line : ℕ) (more : List ℕ) → breaks more ≡ 
 quick_reads false line more b = slow
 quick_reads true line more b = quick (word line (codes "quick") more refl b key_of_Quick)
 
-pub marks_read : (s : Statement) (q : Bool) (line : ℕ) (more : List ℕ) → breaks more ≡ true → MarksOf s (at line (quick_text q ++ more)) (marks_of false q) (at line more)
-marks_read statement.Rule q line more b = log_first silent (quick_reads q line more b)
-marks_read statement.Anchor q line more b = of_anchor (quick_reads q line more b)
+pub marks_read : (s : Statement) (q : Bool) (line : ℕ) (more : List ℕ) → MayBeQuick s q → breaks more ≡ true → MarksOf s (at line (quick_text q ++ more)) (marks_of false q) (at line more)
+marks_read statement.Rule q line more m b = log_first silent (quick_reads q line more b)
+marks_read statement.Match false line more m b = of_match silent
+marks_read statement.Match true line more m b = absurd (cc m)
+marks_read statement.Anchor q line more m b = of_anchor (quick_reads q line more b)
 
-interface_says : (n : List ℕ) (line : ℕ) (more : List ℕ) → is_name 15 n ≡ true → bytes_eq n (codes "any") ≡ false → bytes_eq n (codes "rdomain") ≡ false → breaks more ≡ true
+pub interface_says : (n : List ℕ) (line : ℕ) (more : List ℕ) → is_name 15 n ≡ true → bytes_eq n (codes "any") ≡ false → bytes_eq n (codes "rdomain") ≡ false → breaks more ≡ true
     → Says interface_name (at line (n ++ more)) n (at line more)
 interface_says n line more h a r b =
     says interface_name line n more n (name_text 15 n h) b
@@ -101,7 +104,7 @@ family_reads None line more b = absent
 family_reads (Some family.Inet) line more b = present (inet (word line (codes "inet") more refl b key_of_Inet))
 family_reads (Some family.Inet6) line more b = present (inet6 (word line (codes "inet6") more refl b key_of_Inet6))
 
-word_says : {A : Type 0} (value : List ℕ → Option A) (line : ℕ) (w more : List ℕ) (x : A) → is_word_text w ≡ true → breaks more ≡ true → value w ≡ Some x
+pub word_says : {A : Type 0} (value : List ℕ → Option A) (line : ℕ) (w more : List ℕ) (x : A) → is_word_text w ≡ true → breaks more ≡ true → value w ≡ Some x
     → Says (in_word value) (at line (w ++ more)) x (at line more)
 word_says value line w more x h b e = says (in_word value) line w more x h b (cond-true (is_word_key (key_of_text w)) (value w) None (key_of_word w) ∙ e)
 
@@ -114,6 +117,9 @@ proto_reads None line more h b = absent
 proto_reads (Some proto.Tcp) line more h b = present (proto_behind (Says (in_word proto_in)) proto.Tcp line (codes "tcp") more (word_says proto_in line (codes "tcp") more proto.Tcp refl b proto_known.0))
 proto_reads (Some proto.Udp) line more h b = present (proto_behind (Says (in_word proto_in)) proto.Udp line (codes "udp") more (word_says proto_in line (codes "udp") more proto.Udp refl b proto_known.1))
 proto_reads (Some (proto.Other n)) line more h b = present (proto_behind (Says (in_word proto_in)) (proto.Other n) line (decimal n) more (word_says proto_in line (decimal n) more (proto.Other n) (decimal_text n (omega (arith, h.0))) b (proto_again n h.0 h.1 h.2)))
+
+pub tag_says : (line : ℕ) (n more : List ℕ) → IsTag n → breaks more ≡ true → Says tag_name (at line (n ++ more)) n (at line more)
+tag_says line n more h b = word_says (name_of 63) line n more n (name_text 63 n h) b (name_again 63 n h)
 
 -- ---- hosts
 
@@ -295,10 +301,10 @@ head_break tables q f more =
     dir_break f.dir _ (quick_break q _ (on_break f.on _ (family_break f.family _ (proto_break f.proto _ (hosts_break tables f.from f.to more)))))
 
 -- the parameters before `flags`
-pub head_reads : (s : Statement) (tables : List TableDef) (q : Bool) (f : Filter) (line : ℕ) (more : List ℕ) → All IsTable tables → IsFilter (length tables) f → breaks more ≡ true
+pub head_reads : (s : Statement) (tables : List TableDef) (q : Bool) (f : Filter) (line : ℕ) (more : List ℕ) → All IsTable tables → IsFilter (length tables) f → MayBeQuick s q → breaks more ≡ true
     → ParametersOf s (at line (dir_text f.dir ++ (quick_text q ++ (on_text f.on ++ (family_text f.family ++ (proto_text f.proto ++ (hosts_text tables f.from f.to ++ more)))))))
     (parameters_said tables q f) (at line more)
-head_reads s tables q f line more t h b =
+head_reads s tables q f line more t h m b =
     let after_hosts = more in
     let after_proto = hosts_text tables f.from f.to ++ after_hosts in
     let after_family = proto_text f.proto ++ after_proto in
@@ -318,7 +324,7 @@ head_reads s tables q f line more t h b =
         c = at line after_on;
         d = at line after_family;
         dir = dir_reads f.dir line after_dir b_dir;
-        marks = marks_read s q line after_quick b_quick;
+        marks = marks_read s q line after_quick m b_quick;
         on = on_reads f.on line after_on h.on b_on;
         family = family_reads f.family line after_family b_family;
         proto = proto_reads f.proto line after_proto h.proto b_proto;

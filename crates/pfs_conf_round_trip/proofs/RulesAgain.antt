@@ -167,11 +167,13 @@ options_again tables d k o h =
 
 action_again : (tables : List TableDef) (d : Drafted) → AreAll tables d → (a : Action) → IsAction (length tables) a
     → action_of (verb_said a) (state_said tables a) (number_overload (state_options (state_said tables a)).overload d) ≡ a
+action_again tables d k action.Match h = refl
 action_again tables d k action.Block h = refl
 action_again tables d k action.Pass h = refl
 action_again tables d k (action.Keep o) h = ap (λ (x : StateOptions). action.Keep x) (options_again tables d k o h)
 
 action_name : (tables : List TableDef) (d : Drafted) → AreAll tables d → (a : Action) → IsAction (length tables) a → name_overload (state_options (state_said tables a)).overload d ≡ d
+action_name tables d k action.Match h = refl
 action_name tables d k action.Block h = refl
 action_name tables d k action.Pass h = refl
 action_name tables d k (action.Keep o) h = overload_name tables d k o.overload h.overload
@@ -191,7 +193,7 @@ rule_again profile syncookies routes limits timeouts tables items r distinct h =
     ap (λ (x : Filter). ruled x (rule_action (rule_phrase tables r) d)) f ∙ ap (ruled r.filter) a
   where
     ruled : Filter → Action → Rule
-    ruled f a = record { quick = r.quick; filter = f; action = a }
+    ruled f a = record { quick = r.quick; filter = f; came = r.came; tag = r.tag; action = a }
 
 -- and names no other table
 pub rule_name : (profile : Profile) (syncookies : Syncookies) (routes : List Route) (limits : Limits) (timeouts : List (Option ℕ)) (tables : List TableDef) (items : List Item) (r : Rule) → AreNumbered tables
@@ -234,6 +236,7 @@ record AreKept (tables : List TableDef) (a : Action) : Type 0 where
   pair : has_broken_rule_pair (state_options (state_said tables a)) ≡ false
 
 are_kept : (tables : List TableDef) (a : Action) → IsAction (length tables) a → AreKept tables a
+are_kept tables action.Match h = record { state = refl; overload = refl; connections = refl; retention = refl; pair = refl }
 are_kept tables action.Block h = record { state = refl; overload = refl; connections = refl; retention = refl; pair = refl }
 are_kept tables action.Pass h = record { state = refl; overload = refl; connections = refl; retention = refl; pair = refl }
 are_kept tables (action.Keep o) h = record {

@@ -81,6 +81,7 @@ options_said tables o = record {
 
 -- the state clause of a rule, if one is written
 abbrev pub state_said : List TableDef → Action → Option StateClause
+state_said tables action.Match = None
 state_said tables action.Block = None
 state_said tables action.Pass = Some clause.No
 state_said tables (action.Keep o) = Some (clause.Keep (options_said tables o))

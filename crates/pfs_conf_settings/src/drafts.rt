@@ -3,7 +3,7 @@
 ghost use Rattle.std.specs.Prelude.{◌≡◌, ◌<◌, ◌≤◌, ◌+◌, ◌++◌, [], ◌∷◌, IfOk, IfSome, None, OnErr, OnOk, false, true, length, position};
 ghost use Rattle.std.specs.Option.{option_map};
 ghost use Rattle.pfs_addr_values.specs.Names.{is_name};
-ghost use Rattle.pfs_conf_values.specs.Configs.{has_synproxy, is_const_table, needs_profile, overloads_const};
+ghost use Rattle.pfs_conf_values.specs.Configs.{has_synproxy, is_const_table, marks_in, needs_profile, overloads_const, rule_in};
 ghost use Rattle.pfs_conf_values.specs.Order.{depth_after, next_depth, repeats_by, repeats_name};
 ghost use Rattle.pfs_conf_settings.specs.Drafts.{broken_pair, const_overload, empty_draft, conf_of_draft, has_broken_pair, has_other_prefix, has_too_many_entries, has_too_many_tables, has_unprofiled_cookies, has_unprofiled_routes, is_defined, number_of_table, routes_with, unprofiled, with_item, with_limit, with_name, with_profile, with_route, with_syncookies, with_table, with_timeout};
 ghost use Rattle.pfs_conf_values.specs.LoadRules.{IsAnchor, IsCount, IsItem, IsRule, IsTimeout};
@@ -244,7 +244,8 @@ impl Draft {
         }
     }
 
-    /// The first rule that needs the profile of OpenBSD 7.4, in a text without it, if there is one: a rule with `synproxy state`.
+    /// The first rule that needs the profile of OpenBSD 7.4, in a text without it, if there is one: a `match` rule, or one with
+    /// `synproxy state`, `tag`, `tagged` or `received-on`.
     /// (own to this profile)
     pub fn unprofiled(&self) -> Option<RuleNo>
         ensures { option_map (λ n. n.0) result ≡ unprofiled self.now }
@@ -395,7 +396,7 @@ fn needs_profile(profile: Profile, item: &Item) -> bool
     ensures { result ≡ needs_profile profile item.now }
 {
     match profile {
-        Profile::Own => has_synproxy(item),
+        Profile::Own => has_synproxy(item) || marks(item),
         Profile::OpenBsd74 => false,
     }
 }
@@ -408,8 +409,21 @@ fn has_synproxy(item: &Item) -> bool
     };
     match &rule.action {
         Action::Keep(options) => options.synproxy,
-        Action::Block | Action::Pass => false,
+        Action::Match | Action::Block | Action::Pass => false,
     }
+}
+
+/// Whether an item is a `match` rule, or one that gives or asks for a tag, or asks for the interface by which a packet came.
+fn marks(item: &Item) -> bool
+    ensures { result ≡ marks_in (rule_in item.now.what) }
+{
+    let ItemKind::Rule(rule) = &item.what else {
+        return false;
+    };
+    matches!(rule.action, Action::Match)
+        || rule.tag.is_some()
+        || rule.came.tagged.is_some()
+        || rule.came.received_on.is_some()
 }
 
 fn is_broken_pair(start: Option<u32>, end: Option<u32>) -> bool

@@ -5,6 +5,7 @@ use Rattle.pfs_addr_values.specs.declared.packets.Dir.{Dir}
 use Rattle.pfs_addr_values.specs.declared.packets.Dir.TheVariants as dir
 use Rattle.pfs_addr_values.specs.declared.protocols.Proto.{Proto}
 use Rattle.pfs_addr_values.specs.declared.protocols.Proto.TheVariants as proto
+use Rattle.pfs_conf_values.specs.declared.filters.Came.{Came}
 use Rattle.pfs_conf_values.specs.declared.filters.Family.{Family}
 use Rattle.pfs_conf_values.specs.declared.filters.Family.TheVariants as family
 use Rattle.pfs_conf_values.specs.declared.filters.Filter.{Filter}
@@ -16,6 +17,7 @@ use Rattle.pfs_conf_values.specs.declared.filters.Interface.{Interface}
 use Rattle.pfs_conf_values.specs.declared.filters.Ports.{Ports}
 use Rattle.pfs_conf_values.specs.declared.filters.Side.{Side}
 use Rattle.pfs_conf_values.specs.declared.filters.TableNo.{TableNo}
+use Rattle.pfs_conf_values.specs.declared.filters.Tagged.{Tagged}
 use Rattle.pfs_conf_values.specs.declared.tables.TableDef.{TableDef}
 use Rattle.pfs_conf_show.specs.Pieces.{not_text, prefix_text}
 use Rattle.pfs_conf_show.specs.Tables.{table_ref}
@@ -96,3 +98,27 @@ abbrev pub parameters_text : List TableDef → Bool → Filter → List ℕ
 parameters_text tables quick f =
     dir_text f.dir ++ (quick_text quick ++ (on_text f.on ++ (family_text f.family ++ (proto_text f.proto
     ++ (hosts_text tables f.from f.to ++ flags_text f.flags)))))
+
+-- ---- what a rule has behind its parameters
+
+abbrev pub tag_text : Option (List ℕ) → List ℕ
+tag_text None = []
+tag_text (Some name) = codes " tag " ++ name
+
+-- a word and a name that is asked for, with `!` directly before the word where it must not be
+abbrev pub asked_text : Bool → List ℕ → List ℕ → List ℕ
+asked_text negated word name = codes " " ++ (not_text negated ++ (word ++ name))
+
+-- `tagged NAME`, or `!tagged NAME`
+abbrev pub tagged_text : Option Tagged → List ℕ
+tagged_text None = []
+tagged_text (Some t) = asked_text t.negated (codes "tagged ") t.name
+
+-- `received-on IF`, or `!received-on IF`
+abbrev pub received_on_text : Option Interface → List ℕ
+received_on_text None = []
+received_on_text (Some i) = asked_text i.negated (codes "received-on ") i.name
+
+-- all of it, in this order
+abbrev pub extras_text : Option (List ℕ) → Came → List ℕ
+extras_text tag came = tag_text tag ++ (tagged_text came.tagged ++ received_on_text came.received_on)

@@ -64,8 +64,9 @@ abbrev pub kept_text : Bool → List ℕ
 kept_text false = codes " keep state"
 kept_text true = codes " synproxy state"
 
--- the state clause of a pass rule
+-- the state clause of a pass rule; no other has one
 abbrev pub state_text : List TableDef → Action → List ℕ
+state_text tables action.Match = []
 state_text tables action.Block = []
 state_text tables action.Pass = codes " no state"
 state_text tables (action.Keep o) = kept_text o.synproxy ++ options_text tables o

@@ -4,6 +4,7 @@ ghost use Rattle.std.specs.Prelude.{◌≡◌, ◌≤◌, ◌-◌, ◌++◌, IfO
 ghost use Rattle.pfs_conf_values.specs.Order.{next_depth};
 ghost use Rattle.pfs_conf_show.specs.Texts.{anchor_text, braces_text, items_text, name_text, rule_text, text_of, verb_text, what_text};
 
+use crate::extras::push_extras;
 use crate::filters::push_parameters;
 use crate::options::push_state;
 use crate::settings::{push_limits, push_profile, push_routes, push_syncookies, push_timeouts};
@@ -85,6 +86,7 @@ fn push_rule(out: &mut Vec<u8>, config: &Config, rule: &Rule) -> Result<(), NoMe
 {
     push_verb(out, &rule.action)?;
     push_parameters(out, config, rule.quick, &rule.filter)?;
+    push_extras(out, rule.tag, rule.came)?;
     push_state(out, config, &rule.action)?;
     out.extend_from_slice(b"\n")?;
     Ok(())
@@ -94,6 +96,7 @@ fn push_verb(out: &mut Vec<u8>, action: &Action) -> Result<(), NoMemory>
     ensures { OnOk result (out.new.items ≡ out.old.items ++ verb_text action.now) }
 {
     match action {
+        Action::Match => out.extend_from_slice(b"match")?,
         Action::Block => out.extend_from_slice(b"block")?,
         Action::Pass | Action::Keep(_) => out.extend_from_slice(b"pass")?,
     }

@@ -1,6 +1,7 @@
 //! The canonical text of a configuration: one text for each, that reads as the same configuration again.
 #![tactic(auto)]
 
+mod extras;
 mod filters;
 mod items;
 mod options;

@@ -17,7 +17,7 @@ pub fn push_state(out: &mut Vec<u8>, config: &Config, action: &Action) -> Result
     ensures { OnOk result (out.new.items ≡ out.old.items ++ state_text config.now.tables action.now) }
 {
     match action {
-        Action::Block => Ok(()),
+        Action::Match | Action::Block => Ok(()),
         Action::Pass => {
             out.extend_from_slice(b" no state")?;
             Ok(())

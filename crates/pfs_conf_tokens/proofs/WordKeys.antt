@@ -75,6 +75,22 @@ pub key_of_Route : key_of_text (codes "route") ≡ key.Route
 unfolding key_of_text
 key_of_Route = refl
 
+pub key_of_Match : key_of_text (codes "match") ≡ key.Match
+unfolding key_of_text
+key_of_Match = refl
+
+pub key_of_Tag : key_of_text (codes "tag") ≡ key.Tag
+unfolding key_of_text
+key_of_Tag = refl
+
+pub key_of_Tagged : key_of_text (codes "tagged") ≡ key.Tagged
+unfolding key_of_text
+key_of_Tagged = refl
+
+pub key_of_ReceivedOn : key_of_text (codes "received-on") ≡ key.ReceivedOn
+unfolding key_of_text
+key_of_ReceivedOn = refl
+
 pub key_of_Table : key_of_text (codes "table") ≡ key.Table
 unfolding key_of_text
 key_of_Table = refl

@@ -27,6 +27,10 @@ is_unsupported_key key.Set = true
 is_unsupported_key key.User = true
 is_unsupported_key key.Any = true
 is_unsupported_key key.Rdomain = true
+is_unsupported_key key.Match = true
+is_unsupported_key key.Tag = true
+is_unsupported_key key.Tagged = true
+is_unsupported_key key.ReceivedOn = true
 is_unsupported_key _ = false
 
 -- the place of a timeout's name among the sixteen that are kept

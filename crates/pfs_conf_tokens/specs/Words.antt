@@ -22,7 +22,8 @@ statement_words =
     ∷ (codes "user", key.User) ∷ (codes "profile", key.Profile) ∷ (codes "openbsd-7.4", key.OpenBsd74)
     ∷ (codes "syncookies", key.Syncookies) ∷ (codes "never", key.Never) ∷ (codes "always", key.Always)
     ∷ (codes "adaptive", key.Adaptive) ∷ (codes "start", key.Start) ∷ (codes "end", key.EndWord)
-    ∷ (codes "route", key.Route) ∷ []
+    ∷ (codes "route", key.Route) ∷ (codes "match", key.Match) ∷ (codes "tag", key.Tag) ∷ (codes "tagged", key.Tagged)
+    ∷ (codes "received-on", key.ReceivedOn) ∷ []
 
 -- words of the state clause, and the names of timeouts
 abbrev pub option_words : List (List ℕ × Key)
@@ -54,19 +55,17 @@ named_words =
 -- words that only pf has
 abbrev pub foreign_words : List (List ℕ × Key)
 foreign_words =
-    (codes "match", key.Foreign) ∷ (codes "antispoof", key.Foreign) ∷ (codes "queue", key.Foreign)
-    ∷ (codes "include", key.Foreign) ∷ (codes "load", key.Foreign) ∷ (codes "group", key.Foreign)
-    ∷ (codes "icmp-type", key.Foreign) ∷ (codes "icmp6-type", key.Foreign) ∷ (codes "tos", key.Foreign)
-    ∷ (codes "prio", key.Foreign) ∷ (codes "tag", key.Foreign) ∷ (codes "tagged", key.Foreign)
+    (codes "antispoof", key.Foreign) ∷ (codes "queue", key.Foreign) ∷ (codes "include", key.Foreign)
+    ∷ (codes "load", key.Foreign) ∷ (codes "group", key.Foreign) ∷ (codes "icmp-type", key.Foreign)
+    ∷ (codes "icmp6-type", key.Foreign) ∷ (codes "tos", key.Foreign) ∷ (codes "prio", key.Foreign)
     ∷ (codes "label", key.Foreign) ∷ (codes "allow-opts", key.Foreign) ∷ (codes "once", key.Foreign)
     ∷ (codes "probability", key.Foreign) ∷ (codes "rtable", key.Foreign) ∷ (codes "divert-to", key.Foreign)
     ∷ (codes "divert-reply", key.Foreign) ∷ (codes "divert-packet", key.Foreign) ∷ (codes "nat-to", key.Foreign)
     ∷ (codes "rdr-to", key.Foreign) ∷ (codes "binat-to", key.Foreign) ∷ (codes "af-to", key.Foreign)
     ∷ (codes "route-to", key.Foreign) ∷ (codes "reply-to", key.Foreign) ∷ (codes "dup-to", key.Foreign)
-    ∷ (codes "scrub", key.Foreign) ∷ (codes "received-on", key.Foreign) ∷ (codes "fragment", key.Foreign)
-    ∷ (codes "fragments", key.Foreign) ∷ (codes "os", key.Foreign) ∷ (codes "modulate", key.Foreign)
-    ∷ (codes "file", key.Foreign) ∷ (codes "initializers", key.Foreign)
-    ∷ (codes "if-bound", key.Foreign) ∷ (codes "pflow", key.Foreign) ∷ []
+    ∷ (codes "scrub", key.Foreign) ∷ (codes "fragment", key.Foreign) ∷ (codes "fragments", key.Foreign)
+    ∷ (codes "os", key.Foreign) ∷ (codes "modulate", key.Foreign) ∷ (codes "file", key.Foreign)
+    ∷ (codes "initializers", key.Foreign) ∷ (codes "if-bound", key.Foreign) ∷ (codes "pflow", key.Foreign) ∷ []
 
 -- the key that a table gives a word; of a word that is not in it this one
 abbrev pub key_among : List (List ℕ × Key) → List ℕ → Key → Key

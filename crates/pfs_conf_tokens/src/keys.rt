@@ -52,6 +52,8 @@ pub enum Key {
     Pass,
     /// `block`
     Block,
+    /// `match`
+    Match,
     /// `drop`
     Drop,
     /// `return`
@@ -96,6 +98,12 @@ pub enum Key {
     Any,
     /// `flags`
     Flags,
+    /// `tag`
+    Tag,
+    /// `tagged`
+    Tagged,
+    /// `received-on`
+    ReceivedOn,
     /// `no`
     No,
     /// `state`
@@ -198,7 +206,7 @@ pub enum Key {
     Http,
     /// `https`
     Https,
-    /// A word of pf's own language that no statement of this profile has, as `match` or `nat-to`.
+    /// A word of pf's own language that no statement of this profile has, as `queue` or `nat-to`.
     Foreign,
     /// A word that begins with a digit.
     Number,
@@ -260,14 +268,23 @@ impl Key {
         }
     }
 
-    /// Whether the token is a word that pf.conf(5) knows and that this profile accepts nowhere as itself, as `match`,
-    /// `set` or `user`: a text with such a word is reported as unsupported. (own to this profile)
+    /// Whether the token is a word that pf.conf(5) knows and that this profile accepts nowhere as itself, as `queue`, or
+    /// not everywhere, as `set`, `user` or `tag`: where it is not accepted, it is reported as unsupported.
+    /// (own to this profile)
     pub fn is_unsupported(self) -> bool
         ensures { result ≡ is_unsupported_key self }
     {
         matches!(
             self,
-            Key::Foreign | Key::Set | Key::User | Key::Any | Key::Rdomain
+            Key::Foreign
+                | Key::Set
+                | Key::User
+                | Key::Any
+                | Key::Rdomain
+                | Key::Match
+                | Key::Tag
+                | Key::Tagged
+                | Key::ReceivedOn
         )
     }
 

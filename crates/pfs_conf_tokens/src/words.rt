@@ -83,6 +83,7 @@ static THREE: [(&[u8], Key); 15] = [
     (b"log", Key::Log),
     (b"set", Key::Set),
     (b"end", Key::EndWord),
+    (b"tag", Key::Tag),
     (b"max", Key::Max),
     (b"tcp", Key::Tcp),
     (b"udp", Key::Udp),
@@ -91,7 +92,6 @@ static THREE: [(&[u8], Key); 15] = [
     (b"ssh", Key::Ssh),
     (b"www", Key::Www),
     (b"tos", Key::Foreign),
-    (b"tag", Key::Foreign),
 ];
 
 static FOUR: [(&[u8], Key); 16] = [
@@ -126,11 +126,11 @@ static FIVE: [(&[u8], Key); 23] = [
     (b"never", Key::Never),
     (b"start", Key::Start),
     (b"route", Key::Route),
+    (b"match", Key::Match),
     (b"state", Key::State),
     (b"flush", Key::Flush),
     (b"icmp6", Key::Icmp6),
     (b"https", Key::Https),
-    (b"match", Key::Foreign),
     (b"queue", Key::Foreign),
     (b"group", Key::Foreign),
     (b"label", Key::Foreign),
@@ -145,10 +145,10 @@ static SIX: [(&[u8], Key); 13] = [
     (b"return", Key::Return),
     (b"anchor", Key::Anchor),
     (b"always", Key::Always),
+    (b"tagged", Key::Tagged),
     (b"global", Key::Global),
     (b"sloppy", Key::Sloppy),
     (b"domain", Key::Domain),
-    (b"tagged", Key::Foreign),
     (b"rtable", Key::Foreign),
     (b"nat-to", Key::Foreign),
     (b"rdr-to", Key::Foreign),
@@ -206,12 +206,12 @@ static TEN: [(&[u8], Key); 9] = [
 static ELEVEN: [(&[u8], Key); 8] = [
     (b"return-icmp", Key::ReturnIcmp),
     (b"openbsd-7.4", Key::OpenBsd74),
+    (b"received-on", Key::ReceivedOn),
     (b"tcp.opening", Key::TcpOpening),
     (b"tcp.closing", Key::TcpClosing),
     (b"tcp.finwait", Key::TcpFinwait),
     (b"other.first", Key::OtherFirst),
     (b"probability", Key::Foreign),
-    (b"received-on", Key::Foreign),
 ];
 
 static TWELVE: [(&[u8], Key); 8] = [

@@ -77,6 +77,7 @@ options_of-AreOptions conf sound n = by (rule_at conf n) refl
     Kept o = AreOptions (length conf.tables) (unwrap_or (option_and_then (λ (r : Rule). options_in r.action) o) no_options)
 
     in_action : (a : Action) → IsAction (length conf.tables) a → AreOptions (length conf.tables) (unwrap_or (options_in a) no_options)
+    in_action action.Match k = no_options_AreOptions (length conf.tables)
     in_action action.Block k = no_options_AreOptions (length conf.tables)
     in_action action.Pass k = no_options_AreOptions (length conf.tables)
     in_action (action.Keep o) k = k

@@ -8,9 +8,9 @@ use Rattle.std.proofs.lemmas.List.{get_or-set_same, map-append, reverse-append}
 use Rattle.std.proofs.lemmas.List.Elements.{All-head, All-map, All-tail, All-weaker}
 use Rattle.std.proofs.lemmas.List.Sums.{take_while-cons}
 use Rattle.pfs_conf_values.specs.Bounds.{broken_rule_pair, is_global}
-use Rattle.pfs_conf_values.specs.Configs.{adds_to_const, has_synproxy, needs_profile, options_in, overloads_const, proxies, rule_in}
+use Rattle.pfs_conf_values.specs.Configs.{adds_to_const, has_synproxy, is_match, marks_in, needs_profile, options_in, overloads_const, proxies, rule_in}
 use Rattle.pfs_conf_values.specs.Depths.{is_rule}
-use Rattle.pfs_conf_values.specs.LoadRules.{AreOptions, IsAction, IsCount, IsItem, IsItemAt, IsTimeout}
+use Rattle.pfs_conf_values.specs.LoadRules.{AreOptions, IsAction, IsCount, IsItem, IsItemAt, IsQuick, IsTimeout}
 use Rattle.pfs_conf_values.specs.Order.{AreNamedOnce, IsPreorder, next_depth, repeats_by, repeats_name}
 use Rattle.pfs_conf_values.specs.Settled.{gives_adaptive, paired, settled_action, settled_item, settled_items, settled_kind, settled_options, with_pair_of_max}
 use Rattle.pfs_conf_values.specs.Siblings.{has_sibling, is_anchor_named, is_this_name, name_of_item}
@@ -159,15 +159,28 @@ settled_options_again profile.OpenBsd74 o size = ap (with_timeouts o) (paired_ag
 -- ---- items
 
 settled_IsAction : (p : Profile) (tables : ℕ) (a : Action) → IsAction tables a → IsAction tables (settled_action p a)
+settled_IsAction p tables action.Match h = h
 settled_IsAction p tables action.Block h = h
 settled_IsAction p tables action.Pass h = h
 settled_IsAction p tables (action.Keep o) h = settled_AreOptions p tables o h
+
+settled_IsQuick : (p : Profile) (a : Action) (quick : Bool) → IsQuick a quick → IsQuick (settled_action p a) quick
+settled_IsQuick p action.Match quick h = h
+settled_IsQuick p action.Block quick h = tt
+settled_IsQuick p action.Pass quick h = tt
+settled_IsQuick p (action.Keep o) quick h = tt
 
 settled_IsItem : (p : Profile) (tables : ℕ) (i : Item) → IsItem tables i → IsItem tables (settled_item p i)
 settled_IsItem p tables i h = by i.what h
   where
     by : (w : ItemKind) → IsItemAt tables i.depth w → IsItemAt tables i.depth (settled_kind p w)
-    by (what.Rule r) k = (k.0, record { filter = k.1.filter; action = settled_IsAction p tables r.action k.1.action })
+    by (what.Rule r) k = (k.0, record {
+      filter = k.1.filter;
+      came = k.1.came;
+      tag = k.1.tag;
+      action = settled_IsAction p tables r.action k.1.action;
+      quick = settled_IsQuick p r.action r.quick k.1.quick;
+    })
     by (what.Anchor a) k = k
 
 -- an item that is settled is so a second time
@@ -178,6 +191,7 @@ settled_item_again p tables i h = by i.what h
     item w = record { depth = i.depth; what = w }
 
     act : (a : Action) → IsAction tables a → settled_action p (settled_action p a) ≡ settled_action p a
+    act action.Match k = refl
     act action.Block k = refl
     act action.Pass k = refl
     act (action.Keep o) k = ap (λ (x : StateOptions). action.Keep x) (settled_options_again p o k.size)
@@ -273,6 +287,7 @@ overloads_settled : (p : Profile) (tables : List TableDef) (i : Item) → overlo
 overloads_settled p tables i = by i.what
   where
     act : (p : Profile) (a : Action) → adds_to_const tables (options_in (settled_action p a)) ≡ adds_to_const tables (options_in a)
+    act p action.Match = refl
     act p action.Block = refl
     act p action.Pass = refl
     act profile.Own (action.Keep o) = refl
@@ -294,6 +309,7 @@ proxies_settled : (p : Profile) (i : Item) → has_synproxy (settled_item p i) �
 proxies_settled p i = by i.what
   where
     act : (p : Profile) (a : Action) → proxies (options_in (settled_action p a)) ≡ proxies (options_in a)
+    act p action.Match = refl
     act p action.Block = refl
     act p action.Pass = refl
     act profile.Own (action.Keep o) = refl
@@ -303,8 +319,21 @@ proxies_settled p i = by i.what
     by (what.Rule r) = act p r.action
     by (what.Anchor a) = refl
 
+match_settled : (p : Profile) (a : Action) → is_match (settled_action p a) ≡ is_match a
+match_settled p action.Match = refl
+match_settled p action.Block = refl
+match_settled p action.Pass = refl
+match_settled p (action.Keep o) = refl
+
+marks_settled : (p : Profile) (i : Item) → marks_in (rule_in (settled_item p i).what) ≡ marks_in (rule_in i.what)
+marks_settled p i = by i.what
+  where
+    by : (w : ItemKind) → marks_in (rule_in (settled_kind p w)) ≡ marks_in (rule_in w)
+    by (what.Rule r) = ap (λ (b : Bool). b || is_some r.tag || is_some r.came.tagged || is_some r.came.received_on) (match_settled p r.action)
+    by (what.Anchor a) = refl
+
 profile_needed : (p q : Profile) (i : Item) → needs_profile q (settled_item p i) ≡ needs_profile q i
-profile_needed p profile.Own i = proxies_settled p i
+profile_needed p profile.Own i = ap (λ (b : Bool). b || marks_in (rule_in (settled_item p i).what)) (proxies_settled p i) ∙ ap (λ (b : Bool). has_synproxy i || b) (marks_settled p i)
 profile_needed p profile.OpenBsd74 i = refl
 
 pub profile_needed_items : (p q : Profile) (items : List Item) → list_any (needs_profile q) (settled_items p items) ≡ list_any (needs_profile q) items

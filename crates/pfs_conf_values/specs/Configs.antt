@@ -1,8 +1,9 @@
 -- A configuration: what a rules text says, and what is read of it.
-use Rattle.std.specs.Prelude.{ℕ, ◌==◌, ◌&&◌, ◌||◌, not, nat_lt, max, Bool, false, if◌then◌else◌, Option, Some, None, unwrap_or, List, length, map, option_map, position, slice_get, slice_index, slice_index_or}
+use Rattle.std.specs.Prelude.{ℕ, ◌==◌, ◌&&◌, ◌||◌, not, nat_lt, max, Bool, true, false, if◌then◌else◌, Option, Some, None, is_some, unwrap_or, List, length, map, option_map, position, slice_get, slice_index, slice_index_or}
 use Rattle.std.specs.List.{sum_by}
 use Rattle.std.specs.Option.{option_and_then}
 use Rattle.std.specs.Str.{bytes_eq}
+use Rattle.pfs_addr_values.specs.declared.packets.TagNo.{TagNo}
 use Rattle.pfs_conf_values.specs.Limits.{limit_value}
 use Rattle.pfs_conf_values.specs.Profiles.{effective, is_openbsd}
 use Rattle.pfs_conf_values.specs.Timeouts.{place_of, no_timeouts}
@@ -13,6 +14,7 @@ use Rattle.pfs_conf_values.specs.declared.actions.Rate.{Rate}
 use Rattle.pfs_conf_values.specs.declared.actions.Scope.{Scope}
 use Rattle.pfs_conf_values.specs.declared.actions.Scope.TheVariants as scope
 use Rattle.pfs_conf_values.specs.declared.actions.StateOptions.{StateOptions}
+use Rattle.pfs_conf_values.specs.declared.filters.Came.{Came}
 use Rattle.pfs_conf_values.specs.declared.filters.Filter.{Filter}
 use Rattle.pfs_conf_values.specs.declared.filters.FlagTest.TheVariants as flag_test
 use Rattle.pfs_conf_values.specs.declared.filters.Host.TheVariants as host
@@ -75,9 +77,13 @@ any_side = record { host = host.Any; ports = None }
 abbrev pub any_packet : Filter
 any_packet = record { dir = None; on = None; family = None; proto = None; from = any_side; to = any_side; flags = flag_test.Any }
 
+-- nothing is asked of how a packet came
+abbrev pub any_way : Came
+any_way = record { tagged = None; received_on = None }
+
 -- what is given for a rule where none is
 abbrev pub no_rule : Rule
-no_rule = record { quick = false; filter = any_packet; action = action.Block }
+no_rule = record { quick = false; filter = any_packet; came = any_way; tag = None; action = action.Block }
 
 -- the rule of a number
 abbrev pub rule_of : Conf → ℕ → Rule
@@ -85,6 +91,7 @@ rule_of conf n = unwrap_or (rule_at conf n) no_rule
 
 -- the options of a rule that keeps state
 abbrev pub options_in : Action → Option StateOptions
+options_in action.Match = None
 options_in action.Block = None
 options_in action.Pass = None
 options_in (action.Keep o) = Some o
@@ -177,6 +184,21 @@ has_name name t = bytes_eq t.name name
 abbrev pub table_named : Conf → List ℕ → Option TableNo
 table_named conf name = option_map (λ n. record { 0 = n }) (position (has_name name) conf.tables)
 
+-- ---- tags (pf.conf(5), PARAMETERS, "tag")
+
+-- whether a rule gives this tag
+abbrev pub gives : List ℕ → Option (List ℕ) → Bool
+gives name None = false
+gives name (Some tag) = bytes_eq tag name
+
+abbrev pub gives_in : List ℕ → Option Rule → Bool
+gives_in name None = false
+gives_in name (Some r) = gives name r.tag
+
+-- a tag is known by the number of the first rule that gives it; one that no rule gives is not known (own)
+abbrev pub tag_named : List Item → List ℕ → Option TagNo
+tag_named items name = option_map (λ n. record { 0 = n }) (position (λ (i : Item). gives_in name (rule_in i.what)) items)
+
 -- ---- what its load rules ask of tables and of an adaptive pair
 
 -- the names of tables
@@ -217,7 +239,20 @@ proxies (Some o) = o.synproxy
 abbrev pub has_synproxy : Item → Bool
 has_synproxy i = proxies (option_and_then (λ (r : Rule). options_in r.action) (rule_in i.what))
 
+-- whether this is `match`
+abbrev pub is_match : Action → Bool
+is_match action.Match = true
+is_match _ = false
+
+-- whether a rule is a `match` rule, or gives or asks for a tag, or asks for the interface by which a packet came
+abbrev pub marks : Rule → Bool
+marks r = is_match r.action || is_some r.tag || is_some r.came.tagged || is_some r.came.received_on
+
+abbrev pub marks_in : Option Rule → Bool
+marks_in None = false
+marks_in (Some r) = marks r
+
 -- whether an item needs the profile of OpenBSD 7.4, and the text has it not
 abbrev pub needs_profile : Profile → Item → Bool
-needs_profile profile.Own i = has_synproxy i
+needs_profile profile.Own i = has_synproxy i || marks_in (rule_in i.what)
 needs_profile profile.OpenBsd74 i = false

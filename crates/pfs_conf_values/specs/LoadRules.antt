@@ -1,5 +1,5 @@
 -- The load rules of single items: values of limits and timeouts, filters, options, rules and anchors.
-use Rattle.std.specs.Prelude.{ℕ, ◌≡◌, ◌≢◌, ◌<◌, ◌≤◌, ◌&&◌, ◌||◌, not, Bool, true, false, None, is_some, is_none, IfSome, length, codes, slice_index_or}
+use Rattle.std.specs.Prelude.{ℕ, List, ◌≡◌, ◌≢◌, ◌<◌, ◌≤◌, ◌&&◌, ◌||◌, not, Bool, true, false, None, is_some, is_none, IfSome, length, codes, slice_index_or}
 use Rattle.std.specs.Str.{bytes_eq}
 use Rattle.pfs_addr_values.specs.Names.{is_name}
 use Rattle.pfs_addr_values.specs.Prefixes.{IsNetwork}
@@ -12,6 +12,7 @@ use Rattle.pfs_conf_values.specs.declared.timeouts.TimeoutName.TheVariants as ti
 use Rattle.pfs_conf_values.specs.declared.actions.Action.{Action}
 use Rattle.pfs_conf_values.specs.declared.actions.Action.TheVariants as action
 use Rattle.pfs_conf_values.specs.declared.actions.StateOptions.{StateOptions}
+use Rattle.pfs_conf_values.specs.declared.filters.Came.{Came}
 use Rattle.pfs_conf_values.specs.declared.filters.Filter.{Filter}
 use Rattle.pfs_conf_values.specs.declared.filters.FlagTest.{FlagTest}
 use Rattle.pfs_conf_values.specs.declared.filters.FlagTest.TheVariants as flag_test
@@ -141,14 +142,32 @@ pub record AreOptions (tables : ℕ) (o : StateOptions) : Type 0 where
 
 -- what a rule does, where there are so many tables
 abbrev pub IsAction : ℕ → Action → Type 0
+IsAction tables action.Match = Unit {0}
 IsAction tables action.Block = Unit {0}
 IsAction tables action.Pass = Unit {0}
 IsAction tables (action.Keep o) = AreOptions tables o
 
+-- the name of a tag
+abbrev pub IsTag : List ℕ → Type 0
+IsTag name = is_name 63 name ≡ true
+
+-- what a rule asks of how a packet came
+pub record IsCame (c : Came) : Type 0 where
+  pub tagged : IfSome c.tagged (λ t. IsTag t.name)
+  pub received_on : IfSome c.received_on IsInterface
+
+-- a `match` rule has no `quick`
+abbrev pub IsQuick : Action → Bool → Type 0
+IsQuick action.Match quick = quick ≡ false
+IsQuick _ quick = Unit {0}
+
 -- a rule that keeps the load rules, where there are so many tables
 pub record IsRule (tables : ℕ) (r : Rule) : Type 0 where
   pub filter : IsFilter tables r.filter
+  pub came : IsCame r.came
+  pub tag : IfSome r.tag IsTag
   pub action : IsAction tables r.action
+  pub quick : IsQuick r.action r.quick
 
 -- an anchor that keeps the load rules
 pub record IsAnchor (tables : ℕ) (a : Anchor) : Type 0 where

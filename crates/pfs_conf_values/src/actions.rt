@@ -60,6 +60,8 @@ pub struct StateOptions {
 /// What a rule does with a packet that it decides. (pf.conf(5), PACKET FILTERING)
 #[derive(Debug, Clone, Copy, PartialEq, Eq, Hash)]
 pub enum Action {
+    /// Nothing is decided: `match`.
+    Match,
     /// The packet is blocked.
     Block,
     /// The packet passes, and no state is made: `pass .. no state`.

@@ -2,7 +2,7 @@
 
 ghost use Rattle.std.specs.Prelude.{◌≡◌, ◌<◌, ◌≤◌, ◌-◌, ◌^◌, IfOk, IfSome, IsSome, length, min, position, slice_get};
 ghost use Rattle.std.specs.Option.{option_copied};
-ghost use Rattle.pfs_conf_values.specs.Configs.{conf_of, entries_in, entry_count_of, has_name, is_const_table, is_synproxy, limit_of, options_at, rate_seconds, retention_in, retention_of, rule_at, rule_retention, rule_timeout_of, scope_of, src_track_or, table_named, timeout_of, tracks_fully};
+ghost use Rattle.pfs_conf_values.specs.Configs.{conf_of, entries_in, entry_count_of, has_name, is_const_table, is_synproxy, limit_of, options_at, rate_seconds, retention_in, retention_of, rule_at, rule_in, rule_retention, rule_timeout_of, scope_of, src_track_or, table_named, tag_named, gives_in, timeout_of, tracks_fully};
 ghost use Rattle.pfs_conf_values.specs.Hashing.{hasher_of};
 ghost use Rattle.pfs_conf_values.specs.Invariants.{IsConfig, IsTable};
 ghost use Rattle.pfs_conf_values.specs.LoadRules.{AreOptions, IsItem, IsRule};
@@ -11,7 +11,7 @@ ghost use Rattle.pfs_conf_values.specs.Routes.{AreRoutes};
 ghost use Rattle.pfs_conf_values.specs.Syncookies.{AreSyncookies};
 
 use crate::actions::{Action, Rate, Scope, StateOptions};
-use crate::filters::TableNo;
+use crate::filters::{TableNo, TagName};
 use crate::hashing::RulesHasher;
 use crate::items::{Item, ItemKind, Rule, RuleNo};
 use crate::limits::{LimitName, Limits};
@@ -20,7 +20,7 @@ use crate::routes::Route;
 use crate::syncookies::Syncookies;
 use crate::tables::{TableDef, copy_tables};
 use crate::timeouts::{TimeoutName, Timeouts};
-use pfs_addr_values::NoMemory;
+use pfs_addr_values::{NoMemory, TagNo};
 use std::marker::Model;
 
 /// What an accepted rules text says: its profile, SYN cookies, routes, limits, timeouts, tables and items, with defaults filled in.
@@ -175,7 +175,7 @@ impl Config {
     {
         match &self.rule(number)?.action {
             Action::Keep(options) => Some(options),
-            Action::Block | Action::Pass => None,
+            Action::Match | Action::Block | Action::Pass => None,
         }
     }
 
@@ -203,6 +203,15 @@ impl Config {
     {
         let place = place_named(&self.tables, name)?;
         Some(TableNo(place as u32))
+    }
+
+    /// The tag of this name, if a rule gives it. It compares the name with those that the rules give, one after another.
+    /// (pf.conf(5), PARAMETERS, "tag")
+    pub fn tag_named(&self, name: &TagName) -> Option<TagNo>
+        ensures { result ≡ tag_named self.now.items name.now }
+    {
+        let place = tag_place(&self.items, name)?;
+        Some(TagNo(place as u16))
     }
 
     /// Whether the table of this number is `const`: then no source is added to it, and no entry leaves it.
@@ -311,6 +320,24 @@ pub fn count_entries(tables: &[TableDef]) -> u64
         count = count.saturating_add(table.entries.len() as u64);
     }
     count
+}
+
+/// The place of the first rule that gives this tag.
+fn tag_place(items: &[Item], name: &TagName) -> Option<usize>
+    ensures value { result ≡ position (λ (i : Item). gives_in name.now (rule_in i.what)) items.now }
+    ensures within { IfSome result (λ place. place < length items.now) }
+{
+    items.iter().position(|item| gives(item, name))
+}
+
+/// Whether an item is a rule that gives this tag.
+fn gives(item: &Item, name: &TagName) -> bool
+    ensures { result ≡ gives_in name.now (rule_in item.now.what) }
+{
+    match &item.what {
+        ItemKind::Rule(rule) => rule.tag.is_some_and(|tag| tag == *name),
+        ItemKind::Anchor(_) => false,
+    }
 }
 
 /// The place of the table of this name.

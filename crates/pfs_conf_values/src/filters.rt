@@ -81,6 +81,27 @@ pub enum FlagTest {
     },
 }
 
+/// The name of a tag: 1 to 63 bytes. (pf.conf(5), PARAMETERS, "tag")
+pub type TagName = Name<63>;
+
+/// `tagged NAME`, or `! tagged NAME`: the tag that a packet must, or must not, have. (pf.conf(5), PARAMETERS, "tagged")
+#[derive(Debug, Clone, Copy, PartialEq, Eq, Hash)]
+pub struct Tagged {
+    /// The tag.
+    pub name: TagName,
+    /// Whether a `!` is before it.
+    pub negated: bool,
+}
+
+/// What a rule asks of how a packet came: each part that is given has to hold. An anchor asks nothing of it.
+#[derive(Debug, Clone, Copy, PartialEq, Eq, Hash)]
+pub struct Came {
+    /// The tag that rules before it, or those of the interface by which it came, gave it.
+    pub tagged: Option<Tagged>,
+    /// The interface on which it came in. (pf.conf(5), PARAMETERS, "received-on")
+    pub received_on: Option<Interface>,
+}
+
 /// What is asked of a packet: each part that is given has to hold.
 #[derive(Debug, Clone, Copy, PartialEq, Eq, Hash)]
 pub struct Filter {

@@ -1,7 +1,7 @@
 //! Rules and anchors, in the order of the text.
 
 use crate::actions::Action;
-use crate::filters::Filter;
+use crate::filters::{Came, Filter, TagName};
 use pfs_addr_values::Name;
 
 /// The number of a rule: its place among the items, anchors counted too, from 0.
@@ -11,13 +11,17 @@ pub struct RuleNo(pub u32);
 /// The name of an anchor: 1 to 63 bytes. (pf.conf(5), ANCHORS)
 pub type AnchorName = Name<63>;
 
-/// A `pass` or `block` rule. (pf.conf(5), PACKET FILTERING)
+/// A `pass`, `block` or `match` rule. (pf.conf(5), PACKET FILTERING)
 #[derive(Debug, Clone, Copy, PartialEq, Eq, Hash)]
 pub struct Rule {
-    /// Whether the rule ends the evaluation where it matches.
+    /// Whether the rule ends the evaluation where it matches; a `match` rule never does.
     pub quick: bool,
     /// Which packets it matches.
     pub filter: Filter,
+    /// How they must have come.
+    pub came: Came,
+    /// The tag that it gives them, whatever decides in the end.
+    pub tag: Option<TagName>,
     /// What it does with them.
     pub action: Action,
 }

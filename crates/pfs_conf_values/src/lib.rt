@@ -16,7 +16,9 @@ mod timeouts;
 
 pub use actions::{Action, Overload, Rate, Scope, StateOptions};
 pub use configs::{Config, count_entries, rule_retention};
-pub use filters::{Family, Filter, FlagTest, Host, Interface, Ports, Side, TableName, TableNo};
+pub use filters::{
+    Came, Family, Filter, FlagTest, Host, Interface, Ports, Side, TableName, TableNo, TagName, Tagged,
+};
 pub use hashing::RulesHasher;
 pub use items::{Anchor, AnchorName, Item, ItemKind, Rule, RuleNo};
 pub use limits::{LimitName, Limits};

@@ -45,6 +45,7 @@ fn settled_action(profile: Profile, action: Action) -> Action
     ensures { result ≡ settled_action profile action }
 {
     match action {
+        Action::Match => Action::Match,
         Action::Block => Action::Block,
         Action::Pass => Action::Pass,
         Action::Keep(options) => Action::Keep(settled_options(profile, options)),

@@ -15,7 +15,7 @@ use Rattle.pfs_store_contract.specs.Worlds.{World, state_with}
 use Rattle.pfs_store_contract.specs.declared.records.Limit.{Limit}
 use Rattle.pfs_store_contract.specs.declared.records.State.{State}
 use Rattle.pfs_engine_machine.specs.Guards.{Guard, asked, brings_cookie, gets_cookie}
-use Rattle.pfs_engine_machine.specs.Machine.{Held, Machine, machine_at_moment, answer_behind_guard, answer_to_packet, answer_of_action, answer_of_exceeded, answer_of_key, answer_of_limits, answer_of_rule, answer_of_state, deciding_rule, exceeded_of, held_behind_guard, held_for, held_of, outcome_of_held, outcome_of_new}
+use Rattle.pfs_engine_machine.specs.Machine.{Held, Machine, machine_at_moment, answer_behind_guard, answer_to_packet, answer_of_action, answer_of_exceeded, answer_of_key, answer_of_limits, answer_of_rule, answer_of_state, deciding_rule, exceeded_of, held_behind_guard, held_for, held_of, outcome_of_held, outcome_of_new, packet_ruled}
 use Rattle.pfs_engine_machine.specs.Kept.{moment_of}
 use Rattle.pfs_engine_machine.specs.Refusals.{IsFree, IsFreeOf}
 use Rattle.pfs_engine_machine.specs.Runs.{IsRefusedIn, NeedsMemory, without_memory}
@@ -29,29 +29,30 @@ use Rattle.pfs_engine_machine.specs.declared.events.Arrival.TheVariants as arriv
 use Rattle.pfs_engine.specs.Calls.{answer_at_last, met_held}
 use Rattle.pfs_engine.specs.Packets.{NeedsNone, NeedsNoneAt, NeedsNoneBehindGuard, NeedsNoneBy, NeedsNoneOf, NeedsNoneUnless}
 
-free_limit : (conf : Conf) (m : Held) (p : PacketView) (cookie : Bool) (now rule : ℕ) (limit : Option Limit)
-    → IsFree conf m.world p (answer_of_limits conf m p cookie now rule limit).0 → IsFreeRefusal conf m.world p rule limit
-free_limit conf m p cookie now rule None free = by (cookie || is_answered conf rule p) free
+free_limit : (conf : Conf) (m : Held) (p going : PacketView) (cookie : Bool) (now rule : ℕ) (limit : Option Limit)
+    → IsFree conf m.world p (answer_of_limits conf m p going cookie now rule limit).0 → IsFreeRefusal conf m.world p rule limit
+free_limit conf m p going cookie now rule None free = by (cookie || is_answered conf rule p) free
   where
     by : (answered : Bool) → IsFree conf m.world p (outcome_of_new (record { 0 = rule }) answered) → ⊥
     by true none = none
     by false none = none
-free_limit conf m p cookie now rule (Some l) free = free
+free_limit conf m p going cookie now rule (Some l) free = free
 
-free_action : (conf : Conf) (m : Held) (p : PacketView) (cookie : Bool) (now rule : ℕ) (what : Action)
-    → IsFree conf m.world p (answer_of_action conf m p cookie now rule what).0 → NeedsNoneAt conf m p rule what
-free_action conf m p cookie now rule action.Block free = tt
-free_action conf m p cookie now rule action.Pass free = tt
-free_action conf m p cookie now rule (action.Keep o) free = free_limit conf m p cookie now rule (packet_limit conf m.world p rule) free
+free_action : (conf : Conf) (m : Held) (p going : PacketView) (cookie : Bool) (now rule : ℕ) (what : Action)
+    → IsFree conf m.world p (answer_of_action conf m p going cookie now rule what).0 → NeedsNoneAt conf m p rule what
+free_action conf m p going cookie now rule action.Match free = tt
+free_action conf m p going cookie now rule action.Block free = tt
+free_action conf m p going cookie now rule action.Pass free = tt
+free_action conf m p going cookie now rule (action.Keep o) free = free_limit conf m p going cookie now rule (packet_limit conf m.world p rule) free
 
-free_rule : (conf : Conf) (m : Held) (p : PacketView) (cookie : Bool) (now : ℕ) (rule : Option ℕ)
-    → IsFree conf m.world p (answer_of_rule conf m p cookie now rule).0 → NeedsNoneBy conf m p rule
-free_rule conf m p cookie now None free = tt
-free_rule conf m p cookie now (Some rule) free = free_action conf m p cookie now rule (rule_of conf rule).action free
+free_rule : (conf : Conf) (m : Held) (p going : PacketView) (cookie : Bool) (now : ℕ) (rule : Option ℕ)
+    → IsFree conf m.world p (answer_of_rule conf m p going cookie now rule).0 → NeedsNoneBy conf m p rule
+free_rule conf m p going cookie now None free = tt
+free_rule conf m p going cookie now (Some rule) free = free_action conf m p going cookie now rule (rule_of conf rule).action free
 
 free_state : (conf : Conf) (m : Held) (p : PacketView) (cookie : Bool) (now : ℕ) (found : Option State)
     → IsFree conf m.world p (answer_of_state conf m p cookie now found).0 → NeedsNone conf m p cookie found
-free_state conf m p cookie now None free = free_rule conf m p cookie now (deciding_rule conf m (asked p cookie)) free
+free_state conf m p cookie now None free = free_rule conf m p (packet_ruled conf m (asked p cookie)) cookie now (deciding_rule conf m (asked p cookie)) free
 free_state conf m p cookie now (Some s) free = by (is_taken p s) (is_asking p s) (if completes_at p s then exceeded_of (hits_connections conf after s) (hits_rate conf after s) else None) free
   where
     after : World

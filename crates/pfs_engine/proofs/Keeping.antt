@@ -29,8 +29,9 @@ use Rattle.pfs_engine.specs.Views.{IsWhole, View, machine_at}
 use Rattle.pfs_engine.specs.declared.works.Work.{Work}
 
 -- an engine, by what it holds
-abbrev pub seen : {X : Type 0} → HeldView X → Guard → Option ℕ → Option ℕ → ℕ → Work → View
-seen v g first last taken work = record { config = v.config; machine = machine_at v.held g first last; taken = taken; work = work }
+abbrev pub seen : {X : Type 0} → HeldView X → Guard → Option ℕ → Option ℕ → ℕ → Option PacketView → Work → View
+seen v g first last taken going work =
+    record { config = v.config; machine = machine_at v.held g first last; taken = taken; going = going; work = work }
 
 -- an engine is whole, by the configuration before the call
 whole_under : {X : Type 0} (conf : Conf) (after : HeldView X) (g : Guard) (first last : Option ℕ) (taken : ℕ) → after.config ≡ conf
@@ -113,10 +114,10 @@ whole_answered before after g first last taken begun at table done (Ok a) out i 
 whole_answered before after g first last taken begun at table done (Err x) out i h = whole_same before after g first last taken i h.err h.config
 
 -- an engine is seen as this before, and keeps its configuration and its moments
-pub keeps : {X : Type 0} (before after : HeldView X) (was : View) (g new : Guard) (first last : Option ℕ) (taken taken' : ℕ) (work work' : Work)
-    → seen before g first last taken work ≡ was → after.config ≡ before.config
-    → IsWhole after.config (machine_at after.held new first last) taken' → Keeps was (seen after new first last taken' work')
-keeps before after was g new first last taken taken' work work' is config i = subst (λ (v : View). Keeps v (seen after new first last taken' work')) is (record {
+pub keeps : {X : Type 0} (before after : HeldView X) (was : View) (g new : Guard) (first last : Option ℕ) (taken taken' : ℕ) (going going' : Option PacketView) (work work' : Work)
+    → seen before g first last taken going work ≡ was → after.config ≡ before.config
+    → IsWhole after.config (machine_at after.held new first last) taken' → Keeps was (seen after new first last taken' going' work')
+keeps before after was g new first last taken taken' going going' work work' is config i = subst (λ (v : View). Keeps v (seen after new first last taken' going' work')) is (record {
   config = config;
   first = refl;
   last = refl;
@@ -163,16 +164,16 @@ whole_packet before after g new first last taken taken' p (Err x) room i h n =
       config = i.config;
     })
 
-pub answered_by : {X E : Type 0} (before after : HeldView X) (was : View) (g new : Guard) (first last : Option ℕ) (taken taken' : ℕ) (work work' : Work) (p : PacketView) (r : Result Outcome E)
-    → seen before g first last taken work ≡ was
+pub answered_by : {X E : Type 0} (before after : HeldView X) (was : View) (g new : Guard) (first last : Option ℕ) (taken taken' : ℕ) (going going' : Option PacketView) (work work' : Work) (p : PacketView) (r : Result Outcome E)
+    → seen before g first last taken going work ≡ was
     → IsWhole after.config (machine_at after.held new first last) taken' → IsTaken before after g new p (moment_of last) r → CountsPacket r taken taken'
-    → IsAnsweredBy r p was (seen after new first last taken' work')
-answered_by before after was g new first last taken taken' work work' p r is i h n =
-    subst (λ (v : View). IsAnsweredBy r p v (seen after new first last taken' work')) is (record {
+    → IsAnsweredBy r p was (seen after new first last taken' going' work')
+answered_by before after was g new first last taken taken' going going' work work' p r is i h n =
+    subst (λ (v : View). IsAnsweredBy r p v (seen after new first last taken' going' work')) is (record {
       ok = h.answered.ok;
       guard = h.guard;
       err = same r h.answered.err h.refused;
-      keeps = keeps before after (seen before g first last taken work) g new first last taken taken' work work' refl h.answered.config i;
+      keeps = keeps before after (seen before g first last taken going work) g new first last taken taken' going going' work work' refl h.answered.config i;
       taken = n;
     })
   where
@@ -214,12 +215,12 @@ module _ (conf : Conf) (g : Guard) (h : Held) (p : PacketView) (now : ℕ) (rule
       (dropped-free conf (held_for conf h p now) p (brings_cookie g h.world p) rule limit d.dropped
       (subst (λ (m : Held). leaves_node conf m.world p.source.addr rule.0 limit ≡ false) let_on none))
 
-pub limited : {X E : Type 0} (before after : HeldView X) (was : View) (g new : Guard) (first last : Option ℕ) (taken taken' : ℕ) (work work' : Work) (p : PacketView) (r : Result Outcome E)
-    → seen before g first last taken work ≡ was
+pub limited : {X E : Type 0} (before after : HeldView X) (was : View) (g new : Guard) (first last : Option ℕ) (taken taken' : ℕ) (going going' : Option PacketView) (work work' : Work) (p : PacketView) (r : Result Outcome E)
+    → seen before g first last taken going work ≡ was
     → IsWhole before.config (machine_at before.held g first last) taken → IsTaken before after g new p (moment_of last) r
-    → IsLimited r p was (seen after new first last taken' work')
-limited {E = E} before after was g new first last taken taken' work work' p r is i h =
-    subst (λ (v : View). IsLimited r p v (seen after new first last taken' work')) is (record {
+    → IsLimited r p was (seen after new first last taken' going' work')
+limited {E = E} before after was g new first last taken taken' going going' work work' p r is i h =
+    subst (λ (v : View). IsLimited r p v (seen after new first last taken' going' work')) is (record {
       refused = record {
         met = λ rule limit d. met_behind_guard before.config g before.held p now rule limit d after.held r h.answered.ok;
         free = λ rule limit d none. h.free (free_behind_guard before.config g before.held p now rule limit d none);

@@ -25,6 +25,7 @@ answer_of_touch conf h number now t =
 
 -- a rule makes no state, or the state is refused, and no node is left
 abbrev pub NeedsNoneAt : Conf → Held → PacketView → ℕ → Action → Type 0
+NeedsNoneAt conf h p rule action.Match = Unit {0}
 NeedsNoneAt conf h p rule action.Block = Unit {0}
 NeedsNoneAt conf h p rule action.Pass = Unit {0}
 NeedsNoneAt conf h p rule (action.Keep o) = IsFreeRefusal conf h.world p rule (packet_limit conf h.world p rule)

@@ -1,6 +1,6 @@
 -- What an engine is to its callers, and what it keeps.
 use Rattle.std.specs.Prelude.{ℕ, ◌≤◌, ◌<◌, ◌^◌, Option}
-use Rattle.pfs_addr_values.specs.Packets.{run_limit}
+use Rattle.pfs_addr_values.specs.Packets.{PacketView, run_limit}
 use Rattle.pfs_conf_values.specs.Configs.{Conf}
 use Rattle.pfs_conf_values.specs.Invariants.{IsConfig}
 use Rattle.pfs_engine_machine.specs.Guards.{Guard}
@@ -12,11 +12,13 @@ use Rattle.pfs_engine.specs.declared.works.Work.{Work}
 abbrev pub machine_at : Held → Guard → Option ℕ → Option ℕ → Machine
 machine_at held guard first last = record { held = held; guard = guard; first = first; last = last }
 
--- the configuration, the machine, how many packets were answered, and the work of the latest call
+-- the configuration, the machine, how many packets were answered, the packet of the latest event as it goes on, and the work of the latest
+-- call
 pub record View : Type 0 where
   pub config : Conf
   pub machine : Machine
   pub taken : ℕ
+  pub going : Option PacketView
   pub work : Work
 
 -- the configuration keeps the load rules, and the machine what it is to keep; moments are those of a trace

@@ -3,7 +3,7 @@ use Rattle.std.specs.Prelude.{ℕ, ◌≡◌, ◌+◌, ◌-◌, ◌^◌, ◌⊎�
 use Rattle.pfs_addr_values.specs.declared.memory.NoMemory.{NoMemory}
 use Rattle.pfs_conf_values.specs.Configs.{Conf}
 use Rattle.pfs_engine_machine.specs.Machine.{Machine, step}
-use Rattle.pfs_engine_machine.specs.Ways.{first_event, second_event}
+use Rattle.pfs_engine_machine.specs.Ways.{first_event, second_of_record}
 use Rattle.pfs_engine_machine.specs.declared.events.Event.{Event}
 use Rattle.pfs_engine_machine.specs.declared.events.Outcome.{Outcome}
 use Rattle.pfs_engine_machine.specs.declared.events.Way.{Way}
@@ -47,7 +47,7 @@ IsWorkOn counts conf m e (Some f) answer work =
 
 abbrev pub IsWorkOfEvents : Bool → Conf → Machine → Event → Result Way NoMemory → Work → Type 0
 IsWorkOfEvents counts conf m r answer work =
-    IsWorkOn counts conf m (first_event conf r) (second_event conf r (step conf m (first_event conf r)).0) answer work
+    IsWorkOn counts conf m (first_event conf r) (second_of_record conf m r) answer work
 
 -- the work of a record with this answer: of its events, or of the first alone where memory was refused to that
 abbrev pub IsWorkOfWay : Bool → Conf → Machine → Event → Result Way NoMemory → Work → Type 0

@@ -1,6 +1,6 @@
 //! The engine: a machine over any store, with the rules made ready.
 
-ghost use Rattle.std.specs.Prelude.{◌≡◌, ◌+◌, ◌<◌, ◌≤◌, ◌^◌, ◌++◌, [], length, Some, IfOk, IsOk, IsSome, OnErr, OnOk};
+ghost use Rattle.std.specs.Prelude.{◌≡◌, ◌+◌, ◌<◌, ◌≤◌, ◌^◌, ◌++◌, [], length, None, Some, IfOk, IsOk, IsSome, OnErr, OnOk};
 ghost use Rattle.std.specs.Option.{ForSome};
 ghost use Rattle.pfs_addr_values.specs.Packets.{run_limit};
 ghost use Rattle.pfs_store_contract.specs.Worlds.{empty_world};
@@ -8,7 +8,7 @@ ghost use Rattle.pfs_conf_values.specs.Configs.{limit_of};
 ghost use Rattle.pfs_eval.specs.Tables.{entered_to};
 ghost use Rattle.pfs_engine_machine.specs.Kept.{IsWithinLimits, moment_of};
 ghost use Rattle.pfs_engine_machine.specs.Refusals.{IsFree};
-ghost use Rattle.pfs_engine_machine.specs.Machine.{machine_at_moment, amounts_of, answer_to_command, answer_to_kill, due, entries_held, nodes_held, start, states_held, step, machine_after, outcomes_of};
+ghost use Rattle.pfs_engine_machine.specs.Machine.{machine_at_moment, amounts_of, answer_to_command, answer_to_kill, due, entries_held, going_behind_guard, sent_on, nodes_held, start, states_held, step, machine_after, outcomes_of};
 ghost use Rattle.pfs_engine_machine.specs.Runs.{MayChange, MayCome, AreAllowed, IsInOrder, IsPacket, IsRefusedIn, IsStopped, NeedsMemory, packets_in, packets_of};
 ghost use Rattle.pfs_engine_machine.specs.Ways.{IsRefusedOnWay, events_of_record, way, way_on};
 ghost use Rattle.pfs_engine.specs.Calls.{CountsEvent, CountsPacket, IsAnsweredBy, IsAt, IsLimited, IsWorkBehind, IsWorkOfEvent, IsWorkOfPacket, IsWorkOfSeconds, Keeps, StaysWithin, answer_at_last, met_held};
@@ -32,7 +32,8 @@ use std::marker::Model;
 /// A machine that runs events under a configuration, over any store.
 ///
 /// Clauses see a `View`: the configuration, the machine (what the store holds, the entries of the tables, the SYN cookies that are
-/// out, and the first and the last moment), how many packets were answered, and the work of the latest call. What is held is at all times
+/// out, and the first and the last moment), how many packets were answered, the packet of the latest event as it goes on, and the work of
+/// the latest call. What is held is at all times
 /// within the limits, as each call that changes it says.
 #[derive(Drop)]
 pub struct Engine<S: Store> {
@@ -41,6 +42,7 @@ pub struct Engine<S: Store> {
     first: Option<u64>,
     last: Option<u64>,
     taken: u64,
+    going: Option<Packet>,
     work: Work,
 }
 
@@ -57,6 +59,7 @@ impl<S: Store> Model for Engine<S> {
       config = e.held.config;
       machine = machine_at e.held.held e.guard e.first e.last;
       taken = e.taken;
+      going = e.going;
       work = e.work;
     } };
 
@@ -82,6 +85,7 @@ impl<S: Store + Drop> Engine<S> {
             first: None,
             last: None,
             taken: 0,
+            going: None,
             work: Work::none(),
         })
     }
@@ -145,6 +149,13 @@ impl<S: Store> Engine<S> {
         self.work
     }
 
+    /// The packet of the latest event as it goes on.
+    fn going(&self) -> &Option<Packet>
+        ensures { result.now ≡ self.now.going }
+    {
+        &self.going
+    }
+
     /// Lets time pass to a moment: does all purges due, one slice of the states and one of the source nodes for each
     /// whole second after the last moment, and behind them turns the secret of SYN cookies; none before the first event. It takes no
     /// memory. (pf.conf(5), OPTIONS, "interval" and "set syncookies"; the slices are own to this profile)
@@ -157,7 +168,9 @@ impl<S: Store> Engine<S> {
         ensures limits { IsWithinLimits self.new.config self.new.machine.held }
         ensures config { self.new.config ≡ self.old.config }
         ensures taken { self.new.taken ≡ self.old.taken }
+        ensures going { self.new.going ≡ None }
     {
+        self.going = None;
         self.work = pass_due(&mut self.guard, &mut self.held, self.last, now);
         self.first = Some(self.first.unwrap_or(now));
         self.last = Some(now);
@@ -196,6 +209,8 @@ impl<S: Store> Engine<S> {
         ensures limited { IsLimited result packet.now self.old self.new }
         ensures free { IsFree self.old.config (met_held self.old.config self.old.machine packet.now).world packet.now
             (answer_at_last self.old.config self.old.machine packet.now).0 → IsOk result }
+        ensures going { OnOk result (self.new.going ≡ Some (going_behind_guard self.old.config self.old.machine.guard self.old.machine.held packet.now
+            (moment_of self.old.machine.last))) }
         ensures work { IsWorkBehind purges (IsWorkOfPacket S.counts self.old.config self.old.machine packet.now
             (moment_of self.old.machine.last) result) self.new.work }
     {
@@ -206,6 +221,7 @@ impl<S: Store> Engine<S> {
             &mut self.held,
             packet,
             now,
+            &mut self.going,
             &mut meters,
         );
         let work = Work::of_packet(meters.visits.count(), meters.looks.count());
@@ -227,6 +243,7 @@ impl<S: Store> Engine<S> {
         ensures guard { self.new.machine.guard ≡ self.old.machine.guard }
         ensures taken { self.new.taken ≡ self.old.taken }
         ensures work { self.new.work ≡ self.old.work }
+        ensures going { self.new.going ≡ self.old.going }
     {
         let first = self.first.unwrap_or(0);
         let now = self.last.unwrap_or(0);
@@ -248,6 +265,7 @@ impl<S: Store> Engine<S> {
         ensures guard { self.new.machine.guard ≡ self.old.machine.guard }
         ensures taken { self.new.taken ≡ self.old.taken }
         ensures work { self.new.work ≡ self.old.work }
+        ensures going { self.new.going ≡ self.old.going }
     {
         let now = self.last.unwrap_or(0);
         self.held.add(table, entry, now)
@@ -265,6 +283,7 @@ impl<S: Store> Engine<S> {
         ensures guard { self.new.machine.guard ≡ self.old.machine.guard }
         ensures taken { self.new.taken ≡ self.old.taken }
         ensures work { self.new.work ≡ self.old.work }
+        ensures going { self.new.going ≡ self.old.going }
     {
         self.held.delete(table, entry)
     }
@@ -282,6 +301,7 @@ impl<S: Store> Engine<S> {
         ensures guard { self.new.machine.guard ≡ self.old.machine.guard }
         ensures taken { self.new.taken ≡ self.old.taken }
         ensures work { self.new.work ≡ self.old.work }
+        ensures going { self.new.going ≡ self.old.going }
     {
         match command {
             Command::Expire(seconds) => Ok(Outcome::Expire(self.expire(table, *seconds))),
@@ -302,6 +322,7 @@ impl<S: Store> Engine<S> {
         ensures guard { self.new.machine.guard ≡ self.old.machine.guard }
         ensures taken { self.new.taken ≡ self.old.taken }
         ensures work { self.new.work ≡ self.old.work }
+        ensures going { self.new.going ≡ self.old.going }
     {
         let now = self.last.unwrap_or(0);
         self.held.kill(hosts, now)
@@ -339,6 +360,7 @@ impl<S: Store> Engine<S> {
         ensures keeps { IsAt event.now.time self.old self.new }
         ensures taken { CountsEvent result (packets_of event.now.what) self.old.taken self.new.taken }
         ensures work { IsWorkOfEvent S.counts self.old.config self.old.machine event.now result self.new.work }
+        ensures going { OnOk result (self.new.going ≡ sent_on self.old.config self.old.machine event.now) }
     {
         self.advance(event.time);
         let purges = self.work();
@@ -415,7 +437,7 @@ impl<S: Store> Engine<S> {
     {
         let event = first_event(self.config(), row);
         let first = self.step(&event)?;
-        match second_event(self.config(), row, &first) {
+        match second_event(self.config(), row, &first, self.going()) {
             None => Ok(Way {
                 first,
                 second: None,

@@ -9,7 +9,7 @@ ghost use Rattle.pfs_eval.specs.Verdict.{IsRuleAt};
 ghost use Rattle.pfs_store_contract.specs.Calls.{state_number, state_rule};
 ghost use Rattle.pfs_store_contract.specs.Counts.{half_open};
 ghost use Rattle.pfs_store_contract.specs.Worlds.{empty_world, state_with};
-ghost use Rattle.pfs_engine_machine.specs.Machine.{answer_to_command, answer_to_kill, deciding_rule, held_of, start, world_after_purges};
+ghost use Rattle.pfs_engine_machine.specs.Machine.{answer_to_command, answer_to_kill, deciding_rule, held_of, packet_ruled, start, world_after_purges};
 ghost use Rattle.pfs_engine_machine.specs.Shares.{seconds};
 ghost use Rattle.pfs_engine_machine.specs.Visits.{AreVisits};
 ghost use Rattle.pfs_engine.specs.Held.{Holds, IsAnsweredAs, IsDone};
@@ -18,9 +18,9 @@ ghost use Rattle.pfs_engine.specs.Meters.{IsWorkOfPurges};
 use crate::purges::purge_each;
 use crate::works::Work;
 use pfs_addr_values::{FlowKey, Meter, NoMemory, Packet};
-use pfs_conf_values::{Config, LimitName, RuleNo, TableNo};
+use pfs_conf_values::{Config, LimitName, TableNo};
 use pfs_engine_machine::{Command, Entered, FromTo, Outcome, TableEntry};
-use pfs_eval::{Book, Tables};
+use pfs_eval::{Book, Decision, Tables};
 use pfs_store_contract::{Found, Store};
 use std::alloc::Global;
 use std::marker::Model;
@@ -122,11 +122,12 @@ impl<S: Store> Held<S> {
         self.find(packet).is_none()
     }
 
-    /// The rule that decides on a packet whose key no state has, if one does. It takes no memory.
-    pub(crate) fn decide(&self, packet: &Packet, visits: &mut Meter) -> Option<RuleNo>
+    /// The rule that decides on a packet whose key no state has, if one does, and the packet as the rules leave it. It takes no memory.
+    pub(crate) fn decide(&self, packet: &Packet, visits: &mut Meter) -> Decision
         requires { visits.old ≡ 0 }
-        ensures rule { option_map (λ r. r.0) result ≡ deciding_rule self.now.config self.now.held packet.now }
-        ensures known { IfSome result (λ r. IsRuleAt self.now.config.items r.0) }
+        ensures rule { option_map (λ r. r.0) result.rule ≡ deciding_rule self.now.config self.now.held packet.now }
+        ensures packet { result.packet ≡ packet_ruled self.now.config self.now.held packet.now }
+        ensures known { IfSome result.rule (λ r. IsRuleAt self.now.config.items r.0) }
         ensures visits { AreVisits self.now.config self.now.held packet.now false None visits.new }
     {
         self.book.decide(&self.tables, packet, visits)

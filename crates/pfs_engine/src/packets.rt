@@ -11,7 +11,7 @@ ghost use Rattle.pfs_store_contract.specs.Worlds.{state_with};
 ghost use Rattle.pfs_engine_machine.specs.Guards.{asked, guard_after_packet, guard_for};
 ghost use Rattle.pfs_engine_machine.specs.Kept.{IsKept};
 ghost use Rattle.pfs_engine_machine.specs.Looks.{AreLooks};
-ghost use Rattle.pfs_engine_machine.specs.Machine.{answer_of_rule, deciding_rule, held_for, outcome_of_new, outcome_of_pass};
+ghost use Rattle.pfs_engine_machine.specs.Machine.{answer_of_rule, deciding_rule, going_behind_guard, going_from, going_of_state, held_for, outcome_of_new, outcome_of_pass, packet_ruled};
 ghost use Rattle.pfs_engine_machine.specs.Visits.{AreVisits};
 ghost use Rattle.pfs_engine.specs.Held.{Holds, IsAnswered, IsAnsweredBehindGuard, IsAnsweredTo, IsReachedBy};
 ghost use Rattle.pfs_engine.specs.Meters.{AreFirstLooks, AreMetersBehindGuard, AreMetersOf};
@@ -47,12 +47,14 @@ impl Meters {
 }
 
 /// What a packet does: it gets a cookie, or it is one of a held state, or the rules decide on it, or on the SYN whose cookie it
-/// brings. On an error what it meets is held, behind the guard that it meets. (pf.conf(5), STATEFUL FILTERING)
+/// brings. `going` becomes the packet as it goes on, where it does. On an error what it meets is held, behind the guard that it meets.
+/// (pf.conf(5), STATEFUL FILTERING)
 pub(crate) fn answer_behind_guard<S: Store>(
     guard: &mut Guard,
     held: &mut Held<S>,
     packet: &Packet,
     now: u64,
+    going: &mut Option<Packet>,
     meters: &mut Meters,
 ) -> Result<Outcome, NoMemory>
     requires kept { IsKept held.old.config held.old.held now }
@@ -60,6 +62,7 @@ pub(crate) fn answer_behind_guard<S: Store>(
     requires moment { now ≤ 2 ^ 63 }
     requires meters { meters.old ≡ record { visits = 0; looks = 0 } }
     ensures answered { IsAnsweredBehindGuard result guard.old packet.now now held.old held.new }
+    ensures going { OnOk result (going.new ≡ Some (going_behind_guard held.old.config guard.old held.old.held packet.now now)) }
     ensures guard { OnOk result (guard.new ≡ guard_after_packet held.old.config guard.old held.old.held.world packet.now now) }
     ensures refused { OnErr result (guard.new ≡ guard_for held.old.config guard.old held.old.held.world packet.now now) }
     ensures free { NeedsNoneBehindGuard held.old.config guard.old held.old.held packet.now now → IsOk result }
@@ -67,10 +70,11 @@ pub(crate) fn answer_behind_guard<S: Store>(
         meters.new.visits meters.new.looks }
 {
     if guard.gets_cookie(held, packet) {
+        *going = Some(*packet);
         return guard.give(&held.config, packet, now);
     }
     let cookie = guard.brings_cookie(held, packet);
-    let outcome = answer(held, packet, cookie, now, meters)?;
+    let outcome = answer(held, packet, cookie, now, going, meters)?;
     if cookie {
         guard.take(packet);
     }
@@ -83,6 +87,7 @@ fn answer<S: Store>(
     packet: &Packet,
     cookie: bool,
     now: u64,
+    going: &mut Option<Packet>,
     meters: &mut Meters,
 ) -> Result<Outcome, NoMemory>
     requires kept { IsKept held.old.config held.old.held now }
@@ -90,13 +95,14 @@ fn answer<S: Store>(
     requires moment { now ≤ 2 ^ 63 }
     requires meters { meters.old ≡ record { visits = 0; looks = 0 } }
     ensures answered { IsAnsweredTo result packet.now cookie now held.old held.new }
+    ensures going { OnOk result (going.new ≡ Some (going_from held.old.config (held_for held.old.config held.old.held packet.now now) packet.now cookie)) }
     ensures free { NeedsNoneOf held.old.config (held_for held.old.config held.old.held packet.now now) packet.now cookie → IsOk result }
     ensures meters { AreMetersOf S.counts held.old.config held.old.held (held_for held.old.config held.old.held packet.now now)
         packet.now cookie result meters.new.visits meters.new.looks }
 {
     match meet(held, packet, now, &mut meters.looks) {
-        Some(found) => take_packet_of_state(held, found, packet, now, &mut meters.looks),
-        None => by_rules(held, packet, cookie, now, &mut meters.visits),
+        Some(found) => take_packet_of_state(held, found, packet, now, going, &mut meters.looks),
+        None => by_rules(held, packet, cookie, now, going, &mut meters.visits),
     }
 }
 
@@ -144,19 +150,24 @@ fn by_rules<S: Store>(
     packet: &Packet,
     cookie: bool,
     now: u64,
+    going: &mut Option<Packet>,
     visits: &mut Meter,
 ) -> Result<Outcome, NoMemory>
     requires fresh { state_with (key_of packet.now) held.old.held.world ≡ None }
     requires room { held.old.held.world.made < run_limit }
     requires visits { visits.old ≡ 0 }
-    ensures answered { IsAnswered result (answer_of_rule held.old.config held.old.held packet.now cookie now
+    ensures answered { IsAnswered result (answer_of_rule held.old.config held.old.held packet.now
+        (packet_ruled held.old.config held.old.held (asked packet.now cookie)) cookie now
         (deciding_rule held.old.config held.old.held (asked packet.now cookie))) held.old held.new }
+    ensures going { going.new ≡ Some (going_of_state held.old.config held.old.held packet.now cookie None) }
     ensures visits { AreVisits held.old.config held.old.held packet.now cookie None visits.new }
     ensures free { NeedsNone held.old.config held.old.held packet.now cookie None → IsOk result }
     ensures no_looks { IfOk result (λ o. AreLooks held.old.config 0 o 0) }
 {
-    match held.decide(&asked(packet, cookie), visits) {
-        Some(rule) => by_action(held, packet, rule, cookie, now),
+    let decision = held.decide(&asked(packet, cookie), visits);
+    *going = Some(decision.packet.with_flags(packet.flags()));
+    match decision.rule {
+        Some(rule) => by_action(held, packet, &decision.packet, rule, cookie, now),
         None => Ok(passed(None, cookie)),
     }
 }
@@ -174,10 +185,11 @@ fn asked(packet: &Packet, cookie: bool) -> Packet
     })
 }
 
-/// What the rule that decides makes of it.
+/// What the rule that decides makes of it, which goes on as another packet.
 fn by_action<S: Store>(
     held: &mut Held<S>,
     packet: &Packet,
+    going: &Packet,
     rule: RuleNo,
     cookie: bool,
     now: u64,
@@ -185,7 +197,7 @@ fn by_action<S: Store>(
     requires fresh { state_with (key_of packet.now) held.old.held.world ≡ None }
     requires known { IsRuleAt held.old.config.items rule.0 }
     requires room { held.old.held.world.made < run_limit }
-    ensures answered { IsAnswered result (answer_of_rule held.old.config held.old.held packet.now cookie now (Some rule.0)) held.old held.new }
+    ensures answered { IsAnswered result (answer_of_rule held.old.config held.old.held packet.now going.now cookie now (Some rule.0)) held.old held.new }
     ensures free { NeedsNoneBy held.old.config held.old.held packet.now (Some rule.0) → IsOk result }
     ensures no_looks { IfOk result (λ o. AreLooks held.old.config 0 o 0) }
 {
@@ -193,9 +205,10 @@ fn by_action<S: Store>(
         unreachable!();
     };
     match &found.action {
+        Action::Match => Ok(passed(None, cookie)),
         Action::Block => Ok(Outcome::Block(rule)),
         Action::Pass => Ok(passed(Some(rule), cookie)),
-        Action::Keep(_) => match held.store.admit(packet, rule, cookie, now)? {
+        Action::Keep(_) => match held.store.admit(packet, going, rule, cookie, now)? {
             Ok(_) => Ok(made(&held.config, rule, packet, cookie)),
             Err(limit) => Ok(Outcome::Drop(rule, limit)),
         },

@@ -30,22 +30,27 @@ fn first_packet(config: &Config, packet: &Packet) -> Packet
     match packet.dir() {
         Dir::In => *packet,
         Dir::Out => match leaves_by(config, packet.src()) {
-            Some(interface) => packet.through(Dir::In, interface),
+            Some(interface) => packet.in_by(interface),
             None => *packet,
         },
     }
 }
 
-/// The event of a record at which its packet leaves, or pf's own SYN in its place, by what came of the first; none where that was the
-/// end of its way, or where it is for the firewall itself.
-pub(crate) fn second_event(config: &Config, row: &Event, first: &Outcome) -> Option<Event>
-    ensures event { result ≡ second_event config.now row.now first.now }
+/// The event of a record at which its packet leaves, or pf's own SYN in its place, by what came of the first, and as it goes on from there;
+/// none where that was the end of its way, or where it is for the firewall itself.
+pub(crate) fn second_event(
+    config: &Config,
+    row: &Event,
+    first: &Outcome,
+    going: &Option<Packet>,
+) -> Option<Event>
+    ensures event { result ≡ second_event config.now row.now first.now going.now }
     ensures packet { IfSome result (λ e. (e.time ≡ row.now.time) × IsPacket e.what) }
 {
     let Arrival::Packet(packet) = &row.what else {
         return None;
     };
-    let leaving = leaving(config, packet)?;
+    let leaving = leaving(config, packet, going.as_ref()?)?;
     let next = onward(first, &leaving)?;
     Some(Event {
         time: row.time,
@@ -53,18 +58,18 @@ pub(crate) fn second_event(config: &Config, row: &Event, first: &Outcome) -> Opt
     })
 }
 
-/// The packet of a record, as it leaves.
-fn leaving(config: &Config, packet: &Packet) -> Option<Packet>
-    ensures { result ≡ leaving config.now packet.now }
+/// The packet of a record as it leaves, which goes on so from where it came in.
+fn leaving(config: &Config, packet: &Packet, going: &Packet) -> Option<Packet>
+    ensures { result ≡ leaving config.now packet.now going.now }
 {
     match packet.dir() {
         Dir::In => {
-            let interface = leaves_by(config, packet.dst())?;
-            Some(packet.through(Dir::Out, interface))
+            let interface = leaves_by(config, going.dst())?;
+            Some(going.through(interface))
         }
         Dir::Out => {
             let _ = leaves_by(config, packet.src())?;
-            Some(*packet)
+            Some(going.through(packet.ifname()))
         }
     }
 }

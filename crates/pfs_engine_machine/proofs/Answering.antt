@@ -21,7 +21,7 @@ use Rattle.pfs_store_contract.specs.declared.records.Limit.{Limit}
 use Rattle.pfs_store_contract.specs.declared.records.State.{State}
 use Rattle.pfs_engine_machine.specs.Kept.{IsKept, IsWithinShared}
 use Rattle.pfs_engine_machine.specs.Guards.{Guard, asked, brings_cookie, gets_cookie}
-use Rattle.pfs_engine_machine.specs.Machine.{Held, answer_behind_guard, answer_to_packet, answer_of_action, answer_of_exceeded, answer_of_key, answer_of_limits, answer_of_rule, answer_of_state, answer_of_handshake, deciding_rule, exceeded_of, held_behind_guard, held_for, held_of, held_refused, outcome_of_held, outcome_of_new, outcome_of_pass}
+use Rattle.pfs_engine_machine.specs.Machine.{Held, answer_behind_guard, answer_to_packet, answer_of_action, answer_of_exceeded, answer_of_key, answer_of_limits, answer_of_rule, answer_of_state, answer_of_handshake, deciding_rule, exceeded_of, held_behind_guard, held_for, held_of, held_refused, outcome_of_held, outcome_of_new, outcome_of_pass, packet_ruled}
 use Rattle.pfs_engine_machine.specs.Refusals.{IsDropped, IsDroppedBehindGuard}
 use Rattle.pfs_engine_machine.specs.declared.events.Exceeded.{Exceeded}
 use Rattle.pfs_engine_machine.specs.declared.events.Outcome.{Outcome}
@@ -36,36 +36,37 @@ pub record Answers (conf : Conf) (m : Held) (p : PacketView) (cookie : Bool) (no
   pub passed : (rule : ℕ) → Q (outcome_of_pass (Some (record { 0 = rule })) cookie, m)
   pub blocked : (rule : ℕ) → Q (outcome.Block (record { 0 = rule }), m)
   pub refused : (rule : ℕ) (limit : Limit) → IsDropped conf m p cookie rule limit → Q (outcome.Drop (record { 0 = rule }) limit, held_refused conf m p now rule limit)
-  pub made : (rule : ℕ) → packet_limit conf m.world p rule ≡ None
-      → Q (outcome_of_new (record { 0 = rule }) (cookie || is_answered conf rule p), held_of (world_after_admission conf m.world p rule cookie now) m.tables)
+  pub made : (rule : ℕ) (going : PacketView) → packet_limit conf m.world p rule ≡ None
+      → Q (outcome_of_new (record { 0 = rule }) (cookie || is_answered conf rule p), held_of (world_after_admission conf m.world p going rule cookie now) m.tables)
 
 keeps_state : (found : Option Rule) (o : StateOptions) → (unwrap_or found no_rule).action ≡ action.Keep o
     → IsSome (option_and_then (λ (r : Rule). options_in r.action) found)
 keeps_state None o e = cc
 keeps_state (Some r) o e = rw e refl
 
-limit_answers : (conf : Conf) (m : Held) (p : PacketView) (cookie : Bool) (now rule : ℕ) (Q : Outcome × Held → Type 0) → Answers conf m p cookie now Q
+limit_answers : (conf : Conf) (m : Held) (p going : PacketView) (cookie : Bool) (now rule : ℕ) (Q : Outcome × Held → Type 0) → Answers conf m p cookie now Q
     → state_with (key_of p) m.world ≡ None → deciding_rule conf m (asked p cookie) ≡ Some rule → IsSome (options_at conf rule)
-    → (limit : Option Limit) → packet_limit conf m.world p rule ≡ limit → Q (answer_of_limits conf m p cookie now rule limit)
-limit_answers conf m p cookie now rule Q a fresh at keeps None e = a.made rule e
-limit_answers conf m p cookie now rule Q a fresh at keeps (Some l) e = a.refused rule l (record { fresh = fresh; rule_is = at; keeps = keeps; met = e })
+    → (limit : Option Limit) → packet_limit conf m.world p rule ≡ limit → Q (answer_of_limits conf m p going cookie now rule limit)
+limit_answers conf m p going cookie now rule Q a fresh at keeps None e = a.made rule going e
+limit_answers conf m p going cookie now rule Q a fresh at keeps (Some l) e = a.refused rule l (record { fresh = fresh; rule_is = at; keeps = keeps; met = e })
 
-action_answers : (conf : Conf) (m : Held) (p : PacketView) (cookie : Bool) (now rule : ℕ) (Q : Outcome × Held → Type 0) → Answers conf m p cookie now Q
+action_answers : (conf : Conf) (m : Held) (p going : PacketView) (cookie : Bool) (now rule : ℕ) (Q : Outcome × Held → Type 0) → Answers conf m p cookie now Q
     → state_with (key_of p) m.world ≡ None → deciding_rule conf m (asked p cookie) ≡ Some rule
-    → (what : Action) → (rule_of conf rule).action ≡ what → Q (answer_of_action conf m p cookie now rule what)
-action_answers conf m p cookie now rule Q a fresh at action.Block e = a.blocked rule
-action_answers conf m p cookie now rule Q a fresh at action.Pass e = a.passed rule
-action_answers conf m p cookie now rule Q a fresh at (action.Keep o) e =
-    limit_answers conf m p cookie now rule Q a fresh at (keeps_state (rule_at conf rule) o e) (packet_limit conf m.world p rule) refl
+    → (what : Action) → (rule_of conf rule).action ≡ what → Q (answer_of_action conf m p going cookie now rule what)
+action_answers conf m p going cookie now rule Q a fresh at action.Match e = a.passes
+action_answers conf m p going cookie now rule Q a fresh at action.Block e = a.blocked rule
+action_answers conf m p going cookie now rule Q a fresh at action.Pass e = a.passed rule
+action_answers conf m p going cookie now rule Q a fresh at (action.Keep o) e =
+    limit_answers conf m p going cookie now rule Q a fresh at (keeps_state (rule_at conf rule) o e) (packet_limit conf m.world p rule) refl
 
-rule_answers : (conf : Conf) (m : Held) (p : PacketView) (cookie : Bool) (now : ℕ) (Q : Outcome × Held → Type 0) → Answers conf m p cookie now Q
-    → state_with (key_of p) m.world ≡ None → (rule : Option ℕ) → deciding_rule conf m (asked p cookie) ≡ rule → Q (answer_of_rule conf m p cookie now rule)
-rule_answers conf m p cookie now Q a fresh None e = a.passes
-rule_answers conf m p cookie now Q a fresh (Some rule) e = action_answers conf m p cookie now rule Q a fresh e (rule_of conf rule).action refl
+rule_answers : (conf : Conf) (m : Held) (p going : PacketView) (cookie : Bool) (now : ℕ) (Q : Outcome × Held → Type 0) → Answers conf m p cookie now Q
+    → state_with (key_of p) m.world ≡ None → (rule : Option ℕ) → deciding_rule conf m (asked p cookie) ≡ rule → Q (answer_of_rule conf m p going cookie now rule)
+rule_answers conf m p going cookie now Q a fresh None e = a.passes
+rule_answers conf m p going cookie now Q a fresh (Some rule) e = action_answers conf m p going cookie now rule Q a fresh e (rule_of conf rule).action refl
 
 state_answers : (conf : Conf) (m : Held) (p : PacketView) (cookie : Bool) (now : ℕ) (Q : Outcome × Held → Type 0) → Answers conf m p cookie now Q
     → (found : Option State) → state_with (key_of p) m.world ≡ found → Q (answer_of_state conf m p cookie now found)
-state_answers conf m p cookie now Q a None e = rule_answers conf m p cookie now Q a e (deciding_rule conf m (asked p cookie)) refl
+state_answers conf m p cookie now Q a None e = rule_answers conf m p (packet_ruled conf m (asked p cookie)) cookie now Q a e (deciding_rule conf m (asked p cookie)) refl
 state_answers conf m p cookie now Q a (Some s) e = a.held s e
 
 pub answered_has : (conf : Conf) (m : Held) (p : PacketView) (cookie : Bool) (now : ℕ) (Q : Outcome × Held → Type 0) → Answers conf m p cookie now Q → Q (answer_of_key conf m p cookie now)
@@ -138,7 +139,7 @@ refused_only conf m p cookie now = answered_has conf m p cookie now (RefusedOnly
       let limits : l ≡ limit = cc in
       let number : r ≡ rule.0 = ap (λ (x : RuleNo). x.0) rules in
       (rw (sym number, sym limits) is, ap (λ (n : ℕ). held_refused conf m p now n l) number ∙ ap (λ (x : Limit). held_refused conf m p now rule.0 x) limits);
-  made = λ r none rule limit e. refuse-new (numbered r) (cookie || is_answered conf r p) rule limit e;
+  made = λ r going none rule limit e. refuse-new (numbered r) (cookie || is_answered conf r p) rule limit e;
 })
 
 -- ---- none gets a cookie by rules; and one for which no rule keeps state leaves all as it is
@@ -166,7 +167,7 @@ no_cookie_by_rules conf m p cookie now = answered_has conf m p cookie now (λ (a
   passed = λ r. pass-given (Some (numbered r)) cookie;
   blocked = λ r e. cc;
   refused = λ r l is e. cc;
-  made = λ r none. new-given (numbered r) (cookie || is_answered conf r p);
+  made = λ r going none. new-given (numbered r) (cookie || is_answered conf r p);
 })
 
 abbrev pub LeavesAll : Held → Bool → Outcome × Held → Type 0
@@ -179,7 +180,7 @@ stateless_leaves_all conf m p cookie now = answered_has conf m p cookie now (Lea
   passed = λ r rule e. (pass-brought (Some (numbered r)) cookie rule e, refl);
   blocked = λ r rule e. cc;
   refused = λ r l is rule e. cc;
-  made = λ r none rule e. absurd (new-brought (numbered r) (cookie || is_answered conf r p) rule e);
+  made = λ r going none rule e. absurd (new-brought (numbered r) (cookie || is_answered conf r p) rule e);
 })
 
 abbrev pub MadeShared : Conf → Held → PacketView → Outcome × Held → Type 0
@@ -230,11 +231,11 @@ made_shared conf m p cookie now config kept = answered_has conf m p cookie now (
   passed = λ r rule answered e. absurd (let no = sym (maker-pass (Some (numbered r)) cookie) ∙ made-by _ rule answered e in cc);
   blocked = λ r rule answered e. absurd (let no = made-by _ rule answered e in cc);
   refused = λ r l is rule answered e. absurd (let no = made-by _ rule answered e in cc);
-  made = λ r none rule answered e global.
+  made = λ r going none rule answered e global.
       let some : Some (numbered r) ≡ Some rule = sym (maker-new (numbered r) (cookie || is_answered conf r p)) ∙ made-by _ rule answered e in
       let same : numbered r ≡ rule = cc in
       let number : r ≡ rule.0 = ap (λ (x : RuleNo). x.0) same in
-      rw (sym number) (shared_admitted conf m p cookie r now config none (rw (sym number) at global) kept);
+      rw (sym number) (shared_admitted conf m p going cookie r now config none (rw (sym number) at global) kept);
 })
 
 -- ---- behind the guard

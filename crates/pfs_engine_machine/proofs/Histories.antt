@@ -99,10 +99,10 @@ more-count rule source seconds now history count count' nodes h noded r = record
   noded = noded;
 }
 
-admitted-in : (conf : Conf) (rule : ℕ) (source : Addr) (x : Rate) (now : ℕ) (history : Score) (w : World) (p : PacketView) (cookie : Bool) (other at : ℕ) → IsRated conf rule x
-    → RemembersIn conf rule source x.seconds now history w → RemembersIn conf rule source x.seconds now history (world_after_admission conf w p other cookie at)
-admitted-in conf rule source x now history w p cookie other at i r =
-    let new : State = new_state conf (w.made + 1) p other cookie at in
+admitted-in : (conf : Conf) (rule : ℕ) (source : Addr) (x : Rate) (now : ℕ) (history : Score) (w : World) (p going : PacketView) (cookie : Bool) (other at : ℕ) → IsRated conf rule x
+    → RemembersIn conf rule source x.seconds now history w → RemembersIn conf rule source x.seconds now history (world_after_admission conf w p going other cookie at)
+admitted-in conf rule source x now history w p going cookie other at i r =
+    let new : State = new_state conf (w.made + 1) p going other cookie at in
     let before : ℕ = node_states conf (own_scope rule) source w.states in
     let grown = count-push (is_of_node conf (own_scope rule) source) w.states new in
     let nodes : List Node = nodes_with w.nodes (w.made + 1) p.source.addr at (node_scope_of conf other) in
@@ -111,8 +111,8 @@ admitted-in conf rule source x now history w p cookie other at i r =
     (λ some. go ((other == rule) && same_addr p.source.addr source) refl grown some held.noded) held
   where
     go : (b : Bool) → ((other == rule) && same_addr p.source.addr source) ≡ b
-        → node_states conf (own_scope rule) source (w.states ++ new_state conf (w.made + 1) p other cookie at ∷ []) ≡ node_states conf (own_scope rule) source w.states + cond b 1 0
-        → 0 < node_states conf (own_scope rule) source (w.states ++ new_state conf (w.made + 1) p other cookie at ∷ [])
+        → node_states conf (own_scope rule) source (w.states ++ new_state conf (w.made + 1) p going other cookie at ∷ []) ≡ node_states conf (own_scope rule) source w.states + cond b 1 0
+        → 0 < node_states conf (own_scope rule) source (w.states ++ new_state conf (w.made + 1) p going other cookie at ∷ [])
         → (0 < node_states conf (own_scope rule) source w.states → has_node (own_scope rule) source (nodes_with w.nodes (w.made + 1) p.source.addr at (node_scope_of conf other)) ≡ true)
         → has_node (own_scope rule) source (nodes_with w.nodes (w.made + 1) p.source.addr at (node_scope_of conf other)) ≡ true
     go true e g some h =
@@ -161,7 +161,7 @@ packet-in : (conf : Conf) (rule : ℕ) (source : Addr) (x : Rate) (now : ℕ) (h
     → Changes conf w p cookie now (RemembersIn conf rule source x.seconds now (heard rule source x.seconds history now (completed_state p (state_with (key_of p) w))))
 packet-in conf rule source x now history w p cookie i r = record {
   passes = λ fresh. given (state_with (key_of p) w) None w fresh r;
-  admits = λ other fresh none. given (state_with (key_of p) w) None (world_after_admission conf w p other cookie now) fresh (admitted-in conf rule source x now history w p cookie other now i r);
+  admits = λ other going fresh none. given (state_with (key_of p) w) None (world_after_admission conf w p going other cookie now) fresh (admitted-in conf rule source x now history w p going cookie other now i r);
   touches = λ s found. given (state_with (key_of p) w) (Some s) (world_after_touch conf w s p now) found (touched-in conf rule source x now history w p s i found r);
   refuses = λ other limit fresh met. given (state_with (key_of p) w) None (world_after_refusal conf w p.source.addr other now limit) fresh
       (refused-in conf rule source x.seconds now history w p other now limit r);

@@ -61,15 +61,15 @@ room_states conf w rule source found sound whole at free noded n is = by (has_no
         omega (arith, none_without_node conf found source w.nodes whole e w.states noded, count.0)
 
 -- the states of each source of a rule that tracks sources by itself
-states_with : (conf : Conf) (w : World) (p : PacketView) (cookie : Bool) (rule now other : ℕ) (source : Addr) → IsConfig conf → TracksAlone conf other
+states_with : (conf : Conf) (w : World) (p going : PacketView) (cookie : Bool) (rule now other : ℕ) (source : Addr) → IsConfig conf → TracksAlone conf other
     → MeetsNone conf w rule p.source.addr → All (HasNode conf w.nodes) w.states
     → (n : ℕ) → (options_of conf other).max_src_states ≡ Some n → node_states conf (own_scope other) source w.states ≤ n
-    → node_states conf (own_scope other) source (world_after_admission conf w p rule cookie now).states ≤ n
-states_with conf w p cookie rule now other source sound alone free noded n is before =
-    by (is_of_node conf (own_scope other) source (new_state conf (w.made + 1) p rule cookie now)) refl
+    → node_states conf (own_scope other) source (world_after_admission conf w p going rule cookie now).states ≤ n
+states_with conf w p going cookie rule now other source sound alone free noded n is before =
+    by (is_of_node conf (own_scope other) source (new_state conf (w.made + 1) p going rule cookie now)) refl
   where
-    by : (b : Bool) → is_of_node conf (own_scope other) source (new_state conf (w.made + 1) p rule cookie now) ≡ b
-        → node_states conf (own_scope other) source (w.states ++ new_state conf (w.made + 1) p rule cookie now ∷ []) ≤ n
+    by : (b : Bool) → is_of_node conf (own_scope other) source (new_state conf (w.made + 1) p going rule cookie now) ≡ b
+        → node_states conf (own_scope other) source (w.states ++ new_state conf (w.made + 1) p going rule cookie now ∷ []) ≤ n
     by true e =
         let one = (and_parts (rule == other) (same_addr p.source.addr source) e).0 in
         let same : other ≡ rule = grind (arith, nat_tests) in
@@ -78,9 +78,9 @@ states_with conf w p cookie rule now other source sound alone free noded n is be
         let max : (options_of conf rule).max_src_states ≡ Some n = sym (ap (λ i. (options_of conf i).max_src_states) same) ∙ is in
         let room = room_states conf w rule p.source.addr (own_scope rule) sound (own_scope-IsScopeOf conf rule own) (scope-alone conf rule own) free.sources noded n max in
         let count : node_states conf (own_scope other) source w.states ≡ node_states conf (own_scope rule) p.source.addr w.states = rw (same, from) refl in
-        omega (arith, count-push_passing (is_of_node conf (own_scope other) source) w.states (new_state conf (w.made + 1) p rule cookie now) e, count, room)
+        omega (arith, count-push_passing (is_of_node conf (own_scope other) source) w.states (new_state conf (w.made + 1) p going rule cookie now) e, count, room)
     by false e =
-        omega (arith, count-push_failing (is_of_node conf (own_scope other) source) w.states (new_state conf (w.made + 1) p rule cookie now) e, before)
+        omega (arith, count-push_failing (is_of_node conf (own_scope other) source) w.states (new_state conf (w.made + 1) p going rule cookie now) e, before)
 
 -- a new state is no connection
 undone : (full : Bool) (p : Proto) → is_done (first_phase full p) ≡ false
@@ -97,24 +97,24 @@ undone_new conf rule p false = by (is_answered conf rule p)
     by true = refl
     by false = undone (tracks_fully conf rule) p.proto
 
-connections_with : (conf : Conf) (w : World) (p : PacketView) (cookie : Bool) (rule now : ℕ) (found : NodeScope) (source : Addr)
-    → node_connections conf found source (world_after_admission conf w p rule cookie now).states ≡ node_connections conf found source w.states
-connections_with conf w p cookie rule now found source =
-    count-push_failing (is_connection conf found source) w.states (new_state conf (w.made + 1) p rule cookie now)
-    (ap (λ b. b && is_of_node conf found source (new_state conf (w.made + 1) p rule cookie now)) (undone_new conf rule p cookie))
+connections_with : (conf : Conf) (w : World) (p going : PacketView) (cookie : Bool) (rule now : ℕ) (found : NodeScope) (source : Addr)
+    → node_connections conf found source (world_after_admission conf w p going rule cookie now).states ≡ node_connections conf found source w.states
+connections_with conf w p going cookie rule now found source =
+    count-push_failing (is_connection conf found source) w.states (new_state conf (w.made + 1) p going rule cookie now)
+    (ap (λ b. b && is_of_node conf found source (new_state conf (w.made + 1) p going rule cookie now)) (undone_new conf rule p cookie))
 
 -- the states of each rule
-rule_states_with : (conf : Conf) (w : World) (p : PacketView) (cookie : Bool) (rule now other : ℕ) → MeetsNone conf w rule p.source.addr
-    → (n : ℕ) → (options_of conf other).max ≡ Some n → rule_states other w.states ≤ n → rule_states other (world_after_admission conf w p rule cookie now).states ≤ n
-rule_states_with conf w p cookie rule now other free n is before = by (rule == other) refl
+rule_states_with : (conf : Conf) (w : World) (p going : PacketView) (cookie : Bool) (rule now other : ℕ) → MeetsNone conf w rule p.source.addr
+    → (n : ℕ) → (options_of conf other).max ≡ Some n → rule_states other w.states ≤ n → rule_states other (world_after_admission conf w p going rule cookie now).states ≤ n
+rule_states_with conf w p going cookie rule now other free n is before = by (rule == other) refl
   where
-    by : (b : Bool) → (rule == other) ≡ b → rule_states other (w.states ++ new_state conf (w.made + 1) p rule cookie now ∷ []) ≤ n
+    by : (b : Bool) → (rule == other) ≡ b → rule_states other (w.states ++ new_state conf (w.made + 1) p going rule cookie now ∷ []) ≤ n
     by true e =
         let same : other ≡ rule = grind (arith, nat_tests) in
         let max : (options_of conf rule).max ≡ Some n = sym (ap (λ i. (options_of conf i).max) same) ∙ is in
         let room = not_reached (options_of conf rule).max (rule_states rule w.states) n free.most max in
-        omega (arith, count-push_passing (is_of_rule other) w.states (new_state conf (w.made + 1) p rule cookie now) e, ap (λ i. rule_states i w.states) same, room)
-    by false e = omega (arith, count-push_failing (is_of_rule other) w.states (new_state conf (w.made + 1) p rule cookie now) e, before)
+        omega (arith, count-push_passing (is_of_rule other) w.states (new_state conf (w.made + 1) p going rule cookie now) e, ap (λ i. rule_states i w.states) same, room)
+    by false e = omega (arith, count-push_failing (is_of_rule other) w.states (new_state conf (w.made + 1) p going rule cookie now) e, before)
 
 -- ---- the nodes
 
@@ -185,11 +185,11 @@ nodes_with-own nodes number now source found = by (has_node found source nodes) 
     by true e = e
     by false e = any-push (is_node found source) nodes (new_node number found source now) ∙ rw (e, same_scope_self found, same_addr_self source) refl
 
-noded_with : (conf : Conf) (w : World) (p : PacketView) (cookie : Bool) (rule now : ℕ) → All (HasNode conf w.nodes) w.states
-    → All (HasNode conf (world_after_admission conf w p rule cookie now).nodes) (world_after_admission conf w p rule cookie now).states
-noded_with conf w p cookie rule now h =
+noded_with : (conf : Conf) (w : World) (p going : PacketView) (cookie : Bool) (rule now : ℕ) → All (HasNode conf w.nodes) w.states
+    → All (HasNode conf (world_after_admission conf w p going rule cookie now).nodes) (world_after_admission conf w p going rule cookie now).states
+noded_with conf w p going cookie rule now h =
     let nodes = nodes_with w.nodes (w.made + 1) p.source.addr now (node_scope_of conf rule) in
-    All-push (HasNode conf nodes) w.states (new_state conf (w.made + 1) p rule cookie now)
+    All-push (HasNode conf nodes) w.states (new_state conf (w.made + 1) p going rule cookie now)
     (All-weaker (HasNode conf w.nodes) (HasNode conf nodes)
     (λ s k found is. nodes_with-more w.nodes (w.made + 1) now p.source.addr (node_scope_of conf rule) found s.source (k found is)) w.states h)
     (λ found is. ap (λ at. has_node found p.source.addr (nodes_with w.nodes (w.made + 1) p.source.addr now at)) is ∙ nodes_with-own w.nodes (w.made + 1) now p.source.addr found)
@@ -221,8 +221,8 @@ phase_new conf rule p false tcp = by (is_answered conf rule p) refl
     by false e = phase_first (tracks_fully conf rule) p.proto
 
 -- the source of a packet is in its key
-source_first : (conf : Conf) (number rule now : ℕ) (p : PacketView) (cookie : Bool) → HasSource (new_state conf number p rule cookie now)
-source_first conf number rule now p cookie = by p.dir
+source_first : (conf : Conf) (number rule now : ℕ) (p going : PacketView) (cookie : Bool) → HasSource (new_state conf number p going rule cookie now)
+source_first conf number rule now p going cookie = by p.dir
   where
     by : (d : Dir) → (end_on d (record { proto = p.proto; a = first_end d p; b = second_end d p })).addr ≡ p.source.addr
     by dir.In = refl
@@ -230,33 +230,33 @@ source_first conf number rule now p cookie = by p.dir
 
 -- ---- what is kept
 
-pub kept_admitted : (conf : Conf) (m : Held) (p : PacketView) (cookie : Bool) (rule now : ℕ) → IsConfig conf → IsTcpWith cookie p.proto → state_with (key_of p) m.world ≡ None
+pub kept_admitted : (conf : Conf) (m : Held) (p going : PacketView) (cookie : Bool) (rule now : ℕ) → IsConfig conf → IsTcpWith cookie p.proto → state_with (key_of p) m.world ≡ None
     → packet_limit conf m.world p rule ≡ None → IsKept conf m now
-    → IsKept conf (held_of (world_after_admission conf m.world p rule cookie now) m.tables) now
-kept_admitted conf m p cookie rule now sound tcp fresh met k =
+    → IsKept conf (held_of (world_after_admission conf m.world p going rule cookie now) m.tables) now
+kept_admitted conf m p going cookie rule now sound tcp fresh met k =
     let w = m.world in
-    let new = new_state conf (w.made + 1) p rule cookie now in
+    let new = new_state conf (w.made + 1) p going rule cookie now in
     let free = meets_none conf w rule p.source.addr met in
     record {
       limits = record {
         states = omega (arith, length-append w.states (new ∷ []), free.room);
         nodes = nodes_room conf w (options_of conf rule) p.source.addr (w.made + 1) now (node_scope_of conf rule) free.sources k.limits.nodes;
         entries = k.limits.entries;
-        rule_states = λ other n is. rule_states_with conf w p cookie rule now other free n is (k.limits.rule_states other n is);
+        rule_states = λ other n is. rule_states_with conf w p going cookie rule now other free n is (k.limits.rule_states other n is);
         source_nodes = λ other alone n is.
             scope_nodes_with conf w rule (w.made + 1) now other p.source.addr (node_scope_of conf rule) refl free.sources n is (k.limits.source_nodes other alone n is);
         source_states = λ other source alone n is.
-            states_with conf w p cookie rule now other source sound alone free k.noded n is (k.limits.source_states other source alone n is);
+            states_with conf w p going cookie rule now other source sound alone free k.noded n is (k.limits.source_states other source alone n is);
         source_connections = λ other source alone n is.
-            omega (arith, connections_with conf w p cookie rule now (own_scope other) source, k.limits.source_connections other source alone n is);
+            omega (arith, connections_with conf w p going cookie rule now (own_scope other) source, k.limits.source_connections other source alone n is);
       };
       numbers = Rise-push 0 w.made w.states new k.numbers (omega arith);
       keys = keys-push w.states new fresh k.keys;
-      noded = noded_with conf w p cookie rule now k.noded;
-      sources = All-push HasSource w.states new k.sources (source_first conf (w.made + 1) rule now p cookie);
+      noded = noded_with conf w p going cookie rule now k.noded;
+      sources = All-push HasSource w.states new k.sources (source_first conf (w.made + 1) rule now p going cookie);
       phases = All-push (λ (s : State). IsPhaseOf s.key.proto s.phase) w.states new k.phases (phase_new conf rule p cookie tcp);
       tables = k.tables;
-      moments = world_at-up_to_now conf w p rule cookie now None k.moments;
+      moments = world_at-up_to_now conf w p going rule cookie now None k.moments;
     }
 
 -- a node without a state, of a source that meets no limit
@@ -284,7 +284,7 @@ kept_stray conf m p rule now free k =
       phases = k.phases;
       sources = k.sources;
       tables = k.tables;
-      moments = world_at-up_to_now conf w p rule false now None k.moments;
+      moments = world_at-up_to_now conf w p p rule false now None k.moments;
     }
 
 pub kept_refused : (conf : Conf) (m : Held) (p : PacketView) (rule now : ℕ) (l : Limit) → packet_limit conf m.world p rule ≡ Some l → IsKept conf m now
@@ -293,12 +293,12 @@ kept_refused conf m p rule now l met k =
     refused_has conf m.world rule p.source.addr now l (λ (w : World). IsKept conf (held_of w m.tables) now) met k (λ free. kept_stray conf m p rule now free k)
 
 -- directly after it, the maxima of a rule with shared nodes hold too
-pub shared_admitted : (conf : Conf) (m : Held) (p : PacketView) (cookie : Bool) (rule now : ℕ) → IsConfig conf
+pub shared_admitted : (conf : Conf) (m : Held) (p going : PacketView) (cookie : Bool) (rule now : ℕ) → IsConfig conf
     → packet_limit conf m.world p rule ≡ None → scope_of conf rule ≡ Some scope.Global → IsKept conf m now
-    → IsWithinShared conf rule p.source.addr m.world (world_after_admission conf m.world p rule cookie now)
-shared_admitted conf m p cookie rule now sound met shared k =
+    → IsWithinShared conf rule p.source.addr m.world (world_after_admission conf m.world p going rule cookie now)
+shared_admitted conf m p going cookie rule now sound met shared k =
     let w = m.world in
-    let new = new_state conf (w.made + 1) p rule cookie now in
+    let new = new_state conf (w.made + 1) p going rule cookie now in
     let free = meets_none conf w rule p.source.addr met in
     let own = scope-shared conf rule shared in
     record {

@@ -13,7 +13,7 @@ use Rattle.pfs_store_contract.specs.declared.records.Limit.{Limit}
 use Rattle.pfs_store_contract.specs.declared.records.State.{State}
 use Rattle.pfs_engine_machine.specs.Kept.{IsKept}
 use Rattle.pfs_engine_machine.specs.Guards.{Guard, asked, brings_cookie, gets_cookie}
-use Rattle.pfs_engine_machine.specs.Machine.{Held, answer_behind_guard, answer_of_action, answer_of_key, answer_of_limits, answer_of_rule, answer_of_state, answer_to_packet, deciding_rule, held_behind_guard, held_for, held_refused}
+use Rattle.pfs_engine_machine.specs.Machine.{Held, answer_behind_guard, answer_of_action, answer_of_key, answer_of_limits, answer_of_rule, answer_of_state, answer_to_packet, deciding_rule, held_behind_guard, held_for, held_refused, packet_ruled}
 use Rattle.pfs_engine_machine.specs.declared.events.Outcome.TheVariants as outcome
 use Rattle.pfs_engine_machine.proofs.GuardLaws.{IsTcpWith, brought-tcp}
 use Rattle.pfs_engine_machine.proofs.KeptAdmission.{kept_admitted, kept_refused}
@@ -21,25 +21,26 @@ use Rattle.pfs_engine_machine.proofs.KeptHandshakes.{kept_held, made_held}
 use Rattle.pfs_engine_machine.proofs.Limits.{world_with_stray}
 use Rattle.pfs_engine_machine.proofs.Reopening.{kept_met, made_met}
 
-kept_limit : (conf : Conf) (m : Held) (p : PacketView) (cookie : Bool) (now rule : ℕ) → IsConfig conf → IsTcpWith cookie p.proto → IsKept conf m now → state_with (key_of p) m.world ≡ None
-    → (limit : Option Limit) → packet_limit conf m.world p rule ≡ limit → IsKept conf (answer_of_limits conf m p cookie now rule limit).1 now
-kept_limit conf m p cookie now rule c tcp k fresh None e = kept_admitted conf m p cookie rule now c tcp fresh e k
-kept_limit conf m p cookie now rule c tcp k fresh (Some l) e = kept_refused conf m p rule now l e k
+kept_limit : (conf : Conf) (m : Held) (p going : PacketView) (cookie : Bool) (now rule : ℕ) → IsConfig conf → IsTcpWith cookie p.proto → IsKept conf m now → state_with (key_of p) m.world ≡ None
+    → (limit : Option Limit) → packet_limit conf m.world p rule ≡ limit → IsKept conf (answer_of_limits conf m p going cookie now rule limit).1 now
+kept_limit conf m p going cookie now rule c tcp k fresh None e = kept_admitted conf m p going cookie rule now c tcp fresh e k
+kept_limit conf m p going cookie now rule c tcp k fresh (Some l) e = kept_refused conf m p rule now l e k
 
-kept_action : (conf : Conf) (m : Held) (p : PacketView) (cookie : Bool) (now rule : ℕ) → IsConfig conf → IsTcpWith cookie p.proto → IsKept conf m now → state_with (key_of p) m.world ≡ None
-    → (what : Action) → IsKept conf (answer_of_action conf m p cookie now rule what).1 now
-kept_action conf m p cookie now rule c tcp k fresh action.Block = k
-kept_action conf m p cookie now rule c tcp k fresh action.Pass = k
-kept_action conf m p cookie now rule c tcp k fresh (action.Keep o) = kept_limit conf m p cookie now rule c tcp k fresh (packet_limit conf m.world p rule) refl
+kept_action : (conf : Conf) (m : Held) (p going : PacketView) (cookie : Bool) (now rule : ℕ) → IsConfig conf → IsTcpWith cookie p.proto → IsKept conf m now → state_with (key_of p) m.world ≡ None
+    → (what : Action) → IsKept conf (answer_of_action conf m p going cookie now rule what).1 now
+kept_action conf m p going cookie now rule c tcp k fresh action.Match = k
+kept_action conf m p going cookie now rule c tcp k fresh action.Block = k
+kept_action conf m p going cookie now rule c tcp k fresh action.Pass = k
+kept_action conf m p going cookie now rule c tcp k fresh (action.Keep o) = kept_limit conf m p going cookie now rule c tcp k fresh (packet_limit conf m.world p rule) refl
 
-kept_rule : (conf : Conf) (m : Held) (p : PacketView) (cookie : Bool) (now : ℕ) → IsConfig conf → IsTcpWith cookie p.proto → IsKept conf m now → state_with (key_of p) m.world ≡ None
-    → (rule : Option ℕ) → IsKept conf (answer_of_rule conf m p cookie now rule).1 now
-kept_rule conf m p cookie now c tcp k fresh None = k
-kept_rule conf m p cookie now c tcp k fresh (Some rule) = kept_action conf m p cookie now rule c tcp k fresh (rule_of conf rule).action
+kept_rule : (conf : Conf) (m : Held) (p going : PacketView) (cookie : Bool) (now : ℕ) → IsConfig conf → IsTcpWith cookie p.proto → IsKept conf m now → state_with (key_of p) m.world ≡ None
+    → (rule : Option ℕ) → IsKept conf (answer_of_rule conf m p going cookie now rule).1 now
+kept_rule conf m p going cookie now c tcp k fresh None = k
+kept_rule conf m p going cookie now c tcp k fresh (Some rule) = kept_action conf m p going cookie now rule c tcp k fresh (rule_of conf rule).action
 
 kept_state : (conf : Conf) (m : Held) (p : PacketView) (cookie : Bool) (now : ℕ) → IsConfig conf → IsTcpWith cookie p.proto → IsKept conf m now
     → (found : Option State) → state_with (key_of p) m.world ≡ found → IsKept conf (answer_of_state conf m p cookie now found).1 now
-kept_state conf m p cookie now c tcp k None e = kept_rule conf m p cookie now c tcp k e (deciding_rule conf m (asked p cookie))
+kept_state conf m p cookie now c tcp k None e = kept_rule conf m p (packet_ruled conf m (asked p cookie)) cookie now c tcp k e (deciding_rule conf m (asked p cookie))
 kept_state conf m p cookie now c tcp k (Some s) e = kept_held conf m p cookie now s e k
 
 -- of what it meets
@@ -78,21 +79,22 @@ made_refused conf m p now rule l = by (leaves_node conf m.world p.source.addr ru
     by true = omega arith
     by false = omega arith
 
-made_limit : (conf : Conf) (m : Held) (p : PacketView) (cookie : Bool) (now rule : ℕ) (limit : Option Limit) → (answer_of_limits conf m p cookie now rule limit).1.world.made ≤ m.world.made + 1
-made_limit conf m p cookie now rule None = omega arith
-made_limit conf m p cookie now rule (Some l) = made_refused conf m p now rule l
+made_limit : (conf : Conf) (m : Held) (p going : PacketView) (cookie : Bool) (now rule : ℕ) (limit : Option Limit) → (answer_of_limits conf m p going cookie now rule limit).1.world.made ≤ m.world.made + 1
+made_limit conf m p going cookie now rule None = omega arith
+made_limit conf m p going cookie now rule (Some l) = made_refused conf m p now rule l
 
-made_action : (conf : Conf) (m : Held) (p : PacketView) (cookie : Bool) (now rule : ℕ) (what : Action) → (answer_of_action conf m p cookie now rule what).1.world.made ≤ m.world.made + 1
-made_action conf m p cookie now rule action.Block = omega arith
-made_action conf m p cookie now rule action.Pass = omega arith
-made_action conf m p cookie now rule (action.Keep o) = made_limit conf m p cookie now rule (packet_limit conf m.world p rule)
+made_action : (conf : Conf) (m : Held) (p going : PacketView) (cookie : Bool) (now rule : ℕ) (what : Action) → (answer_of_action conf m p going cookie now rule what).1.world.made ≤ m.world.made + 1
+made_action conf m p going cookie now rule action.Match = omega arith
+made_action conf m p going cookie now rule action.Block = omega arith
+made_action conf m p going cookie now rule action.Pass = omega arith
+made_action conf m p going cookie now rule (action.Keep o) = made_limit conf m p going cookie now rule (packet_limit conf m.world p rule)
 
-made_rule : (conf : Conf) (m : Held) (p : PacketView) (cookie : Bool) (now : ℕ) (rule : Option ℕ) → (answer_of_rule conf m p cookie now rule).1.world.made ≤ m.world.made + 1
-made_rule conf m p cookie now None = omega arith
-made_rule conf m p cookie now (Some rule) = made_action conf m p cookie now rule (rule_of conf rule).action
+made_rule : (conf : Conf) (m : Held) (p going : PacketView) (cookie : Bool) (now : ℕ) (rule : Option ℕ) → (answer_of_rule conf m p going cookie now rule).1.world.made ≤ m.world.made + 1
+made_rule conf m p going cookie now None = omega arith
+made_rule conf m p going cookie now (Some rule) = made_action conf m p going cookie now rule (rule_of conf rule).action
 
 made_state : (conf : Conf) (m : Held) (p : PacketView) (cookie : Bool) (now : ℕ) (found : Option State) → (answer_of_state conf m p cookie now found).1.world.made ≤ m.world.made + 1
-made_state conf m p cookie now None = made_rule conf m p cookie now (deciding_rule conf m (asked p cookie))
+made_state conf m p cookie now None = made_rule conf m p (packet_ruled conf m (asked p cookie)) cookie now (deciding_rule conf m (asked p cookie))
 made_state conf m p cookie now (Some s) = omega (arith, made_held conf m p cookie now s)
 
 pub made_key : (conf : Conf) (m : Held) (p : PacketView) (cookie : Bool) (now : ℕ) → (answer_of_key conf m p cookie now).1.world.made ≤ m.world.made + 1

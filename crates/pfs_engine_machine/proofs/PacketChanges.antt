@@ -20,7 +20,7 @@ use Rattle.pfs_engine_machine.specs.declared.events.Outcome.{Outcome}
 -- a fact of what a packet leaves, from what it may do to what it meets
 pub record Changes (conf : Conf) (w : World) (p : PacketView) (cookie : Bool) (now : ℕ) (Q : World → Type 0) : Type 0 where
   pub passes : state_with (key_of p) w ≡ None → Q w
-  pub admits : (rule : ℕ) → state_with (key_of p) w ≡ None → packet_limit conf w p rule ≡ None → Q (world_after_admission conf w p rule cookie now)
+  pub admits : (rule : ℕ) (going : PacketView) → state_with (key_of p) w ≡ None → packet_limit conf w p rule ≡ None → Q (world_after_admission conf w p going rule cookie now)
   pub refuses : (rule : ℕ) (limit : Limit) → state_with (key_of p) w ≡ None → packet_limit conf w p rule ≡ Some limit → Q (world_after_refusal conf w p.source.addr rule now limit)
   pub touches : (s : State) → state_with (key_of p) w ≡ Some s → Q (world_after_touch conf w s p now)
   pub kills : (v : World) (stays : State → Bool) → Q v → Q (world_without conf v stays now)
@@ -43,7 +43,7 @@ key_has conf h p cookie now Q c = go (state_with (key_of p) h.world) refl
       passed = λ rule. c.passes fresh;
       blocked = λ rule. c.passes fresh;
       refused = λ rule limit is. c.refuses rule limit fresh is.met;
-      made = λ rule none. c.admits rule fresh none;
+      made = λ rule going none. c.admits rule going fresh none;
     })
     go (Some s) found =
         subst (λ (o : Option State). Q (answer_of_state conf h p cookie now o).1.world) (sym found)
@@ -54,14 +54,14 @@ key_has conf h p cookie now Q c = go (state_with (key_of p) h.world) refl
 pub record IsKeptByPackets (conf : Conf) (P : World → Type 0) : Type 0 where
   pub touches : (w : World) (s : State) (p : PacketView) (now : ℕ) → P w → P (world_after_touch conf w s p now)
   pub kills : (w : World) (stays : State → Bool) (now : ℕ) → P w → P (world_without conf w stays now)
-  pub admits : (w : World) (p : PacketView) (cookie : Bool) (rule now : ℕ) → packet_limit conf w p rule ≡ None → P w → P (world_after_admission conf w p rule cookie now)
+  pub admits : (w : World) (p going : PacketView) (cookie : Bool) (rule now : ℕ) → packet_limit conf w p rule ≡ None → P w → P (world_after_admission conf w p going rule cookie now)
   pub refuses : (w : World) (p : PacketView) (rule now : ℕ) (limit : Limit) → packet_limit conf w p rule ≡ Some limit → P w
       → P (world_after_refusal conf w p.source.addr rule now limit)
 
 key_keeps : (conf : Conf) (P : World → Type 0) → IsKeptByPackets conf P → (h : Held) (p : PacketView) (cookie : Bool) (now : ℕ) → P h.world → P (answer_of_key conf h p cookie now).1.world
 key_keeps conf P k h p cookie now i = key_has conf h p cookie now P (record {
   passes = λ fresh. i;
-  admits = λ rule fresh none. k.admits h.world p cookie rule now none i;
+  admits = λ rule going fresh none. k.admits h.world p going cookie rule now none i;
   refuses = λ rule limit fresh met. k.refuses h.world p rule now limit met i;
   touches = λ s found. k.touches h.world s p now i;
   kills = λ v stays j. k.kills v stays now j;

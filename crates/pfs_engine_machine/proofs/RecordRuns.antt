@@ -4,9 +4,9 @@ use Rattle.std.specs.Option.{ForSome}
 use Rattle.std.specs.Prelude.{option_map, unwrap_or}
 use Rattle.pfs_addr_values.specs.Packets.{PacketView}
 use Rattle.pfs_conf_values.specs.Configs.{Conf}
-use Rattle.pfs_engine_machine.specs.Machine.{Machine, machine_after, outcomes_of, step}
+use Rattle.pfs_engine_machine.specs.Machine.{Machine, machine_after, outcomes_of, step, sent_on}
 use Rattle.pfs_engine_machine.specs.Runs.{IsInOrder}
-use Rattle.pfs_engine_machine.specs.Ways.{events_of_record, events_of_records, events_on, first_event, machine_after_ways, outcomes_in, outcomes_on, second_event, way, way_on, ways_of, second_packet}
+use Rattle.pfs_engine_machine.specs.Ways.{events_of_record, events_of_records, events_on, first_event, machine_after_ways, outcomes_in, outcomes_on, second_event, second_of_record, way, way_on, ways_of, second_packet}
 use Rattle.pfs_engine_machine.specs.declared.events.Arrival.TheVariants as arrival
 use Rattle.pfs_engine_machine.specs.declared.events.Event.{Event}
 use Rattle.pfs_engine_machine.specs.declared.events.Outcome.{Outcome}
@@ -26,7 +26,7 @@ on-machine conf m e (Some f) = refl
 
 pub record-machine : (conf : Conf) (m : Machine) (e : Event) → (way conf m e).1 ≡ machine_after conf m (events_of_record conf m e)
 unfolding way
-record-machine conf m e = on-machine conf m (first_event conf e) (second_event conf e (step conf m (first_event conf e)).0)
+record-machine conf m e = on-machine conf m (first_event conf e) (second_of_record conf m e)
 
 on-outcomes : (conf : Conf) (m : Machine) (e : Event) (then : Option Event)
     → outcomes_on (way_on conf (step conf m e) then).0 (way_on conf (step conf m e) then).0.second ≡ outcomes_of conf m (events_on e then)
@@ -36,7 +36,7 @@ on-outcomes conf m e (Some f) = refl
 
 record-outcomes : (conf : Conf) (m : Machine) (e : Event) → outcomes_on (way conf m e).0 (way conf m e).0.second ≡ outcomes_of conf m (events_of_record conf m e)
 unfolding way
-record-outcomes conf m e = on-outcomes conf m (first_event conf e) (second_event conf e (step conf m (first_event conf e)).0)
+record-outcomes conf m e = on-outcomes conf m (first_event conf e) (second_of_record conf m e)
 
 -- and of all records
 pub machine-after-ways : (conf : Conf) (m : Machine) (es : List Event) → machine_after_ways conf m es ≡ machine_after conf m (events_of_records conf m es)
@@ -76,8 +76,8 @@ on-order last e (Some f) rest after small same order =
     some-is : {a b : ℕ} → Some a ≡ Some b → a ≡ b
     some-is {a} {b} e = ap (λ (o : Option ℕ). unwrap_or o 0) e
 
-second-moment : (conf : Conf) (e : Event) (o : Outcome) → IsAtMoment e.time (second_event conf e o)
-second-moment conf e o = by (second_packet conf o e.what)
+second-moment : (conf : Conf) (e : Event) (o : Outcome) (going : Option PacketView) → IsAtMoment e.time (second_event conf e o going)
+second-moment conf e o going = by (second_packet conf o going e.what)
   where
     by : (p : Option PacketView) → IsAtMoment e.time (option_map (λ p. record e { what = arrival.Packet p }) p)
     by None = tt
@@ -88,5 +88,6 @@ unfolding events_of_records
 order-of-ways conf m last [] order = tt
 order-of-ways conf m last (e ∷ es) (after, small, more) =
     let o : Outcome = (step conf m (first_event conf e)).0 in
-    on-order last (first_event conf e) (second_event conf e o) (events_of_records conf (way conf m e).1 es) after small (second-moment conf e o)
+    let going : Option PacketView = sent_on conf m (first_event conf e) in
+    on-order last (first_event conf e) (second_event conf e o going) (events_of_records conf (way conf m e).1 es) after small (second-moment conf e o going)
     (order-of-ways conf (way conf m e).1 (Some e.time) es more)

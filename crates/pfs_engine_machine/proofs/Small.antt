@@ -53,9 +53,9 @@ made-admitted nodes made now source (Some scope) h n k = go (has_node scope sour
     go true e = omega (arith, h n e)
     go false e = made-more (λ (d : Node). d.number) made nodes new refl h n e
 
-small-admitted : (conf : Conf) (w : World) (p : PacketView) (cookie : Bool) (rule now : ℕ) → packet_limit conf w p rule ≡ None → IsSmall conf w → IsSmall conf (world_after_admission conf w p rule cookie now)
-small-admitted conf w p cookie rule now e k =
-    let new : State = new_state conf (w.made + 1) p rule cookie now in
+small-admitted : (conf : Conf) (w : World) (p going : PacketView) (cookie : Bool) (rule now : ℕ) → packet_limit conf w p rule ≡ None → IsSmall conf w → IsSmall conf (world_after_admission conf w p going rule cookie now)
+small-admitted conf w p going cookie rule now e k =
+    let new : State = new_state conf (w.made + 1) p going rule cookie now in
     let free = meets_none conf w rule p.source.addr e in
     record {
       states = omega (arith, length-append w.states (new ∷ []), free.room);

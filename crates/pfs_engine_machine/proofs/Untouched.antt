@@ -41,7 +41,7 @@ numbered-packets : (conf : Conf) → IsKeptByPackets conf AreNumbered
 numbered-packets conf = record {
   touches = λ w s p now h. record { rise = Rise-map (numbered_state_after s.number p now) (λ t. (renewed-same s.number p now t).number) 0 w.made w.states h.rise };
   kills = λ w stay now h. record { rise = Rise-filter stay 0 w.made w.states h.rise };
-  admits = λ w p cookie rule now none h. record { rise = Rise-push 0 w.made w.states (new_state conf (w.made + 1) p rule cookie now) h.rise (omega arith) };
+  admits = λ w p going cookie rule now none h. record { rise = Rise-push 0 w.made w.states (new_state conf (w.made + 1) p going rule cookie now) h.rise (omega arith) };
   refuses = λ w p rule now l met h. refused_has conf w rule p.source.addr now l AreNumbered met h (λ free. record { rise = Rise-more 0 w.made w.states h.rise });
 }
 
@@ -115,9 +115,9 @@ before-left conf s w stay now h = record { made = h.made; same = each-filter (λ
 before-packet : (conf : Conf) (s : State) (w : World) (p : PacketView) (cookie : Bool) (now : ℕ) → same_key s.key (key_of p) ≡ false → IsAsBefore s w → Changes conf w p cookie now (IsAsBefore s)
 before-packet conf s w p cookie now apart h = record {
   passes = λ fresh. h;
-  admits = λ rule fresh none. record {
+  admits = λ rule going fresh none. record {
     made = omega (arith, h.made);
-    same = each-push (λ (t : State). t.number ≡ s.number → t ≡ s) w.states (new_state conf (w.made + 1) p rule cookie now) h.same (λ n. absurd (omega (arith, n, h.made)));
+    same = each-push (λ (t : State). t.number ≡ s.number → t ≡ s) w.states (new_state conf (w.made + 1) p going rule cookie now) h.same (λ n. absurd (omega (arith, n, h.made)));
   };
   refuses = λ rule l fresh met. refused_has conf w rule p.source.addr now l (IsAsBefore s) met h (λ free. record { made = omega (arith, h.made); same = h.same });
   touches = λ x e. before-touched conf s w x p now (another s w p apart h x e) h;

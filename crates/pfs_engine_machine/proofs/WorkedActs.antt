@@ -1,5 +1,5 @@
 -- A run taken apart, by computation: a purge for each whole second after the first event, before what comes then.
-use Rattle.std.proofs.Common.{◌≡◌, ℕ, false, List, [], ◌∷◌, refl}
+use Rattle.std.proofs.Common.{◌≡◌, ℕ, false, None, List, [], ◌∷◌, refl}
 use Rattle.pfs_addr_values.specs.Packets.{PacketView}
 use Rattle.pfs_addr_values.specs.declared.packets.Dir.TheVariants.{In}
 use Rattle.pfs_addr_values.specs.declared.packets.Endpoint.{Endpoint}
@@ -17,7 +17,7 @@ event time comes = record { time = time; what = comes }
 
 -- UDP, which gets no cookie and brings none
 abbrev datagram : Endpoint → PacketView
-datagram source = record { dir = In; ifname = []; proto = Udp; source = source; destination = source; flags = record syn_alone { syn = false } }
+datagram source = record { dir = In; ifname = []; proto = Udp; source = source; destination = source; flags = record syn_alone { syn = false }; tag = None; came_by = None }
 
 -- a packet at 7, a record that is no packet at 9, and a packet at 10
 abbrev three : PacketView → PacketView → List Event

@@ -2,13 +2,13 @@
 use Rattle.std.specs.Prelude.{ℕ, ◌+◌, ◌-◌, ◌||◌, Bool, true, false, if◌then◌else◌, Option, Some, None, List, [], ◌∷◌, length, filter, unwrap_or}
 use Rattle.std.specs.List.{range_with_len}
 use Rattle.pfs_addr_values.specs.Keys.{key_of}
-use Rattle.pfs_addr_values.specs.Packets.{PacketView}
+use Rattle.pfs_addr_values.specs.Packets.{PacketView, with_tag}
 use Rattle.pfs_addr_values.specs.declared.addresses.Addr.{Addr}
 use Rattle.pfs_addr_values.specs.declared.packets.Dir.{Dir}
 use Rattle.pfs_eval.specs.Entries.{Entry}
-use Rattle.pfs_eval.specs.Matching.{matches_item}
+use Rattle.pfs_eval.specs.Asking.{asking}
 use Rattle.pfs_eval.specs.Tables.{added_to, config_entries, deleted_count, entered_to, entries_after, entries_entered, entries_expired, entries_without, entry_count, expired_count}
-use Rattle.pfs_eval.specs.Verdict.{verdict}
+use Rattle.pfs_eval.specs.Verdict.{Asking, packet_behind, verdict}
 use Rattle.pfs_eval.specs.declared.tables.Added.{Added}
 use Rattle.pfs_conf_values.specs.Configs.{Conf, limit_of, options_of, rule_of}
 use Rattle.pfs_conf_values.specs.declared.actions.Action.{Action}
@@ -145,36 +145,45 @@ abbrev pub outcome_of_new : RuleNo → Bool → Outcome
 outcome_of_new rule answered = if answered then outcome.Answered rule else outcome.New rule
 
 -- the state that it would make meets a limit, or none
-abbrev pub answer_of_limits : Conf → Held → PacketView → Bool → ℕ → ℕ → Option Limit → Outcome × Held
-answer_of_limits conf h p cookie now rule None =
-    (outcome_of_new (record { 0 = rule }) (cookie || is_answered conf rule p), held_of (world_after_admission conf h.world p rule cookie now) h.tables)
-answer_of_limits conf h p cookie now rule (Some l) = (outcome.Drop (record { 0 = rule }) l, held_refused conf h p now rule l)
+abbrev pub answer_of_limits : Conf → Held → PacketView → PacketView → Bool → ℕ → ℕ → Option Limit → Outcome × Held
+answer_of_limits conf h p going cookie now rule None =
+    (outcome_of_new (record { 0 = rule }) (cookie || is_answered conf rule p), held_of (world_after_admission conf h.world p going rule cookie now) h.tables)
+answer_of_limits conf h p going cookie now rule (Some l) = (outcome.Drop (record { 0 = rule }) l, held_refused conf h p now rule l)
 
 -- a packet that no state is made for passes, by this rule or by none; with a cookie it has nowhere to go
 abbrev pub outcome_of_pass : Option RuleNo → Bool → Outcome
 outcome_of_pass rule cookie = if cookie then outcome.Stateless rule else outcome.Pass rule
 
--- what the rule that decides says
-abbrev pub answer_of_action : Conf → Held → PacketView → Bool → ℕ → ℕ → Action → Outcome × Held
-answer_of_action conf h p cookie now rule action.Block = (outcome.Block (record { 0 = rule }), h)
-answer_of_action conf h p cookie now rule action.Pass = (outcome_of_pass (Some (record { 0 = rule })) cookie, h)
-answer_of_action conf h p cookie now rule (action.Keep o) = answer_of_limits conf h p cookie now rule (limit_met conf h.world rule p.source.addr)
+-- what the rule that decides says, which is no `match` rule; the packet goes on as the rules left it
+abbrev pub answer_of_action : Conf → Held → PacketView → PacketView → Bool → ℕ → ℕ → Action → Outcome × Held
+answer_of_action conf h p going cookie now rule action.Match = (outcome_of_pass None cookie, h)
+answer_of_action conf h p going cookie now rule action.Block = (outcome.Block (record { 0 = rule }), h)
+answer_of_action conf h p going cookie now rule action.Pass = (outcome_of_pass (Some (record { 0 = rule })) cookie, h)
+answer_of_action conf h p going cookie now rule (action.Keep o) = answer_of_limits conf h p going cookie now rule (limit_met conf h.world rule p.source.addr)
 
 -- a rule decides, or none
-abbrev pub answer_of_rule : Conf → Held → PacketView → Bool → ℕ → Option ℕ → Outcome × Held
-answer_of_rule conf h p cookie now None = (outcome_of_pass None cookie, h)
-answer_of_rule conf h p cookie now (Some rule) = answer_of_action conf h p cookie now rule (rule_of conf rule).action
+abbrev pub answer_of_rule : Conf → Held → PacketView → PacketView → Bool → ℕ → Option ℕ → Outcome × Held
+answer_of_rule conf h p going cookie now None = (outcome_of_pass None cookie, h)
+answer_of_rule conf h p going cookie now (Some rule) = answer_of_action conf h p going cookie now rule (rule_of conf rule).action
+
+-- what the rules ask of packets, and make of them
+abbrev pub asking_of : Conf → Held → Asking
+asking_of conf h = asking conf.items h.tables
 
 -- the rule that decides
 abbrev pub deciding_rule : Conf → Held → PacketView → Option ℕ
-deciding_rule conf h p = verdict (matches_item h.tables p) conf.items
+deciding_rule conf h p = verdict (asking_of conf h) p conf.items
+
+-- the packet as the rules leave it
+abbrev pub packet_ruled : Conf → Held → PacketView → PacketView
+packet_ruled conf h p = packet_behind (asking_of conf h) p conf.items
 
 -- a held state has its key, or none
 abbrev pub answer_of_state : Conf → Held → PacketView → Bool → ℕ → Option State → Outcome × Held
 answer_of_state conf h p cookie now (Some s) =
     answer_of_handshake conf (held_of (world_after_touch conf h.world s p now) h.tables) s now (outcome_of_held s.rule (is_taken p s) (is_asking p s))
     (completes_at p s)
-answer_of_state conf h p cookie now None = answer_of_rule conf h p cookie now (deciding_rule conf h (asked p cookie))
+answer_of_state conf h p cookie now None = answer_of_rule conf h p (packet_ruled conf h (asked p cookie)) cookie now (deciding_rule conf h (asked p cookie))
 
 -- what a packet meets: where it is a SYN for a connection that has closed, its state has left before
 abbrev pub held_for : Conf → Held → PacketView → ℕ → Held
@@ -188,6 +197,14 @@ answer_of_key conf h p cookie now = answer_of_state conf h p cookie now (state_w
 abbrev pub answer_to_packet : Conf → Held → PacketView → Bool → ℕ → Outcome × Held
 answer_to_packet conf h p cookie now = answer_of_key conf (held_for conf h p now) p cookie now
 
+-- a packet as it goes on from what it meets, with its flags: with the tag of its state, or as the rules leave it
+abbrev pub going_of_state : Conf → Held → PacketView → Bool → Option State → PacketView
+going_of_state conf h p cookie (Some s) = with_tag p s.tag
+going_of_state conf h p cookie None = record (packet_ruled conf h (asked p cookie)) { flags = p.flags }
+
+abbrev pub going_from : Conf → Held → PacketView → Bool → PacketView
+going_from conf h p cookie = going_of_state conf h p cookie (state_with (key_of p) h.world)
+
 -- ---- a packet, behind the guard
 
 -- what it meets: where it gets a cookie, all that is held
@@ -198,6 +215,10 @@ held_behind_guard conf g h p now = if gets_cookie conf g h.world p then h else h
 abbrev pub answer_behind_guard : Conf → Guard → Held → PacketView → ℕ → Outcome × Held
 answer_behind_guard conf g h p now =
     if gets_cookie conf g h.world p then (outcome.Cookie, h) else answer_to_packet conf h p (brings_cookie g h.world p) now
+
+-- as it goes on, where it does
+abbrev pub going_behind_guard : Conf → Guard → Held → PacketView → ℕ → PacketView
+going_behind_guard conf g h p now = if gets_cookie conf g h.world p then p else going_from conf (held_for conf h p now) p (brings_cookie g h.world p)
 
 -- ---- an administrator: old entries leave a table, an entry is added, that very entry is taken out (pfctl(8), "-T")
 
@@ -251,6 +272,14 @@ arrive conf m first now what =
 -- the seconds due, and then what comes
 unfoldable pub step : Conf → Machine → Event → Outcome × Machine
 step conf m e = arrive conf (machine_at_moment conf m e.time) (first_moment m.first e.time) e.time e.what
+
+-- a packet as it goes on behind an event, where it does
+abbrev pub going_of_arrival : Conf → Machine → ℕ → Arrival → Option PacketView
+going_of_arrival conf m now (arrival.Packet p) = Some (going_behind_guard conf m.guard m.held p now)
+going_of_arrival conf m now _ = None
+
+abbrev pub sent_on : Conf → Machine → Event → Option PacketView
+sent_on conf m e = going_of_arrival conf (machine_at_moment conf m e.time) e.time e.what
 
 -- ---- a run of events: the outcome of each in turn, and the machine after all of them
 

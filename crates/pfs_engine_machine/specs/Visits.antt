@@ -2,19 +2,18 @@
 use Rattle.std.specs.Prelude.{ℕ, ◌≡◌, ◌≤◌, Bool, true, false, Option, Some, None}
 use Rattle.pfs_addr_values.specs.Keys.{key_of}
 use Rattle.pfs_addr_values.specs.Packets.{PacketView}
-use Rattle.pfs_eval.specs.Matching.{matches_item}
 use Rattle.pfs_eval.specs.Visits.{visit_bound, visit_floor}
 use Rattle.pfs_conf_values.specs.Configs.{Conf}
 use Rattle.pfs_store_contract.specs.Worlds.{state_with}
 use Rattle.pfs_store_contract.specs.declared.records.State.{State}
 use Rattle.pfs_engine_machine.specs.Guards.{Guard, asked, brings_cookie, gets_cookie}
-use Rattle.pfs_engine_machine.specs.Machine.{Held, held_for}
+use Rattle.pfs_engine_machine.specs.Machine.{Held, asking_of, held_for}
 
 -- with none where a held state has its key; else, as the packet that rules are asked for, between the floor and the bound
 abbrev pub AreVisits : Conf → Held → PacketView → Bool → Option State → ℕ → Type 0
 AreVisits conf h p cookie (Some s) visits = visits ≡ 0
 AreVisits conf h p cookie None visits =
-    (visit_floor (matches_item h.tables (asked p cookie)) conf.items ≤ visits) × (visits ≤ visit_bound (matches_item h.tables (asked p cookie)) conf.items)
+    (visit_floor (asking_of conf h) (asked p cookie) conf.items ≤ visits) × (visits ≤ visit_bound (asking_of conf h) (asked p cookie) conf.items)
 
 -- with none where it gets a cookie, by whether it does; else by what it meets
 abbrev pub AreVisitsUnless : Bool → Conf → Held → PacketView → Bool → ℕ → Type 0

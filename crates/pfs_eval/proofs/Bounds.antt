@@ -4,13 +4,14 @@ use Rattle.std.specs.List.{take_while}
 use Rattle.std.proofs.lemmas.List.Sums.{take_while-cons}
 use Rattle.std.proofs.lemmas.Bool.Decides.{nat_tests}
 use Rattle.std.proofs.lemmas.Bool.{cond-true, false≢true}
+use Rattle.pfs_addr_values.specs.Packets.{PacketView}
 use Rattle.pfs_conf_values.specs.declared.items.Item.{Item}
-use Rattle.pfs_eval.specs.Verdict.{Place, is_quick, is_hit, cut}
+use Rattle.pfs_eval.specs.Verdict.{Asking, Place, packet_past, cut, hides, is_hit, is_quick, is_shown, path_from}
 use Rattle.pfs_conf_values.specs.Depths.{is_rule}
 use Rattle.pfs_conf_values.specs.Order.{next_depth, IsPreorder}
-use Rattle.pfs_eval.specs.Visits.{count_at, direct_items, opened_items, visit_bound, visit_floor}
+use Rattle.pfs_eval.specs.Visits.{count_at, direct_items, holds_there, opened_items, visit_bound, visit_floor}
 use Rattle.pfs_eval.specs.Lines.{back, stop_depth_of}
-use Rattle.pfs_eval.proofs.Paths.{shown, place_at, within, hides, rest_of}
+use Rattle.pfs_eval.proofs.Paths.{place_at, rest_of}
 use Rattle.pfs_eval.proofs.Cuts.{walked, cut-walked}
 
 -- how many items are still to come as direct items of the main body or of the bodies that are open down to this depth
@@ -70,82 +71,82 @@ abbrev pub deep : Option ℕ → ℕ → ℕ
 deep None most = most
 deep (Some d) most = d
 
-abbrev cost : (Item → Bool) → Place → ℕ
-cost m x = cond (not (is_rule x.item.what) && m x.item) (direct_items x) 0
+abbrev cost : Asking → Place → ℕ
+cost a x = cond (not (is_rule x.item.what) && holds_there a x) (direct_items x) 0
 
-bound_step : (m : Item → Bool) (b h q : Bool) (x : Place) (u v : List Place) (P Q : ℕ) → 1 + P ≤ Q + cost m x
-    → length u ≤ P + opened_items m u → length v ≤ P + opened_items m v
-    → length (cond b [] (x ∷ cond h (cond q [] u) v)) ≤ Q + opened_items m (cond b [] (x ∷ cond h (cond q [] u) v))
-bound_step m true h q x u v P Q e f g = omega arith
-bound_step m false true true x u v P Q e f g = omega arith
-bound_step m false true false x u v P Q e f g = omega arith
-bound_step m false false q x u v P Q e f g = omega arith
+bound_step : (a : Asking) (b h q : Bool) (x : Place) (u v : List Place) (P Q : ℕ) → 1 + P ≤ Q + cost a x
+    → length u ≤ P + opened_items a u → length v ≤ P + opened_items a v
+    → length (cond b [] (x ∷ cond h (cond q [] u) v)) ≤ Q + opened_items a (cond b [] (x ∷ cond h (cond q [] u) v))
+bound_step a true h q x u v P Q e f g = omega arith
+bound_step a false true true x u v P Q e f g = omega arith
+bound_step a false true false x u v P Q e f g = omega arith
+bound_step a false false q x u v P Q e f g = omega arith
 
 opens : (r b : Bool) → r ≡ false → b ≡ true → (not r && b) ≡ true
 opens r b e f = grind arith
 
-cost_step : (m : Item → Bool) (before : List Item) (n : ℕ) (i : Item) (rest : List Item) (b r : Bool) → m i ≡ b
+cost_step : (a : Asking) (q : PacketView) (before : List Item) (n : ℕ) (i : Item) (rest : List Item) (b r : Bool) → a.holds q i ≡ b
     → is_rule i.what ≡ r
     → 1 + open_items (deep (hides b i.depth)
-    (next_depth i)) rest ≤ 1 + open_items i.depth rest + cost m (place_at before n i rest)
+    (next_depth i)) rest ≤ 1 + open_items i.depth rest + cost a (place_at q before n i rest)
 unfolding open_items
-cost_step m before n i rest false k e f = omega arith
-cost_step m before n i rest true true e f = rw f (omega arith)
-cost_step m before n i rest true false e f =
+cost_step a q before n i rest false k e f = omega arith
+cost_step a q before n i rest true true e f = rw f (omega arith)
+cost_step a q before n i rest true false e f =
     let deeper : next_depth i ≡ suc i.depth = ap (λ r. cond r i.depth (i.depth + 1)) f ∙ add-one i.depth in
     let opened : open_items (next_depth i) rest ≡ open_items i.depth rest + count_at (suc i.depth)
     (take_while (λ (x : Item). nat_lt i.depth x.depth) rest) = ap (λ d. open_items d rest) deeper in
-    let costs : cost m (place_at before n i rest)
-    ≡ direct_items (place_at before n i rest) = cond-true _ _ _ (opens (is_rule i.what) (m i) f e) in
-    let counted : direct_items (place_at before n i rest) ≡ count_at (suc i.depth)
+    let costs : cost a (place_at q before n i rest)
+    ≡ direct_items (place_at q before n i rest) = cond-true _ _ _ (opens (is_rule i.what) (a.holds q i) f e) in
+    let counted : direct_items (place_at q before n i rest) ≡ count_at (suc i.depth)
     (take_while (λ (x : Item). nat_lt i.depth x.depth) rest) = ap (λ d. count_at d (take_while (λ (x : Item). nat_lt i.depth x.depth) rest)) (add-one i.depth) in
     omega (arith, opened, costs, counted)
 
-visible_step : (h : Option ℕ) (d most : ℕ) → within h d ≡ true → d ≤ most → d ≤ deep h most
+visible_step : (h : Option ℕ) (d most : ℕ) → is_shown h d ≡ true → d ≤ most → d ≤ deep h most
 visible_step None d most w p = p
 visible_step (Some a) d most w p = grind (arith, nat_tests)
 
-item_step : (m : Item → Bool) (h : Option ℕ) (b : Bool) (before : List Item) (n most stop : ℕ) (i : Item)
-    (rest : List Item) → within h i.depth ≡ b → i.depth ≤ most
-    → ((h' : Option ℕ) (before' : List Item) (n' most' stop' : ℕ) → IsPreorder most' rest
-    → length (walked m stop' (shown m h' before' n' rest)) ≤ open_items (deep h' most') rest + opened_items m (walked m stop' (shown m h' before' n' rest)))
+item_step : (a : Asking) (q : PacketView) (h : Option ℕ) (b : Bool) (before : List Item) (n most stop : ℕ) (i : Item)
+    (rest : List Item) → is_shown h i.depth ≡ b → i.depth ≤ most
+    → ((q' : PacketView) (h' : Option ℕ) (before' : List Item) (n' most' stop' : ℕ) → IsPreorder most' rest
+    → length (walked a stop' (path_from a q' h' before' n' rest)) ≤ open_items (deep h' most') rest + opened_items a (walked a stop' (path_from a q' h' before' n' rest)))
     → IsPreorder (next_depth i) rest
-    → length (walked m stop (cond b (place_at before n i rest ∷ shown m (hides (m i) i.depth) (i ∷ before) (n + 1) rest)
-    (shown m h (i ∷ before) (n + 1) rest)))
+    → length (walked a stop (cond b (place_at q before n i rest ∷ path_from a (packet_past a q i) (hides (a.holds q i) i.depth) (i ∷ before) (n + 1) rest)
+    (path_from a q h (i ∷ before) (n + 1) rest)))
     ≤ open_items (deep h most)
-    (i ∷ rest) + opened_items m (walked m stop (cond b (place_at before n i rest ∷ shown m (hides (m i) i.depth) (i ∷ before) (n + 1) rest) (shown m h (i ∷ before) (n + 1) rest)))
+    (i ∷ rest) + opened_items a (walked a stop (cond b (place_at q before n i rest ∷ path_from a (packet_past a q i) (hides (a.holds q i) i.depth) (i ∷ before) (n + 1) rest) (path_from a q h (i ∷ before) (n + 1) rest)))
 unfolding walked
-item_step m None false before n most stop i rest w p ih q = absurd (false≢true (sym w))
-item_step m (Some a) false before n most stop i rest w p ih q =
-    rw (open-skip a i rest (grind (arith, nat_tests))) (ih (Some a) (i ∷ before) (n + 1) (next_depth i) stop q)
-item_step m h true before n most stop i rest w p ih q =
-    bound_step m (nat_lt i.depth stop) (is_hit m (place_at before n i rest)) (is_quick i.what)
-    (place_at before n i rest) _ _ (open_items (deep (hides (m i) i.depth) (next_depth i)) rest) _
-    (rw (open-hit (deep h most) i rest (visible_step h i.depth most w p))
-    (cost_step m before n i rest (m i) (is_rule i.what) refl refl))
-    (ih (hides (m i) i.depth) (i ∷ before) (n + 1) (next_depth i)
-    (max stop (stop_depth_of (place_at before n i rest).around)) q) (ih (hides (m i) i.depth) (i ∷ before) (n + 1)
-    (next_depth i) stop q)
+item_step a q None false before n most stop i rest w l ih o = absurd (false≢true (sym w))
+item_step a q (Some d) false before n most stop i rest w l ih o =
+    rw (open-skip d i rest (grind (arith, nat_tests))) (ih q (Some d) (i ∷ before) (n + 1) (next_depth i) stop o)
+item_step a q h true before n most stop i rest w l ih o =
+    bound_step a (nat_lt i.depth stop) (is_hit a (place_at q before n i rest)) (is_quick i.what)
+    (place_at q before n i rest) _ _ (open_items (deep (hides (a.holds q i) i.depth) (next_depth i)) rest) _
+    (rw (open-hit (deep h most) i rest (visible_step h i.depth most w l))
+    (cost_step a q before n i rest (a.holds q i) (is_rule i.what) refl refl))
+    (ih (packet_past a q i) (hides (a.holds q i) i.depth) (i ∷ before) (n + 1) (next_depth i)
+    (max stop (stop_depth_of (place_at q before n i rest).around)) o) (ih (packet_past a q i) (hides (a.holds q i) i.depth) (i ∷ before) (n + 1)
+    (next_depth i) stop o)
 
-pub shown-bound : (m : Item → Bool) (h : Option ℕ) (before : List Item) (n most stop : ℕ) (items : List Item)
+pub path-bound : (a : Asking) (q : PacketView) (h : Option ℕ) (before : List Item) (n most stop : ℕ) (items : List Item)
     → IsPreorder most items
-    → length (walked m stop (shown m h before n items)) ≤ open_items (deep h most) items + opened_items m (walked m stop (shown m h before n items))
-unfolding walked shown
-shown-bound m h before n most stop [] p = omega arith
-shown-bound m h before n most stop (i ∷ rest) p =
-    item_step m h (within h i.depth) before n most stop i rest refl p.0 (λ h' before' n' most' stop' q. shown-bound m h' before' n' most' stop' rest q) p.1
+    → length (walked a stop (path_from a q h before n items)) ≤ open_items (deep h most) items + opened_items a (walked a stop (path_from a q h before n items))
+unfolding walked path_from
+path-bound a q h before n most stop [] o = omega arith
+path-bound a q h before n most stop (i ∷ rest) o =
+    item_step a q h (is_shown h i.depth) before n most stop i rest refl o.0 (λ q' h' before' n' most' stop' r. path-bound a q' h' before' n' most' stop' rest r) o.1
 
-pub visits-most : (m : Item → Bool) (items : List Item) → IsPreorder 0 items
-    → length (cut m items) ≤ visit_bound m items
+pub visits-most : (a : Asking) (p : PacketView) (items : List Item) → IsPreorder 0 items
+    → length (cut a p items) ≤ visit_bound a p items
 unfolding visit_bound rest_of back open_items
-visits-most m items p = rw (cut-walked m items) (shown-bound m None [] 0 0 0 items p)
+visits-most a p items o = rw (cut-walked a p items) (path-bound a p None [] 0 0 0 items o)
 
 length-filter : {X : Type 0} (p : X → Bool) (xs : List X) → length (filter p xs) ≤ length xs
 length-filter p [] = omega arith
 length-filter p (x ∷ xs) = grind (arith, length-filter p xs)
 
-pub visits-least : (m : Item → Bool) (items : List Item) → visit_floor m items ≤ length (cut m items)
+pub visits-least : (a : Asking) (p : PacketView) (items : List Item) → visit_floor a p items ≤ length (cut a p items)
 unfolding visit_floor
-visits-least m items = length-filter _ _
+visits-least a p items = length-filter _ _
 
 pub ruleset bounds = (visits-most, visits-least)

@@ -1,14 +1,15 @@
 -- The verdict is the number of a rule.
 use Rattle.std.proofs.Common.{◌≡◌, ℕ, ◌+◌, Bool, true, false, ◌&&◌, cond, List, [], ◌∷◌, filter, map, Option, Some, None, refl, ap, sym, ◌∙◌, arith, subst, suc}
 use Rattle.std.specs.Prelude.{IfSome, IsSome, option_map, slice_get}
-use Rattle.std.specs.List.{list_all, list_any}
+use Rattle.std.specs.List.{list_any}
+use Rattle.pfs_addr_values.specs.Packets.{PacketView}
 use Rattle.pfs_conf_values.specs.Configs.{rule_in}
 use Rattle.pfs_conf_values.specs.Depths.{is_rule}
 use Rattle.pfs_conf_values.specs.declared.items.Item.{Item}
 use Rattle.pfs_conf_values.specs.declared.items.RuleNo.{RuleNo}
 use Rattle.pfs_conf_values.specs.declared.items.ItemKind.{ItemKind}
 use Rattle.pfs_conf_values.specs.declared.items.ItemKind.TheVariants.{Rule, Anchor}
-use Rattle.pfs_eval.specs.Verdict.{Place, enclosing, path_from, is_hit, ends_before, cut_from, cut, last_or, verdict, IsRuleAt}
+use Rattle.pfs_eval.specs.Verdict.{Asking, Place, packet_past, hides, is_shown, path_from, is_hit, ends_before, cut_from, cut, last_or, verdict, IsRuleAt}
 use Rattle.pfs_eval.proofs.Paths.{place_at}
 
 -- each place has the item of its number
@@ -21,25 +22,26 @@ cond-at : (items : List Item) (b : Bool) (xs ys : List Place) → AreAt items xs
 cond-at items true xs ys h k = h
 cond-at items false xs ys h k = k
 
-path-at : (items : List Item) (m : Item → Bool) (before : List Item) (n : ℕ) (rest : List Item)
-    → ((k : ℕ) → slice_get rest k ≡ slice_get items (n + k)) → AreAt items (path_from m before n rest)
-unfolding AreAt
-path-at items m before n [] h = tt
-path-at items m before n (i ∷ rest) h =
-    let at : slice_get items n ≡ Some i = ap (slice_get items) (omega arith) ∙ sym (h 0) in
+path-at : (items : List Item) (a : Asking) (q : PacketView) (h : Option ℕ) (before : List Item) (n : ℕ) (rest : List Item)
+    → ((k : ℕ) → slice_get rest k ≡ slice_get items (n + k)) → AreAt items (path_from a q h before n rest)
+unfolding AreAt path_from
+path-at items a q h before n [] e = tt
+path-at items a q h before n (i ∷ rest) e =
+    let at : slice_get items n ≡ Some i = ap (slice_get items) (omega arith) ∙ sym (e 0) in
     let more : (k : ℕ) → slice_get rest k
-    ≡ slice_get items (n + 1 + k) = (λ k. h (suc k) ∙ ap (slice_get items) (omega arith)) in
-    let behind = path-at items m (i ∷ before) (n + 1) rest more in
-    cond-at items (list_all m (enclosing i.depth before))
-    (place_at before n i rest ∷ path_from m (i ∷ before) (n + 1) rest) (path_from m (i ∷ before) (n + 1) rest)
-    (at, behind) behind
+    ≡ slice_get items (n + 1 + k) = (λ k. e (suc k) ∙ ap (slice_get items) (omega arith)) in
+    cond-at items (is_shown h i.depth)
+    (place_at q before n i rest ∷ path_from a (packet_past a q i) (hides (a.holds q i) i.depth) (i ∷ before) (n + 1) rest)
+    (path_from a q h (i ∷ before) (n + 1) rest)
+    (at, path-at items a (packet_past a q i) (hides (a.holds q i) i.depth) (i ∷ before) (n + 1) rest more)
+    (path-at items a q h (i ∷ before) (n + 1) rest more)
 
-cut-at : (items : List Item) (m : Item → Bool) (seen xs : List Place) → AreAt items xs
-    → AreAt items (cut_from m seen xs)
+cut-at : (items : List Item) (a : Asking) (seen xs : List Place) → AreAt items xs
+    → AreAt items (cut_from a seen xs)
 unfolding AreAt
-cut-at items m seen [] h = tt
-cut-at items m seen (x ∷ xs) h =
-    cond-at items (list_any (λ (r : Place). is_hit m r && ends_before x r) seen) [] (x ∷ cut_from m (x ∷ seen) xs) tt (h.0, cut-at items m (x ∷ seen) xs h.1)
+cut-at items a seen [] h = tt
+cut-at items a seen (x ∷ xs) h =
+    cond-at items (list_any (λ (r : Place). is_hit a r && ends_before x r) seen) [] (x ∷ cut_from a (x ∷ seen) xs) tt (h.0, cut-at items a (x ∷ seen) xs h.1)
 
 in_rule : (w : ItemKind) → is_rule w ≡ true → IsSome (rule_in w)
 in_rule (Rule r) e = refl
@@ -48,32 +50,32 @@ in_rule (Anchor a) e = cc
 rule-at : (items : List Item) (n : ℕ) (i : Item) → slice_get items n ≡ Some i → is_rule i.what ≡ true → IsRuleAt items n
 rule-at items n i at e = rw at (in_rule i.what e)
 
-hit-rule : (r b : Bool) → (r && b) ≡ true → r ≡ true
-hit-rule r b e = grind arith
+hit-rule : (r h c d : Bool) → ((r && h && c) && d) ≡ true → r ≡ true
+hit-rule r h c d e = grind arith
 
-last_step : (items : List Item) (m : Item → Bool) (found : Option ℕ) (x : Place) (xs : List Place) (b : Bool)
-    → is_hit m x ≡ b → slice_get items x.no ≡ Some x.item
+last_step : (items : List Item) (a : Asking) (found : Option ℕ) (x : Place) (xs : List Place) (b : Bool)
+    → is_hit a x ≡ b → slice_get items x.no ≡ Some x.item
     → ((f : Option ℕ) → IfSome f (IsRuleAt items)
-    → IfSome (last_or f (map (λ (y : Place). y.no) (filter (is_hit m) xs))) (IsRuleAt items))
+    → IfSome (last_or f (map (λ (y : Place). y.no) (filter (is_hit a) xs))) (IsRuleAt items))
     → IfSome found (IsRuleAt items)
-    → IfSome (last_or found (map (λ (y : Place). y.no) (cond b (x ∷ filter (is_hit m) xs) (filter (is_hit m) xs))))
+    → IfSome (last_or found (map (λ (y : Place). y.no) (cond b (x ∷ filter (is_hit a) xs) (filter (is_hit a) xs))))
     (IsRuleAt items)
-last_step items m found x xs true e at h k = h (Some x.no) (rule-at items x.no x.item at (hit-rule _ _ e))
-last_step items m found x xs false e at h k = h found k
+last_step items a found x xs true e at h k = h (Some x.no) (rule-at items x.no x.item at (hit-rule _ _ _ _ e))
+last_step items a found x xs false e at h k = h found k
 
-last-rule : (items : List Item) (m : Item → Bool) (found : Option ℕ) (xs : List Place) → AreAt items xs
+last-rule : (items : List Item) (a : Asking) (found : Option ℕ) (xs : List Place) → AreAt items xs
     → IfSome found (IsRuleAt items)
-    → IfSome (last_or found (map (λ (x : Place). x.no) (filter (is_hit m) xs))) (IsRuleAt items)
+    → IfSome (last_or found (map (λ (x : Place). x.no) (filter (is_hit a) xs))) (IsRuleAt items)
 unfolding AreAt
-last-rule items m found [] h k = k
-last-rule items m found (x ∷ xs) h k = last_step items m found x xs (is_hit m x) refl h.0 (λ f l. last-rule items m f xs h.1 l) k
+last-rule items a found [] h k = k
+last-rule items a found (x ∷ xs) h k = last_step items a found x xs (is_hit a x) refl h.0 (λ f l. last-rule items a f xs h.1 l) k
 
 -- the verdict is a rule of the list
-pub verdict-rule : (m : Item → Bool) (items : List Item) → IfSome (verdict m items) (IsRuleAt items)
+pub verdict-rule : (a : Asking) (p : PacketView) (items : List Item) → IfSome (verdict a p items) (IsRuleAt items)
 unfolding verdict
-verdict-rule m items = last-rule items m None (cut m items)
-    (cut-at items m [] (path_from m [] 0 items)
-    (path-at items m [] 0 items (λ k. ap (slice_get items) (omega arith)))) tt
+verdict-rule a p items = last-rule items a None (cut a p items)
+    (cut-at items a [] (path_from a p None [] 0 items)
+    (path-at items a p None [] 0 items (λ k. ap (slice_get items) (omega arith)))) tt
 
 -- a rule number and its number agree
 pub of-number : (P : ℕ → Type 0) (o : Option RuleNo) (v : Option ℕ) → option_map (λ (r : RuleNo). r.0) o ≡ v

@@ -94,7 +94,8 @@ each-more items lines new p i line e long at is each q j other here there = by (
 
 -- a line with other skips
 abbrev pub with_skips : Line → Skips → Line
-with_skips line s = record { skips = s; next = line.next; stop_depth = line.stop_depth; item = line.item }
+with_skips line s =
+    record { skips = s; next = line.next; stop_depth = line.stop_depth; given = line.given; asked = line.asked; item = line.item }
 
 each-set : (items : List Item) (lines : List Line) (p : ℕ) (line : Line) (s : Skips) → EachLine items lines
     → slice_get lines p ≡ Some line → EachLine items (set lines p (with_skips line s))
@@ -105,7 +106,7 @@ each-set items lines p line s each old q i found here there = by (get-set lines 
     by (inr k) =
         let at : slice_get items p ≡ Some i = ap (slice_get items) (sym k.0) ∙ here in
         let l = each p i line at old in
-        let made : IsLine items p i (with_skips line s) = record { item = l.item; next = l.next; stop = l.stop } in
+        let made : IsLine items p i (with_skips line s) = record { item = l.item; asked = l.asked; given = l.given; next = l.next; stop = l.stop } in
         is_line items q p i i found _ k.0 k.1 here at made
 
 skips-set : (items : List Item) (lines : List Line) (p : ℕ) (line : Line) (s : Skips) → AreLinesFrom (p + 1) items lines

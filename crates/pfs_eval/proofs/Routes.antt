@@ -1,6 +1,6 @@
 -- The narrowest of routes, found one by one.
-use Rattle.std.proofs.Common.{◌≡◌, ◌<◌, ◌≤◌, ◌∙◌, ◌&&◌, ◌+◌, ℕ, suc, Bool, true, false, List, [], ◌∷◌, Option, Some, None, drop, drop-cons, get_or, length, map, refl, ap, sym, arith, add-one, subst}
-use Rattle.std.specs.Prelude.{nat_le, nat_lt, option_map, if◌then◌else◌}
+use Rattle.std.proofs.Common.{◌≡◌, ◌<◌, ◌∙◌, ◌&&◌, ◌+◌, ℕ, suc, Bool, true, false, List, ◌∷◌, Option, Some, None, drop, drop-cons, get_or, length, map, refl, sym, arith, add-one, subst}
+use Rattle.std.specs.Prelude.{nat_lt, option_map, if◌then◌else◌}
 use Rattle.std.proofs.lemmas.Bool.Decides.{nat_tests}
 use Rattle.pfs_addr_values.specs.declared.addresses.Addr.{Addr}
 use Rattle.pfs_addr_values.specs.Prefixes.{Network, covers}

@@ -9,29 +9,34 @@ use Rattle.pfs_eval.specs.Lines.{back}
 use Rattle.pfs_eval.specs.Matching.{dir_holds, family_holds, filter_of, flags_hold, host_holds, interface_holds, matches_item, ports_hold, proto_holds}
 use Rattle.pfs_eval.specs.Parameters.{IsSame, holds_at}
 use Rattle.pfs_eval.specs.Skips.{IsPassed, IsSkip}
-use Rattle.pfs_eval.specs.Verdict.{Place, is_hit}
+use Rattle.pfs_eval.specs.Asking.{asking}
+use Rattle.pfs_eval.specs.Verdict.{Asking, Place, behind_all, is_hit}
+use Rattle.pfs_eval.specs.Visits.{holds_there}
 use Rattle.pfs_eval.specs.declared.comparing.Parameter.{Parameter}
 use Rattle.pfs_eval.specs.declared.comparing.Parameter.TheVariants as parameter
 use Rattle.pfs_eval.proofs.Bodies.{behind-within, deeper-inside, ends-behind, place_behind, some_at}
-use Rattle.pfs_eval.proofs.Paths.{place_at, rest_of, rest-jump}
+use Rattle.pfs_eval.proofs.Paths.{behind-miss, place_at, rest_of, rest-jump}
 use Rattle.pfs_eval.proofs.Cuts.{walked, found_of, found-cons, walked-on}
 
--- of those places, how many match
-unfoldable pub matching : (Item → Bool) → List Place → ℕ
-matching m xs = length (filter (λ (x : Place). m x.item) xs)
+-- of how many of those places what the item asks in its filter holds
+unfoldable pub matching : Asking → List Place → ℕ
+matching a xs = length (filter (holds_there a) xs)
 
-matching-miss : (m : Item → Bool) (x : Place) (xs : List Place) → m x.item ≡ false
-    → matching m (x ∷ xs) ≡ matching m xs
+matching-miss : (a : Asking) (x : Place) (xs : List Place) → holds_there a x ≡ false
+    → matching a (x ∷ xs) ≡ matching a xs
 unfolding matching
-matching-miss m x xs e = ap (λ (ys : List Place). length ys) (cond-false (m x.item) _ _ e)
+matching-miss a x xs e = ap (λ (ys : List Place). length ys) (cond-false (holds_there a x) _ _ e)
 
-found-miss : (m : Item → Bool) (f : Option ℕ) (x : Place) (xs : List Place) → is_hit m x ≡ false
-    → found_of m f (x ∷ xs) ≡ found_of m f xs
-found-miss m f x xs e = found-cons m f x xs ∙ ap (λ g. found_of m g xs) (cond-false _ _ _ e)
+found-miss : (a : Asking) (f : Option ℕ) (x : Place) (xs : List Place) → is_hit a x ≡ false
+    → found_of a f (x ∷ xs) ≡ found_of a f xs
+found-miss a f x xs e = found-cons a f x xs ∙ ap (λ g. found_of a g xs) (cond-false _ _ _ e)
 
-pub walked-miss : (m : Item → Bool) (stop : ℕ) (x : Place) (rest : List Place) → stop ≤ x.item.depth
-    → is_hit m x ≡ false → walked m stop (x ∷ rest) ≡ x ∷ walked m stop rest
-walked-miss m stop x rest d e = walked-on m stop x rest d ∙ ap (λ t. x ∷ t) (cond-false (is_hit m x) _ _ e)
+pub walked-miss : (a : Asking) (stop : ℕ) (x : Place) (rest : List Place) → stop ≤ x.item.depth
+    → is_hit a x ≡ false → walked a stop (x ∷ rest) ≡ x ∷ walked a stop rest
+walked-miss a stop x rest d e = walked-on a stop x rest d ∙ ap (λ t. x ∷ t) (cond-false (is_hit a x) _ _ e)
+
+no_hit : (r h c d : Bool) → h ≡ false → ((r && h && c) && d) ≡ false
+no_hit r h c d e = grind arith
 
 no_match : (r b : Bool) → b ≡ false → (r && b) ≡ false
 no_match r b e = grind arith
@@ -39,40 +44,43 @@ no_match r b e = grind arith
 no_first : (a b : Bool) → a ≡ false → (a && b) ≡ false
 no_first a b e = grind arith
 
--- a walk at p may go on at q: the verdict and the items that match stay, and no visit is added
-pub record MayGoOn (m : Item → Bool) (items : List Item) (stop p q : ℕ) : Type 0 where
-  pub found : (f : Option ℕ) → found_of m f (walked m stop (rest_of m items p)) ≡ found_of m f (walked m stop (rest_of m items q))
-  pub matches : matching m (walked m stop (rest_of m items p)) ≡ matching m (walked m stop (rest_of m items q))
-  pub fewer : 1 + length (walked m stop (rest_of m items q)) ≤ length (walked m stop (rest_of m items p))
-  pub forward : p < q
+-- a walk at p with this packet may go on at r: the verdict, the packet and the items that match stay, and no visit is added
+pub record MayGoOn (a : Asking) (q : PacketView) (items : List Item) (stop p r : ℕ) : Type 0 where
+  pub found : (f : Option ℕ) → found_of a f (walked a stop (rest_of a q items p)) ≡ found_of a f (walked a stop (rest_of a q items r))
+  pub packet : behind_all a q (walked a stop (rest_of a q items p)) ≡ behind_all a q (walked a stop (rest_of a q items r))
+  pub matches : matching a (walked a stop (rest_of a q items p)) ≡ matching a (walked a stop (rest_of a q items r))
+  pub fewer : 1 + length (walked a stop (rest_of a q items r)) ≤ length (walked a stop (rest_of a q items p))
+  pub forward : p < r
 
 -- the place of an item
-abbrev pub here : List Item → ℕ → Item → Place
-here items p i = place_at (back p [] items) p i (drop (p + 1) items)
+abbrev pub here : PacketView → List Item → ℕ → Item → Place
+here q items p i = place_at q (back p [] items) p i (drop (p + 1) items)
 
 -- behind an item that does not match, a walk goes on behind its body
-pub miss-on : (m : Item → Bool) (items : List Item) (stop p : ℕ) (i : Item) → slice_get items p ≡ Some i → stop ≤ i.depth
-    → m i ≡ false → walked m stop (rest_of m items p) ≡ here items p i ∷ walked m stop (rest_of m items (place_behind items p i))
-miss-on m items stop p i at d e =
-    ap (walked m stop) (rest-jump m items p i at e) ∙ walked-miss m stop (here items p i) _ d (no_match _ _ e)
+pub miss-on : (a : Asking) (q : PacketView) (items : List Item) (stop p : ℕ) (i : Item) → slice_get items p ≡ Some i → stop ≤ i.depth
+    → a.holds q i ≡ false → walked a stop (rest_of a q items p) ≡ here q items p i ∷ walked a stop (rest_of a q items (place_behind items p i))
+miss-on a q items stop p i at d e =
+    ap (walked a stop) (rest-jump a q items p i at e) ∙ walked-miss a stop (here q items p i) _ d (no_hit _ _ _ _ e)
 
-one_on : (m : Item → Bool) (items : List Item) (stop p : ℕ) (i : Item) → slice_get items p ≡ Some i → stop ≤ i.depth
-    → m i ≡ false → MayGoOn m items stop p (place_behind items p i)
-one_on m items stop p i at d e =
-    let x = here items p i in
-    let miss : is_hit m x ≡ false = no_match _ _ e in
-    let step = miss-on m items stop p i at d e in
+one_on : (a : Asking) (q : PacketView) (items : List Item) (stop p : ℕ) (i : Item) → slice_get items p ≡ Some i → stop ≤ i.depth
+    → a.holds q i ≡ false → MayGoOn a q items stop p (place_behind items p i)
+one_on a q items stop p i at d e =
+    let x = here q items p i in
+    let miss : is_hit a x ≡ false = no_hit _ _ _ _ e in
+    let step = miss-on a q items stop p i at d e in
     record {
-      found = λ f. ap (found_of m f) step ∙ found-miss m f x _ miss;
-      matches = ap (matching m) step ∙ matching-miss m x _ e;
+      found = λ f. ap (found_of a f) step ∙ found-miss a f x _ miss;
+      packet = ap (behind_all a q) step ∙ ap (λ r. behind_all a r (walked a stop (rest_of a q items (place_behind items p i)))) (behind-miss a q i e);
+      matches = ap (matching a) step ∙ matching-miss a x _ e;
       fewer = let l = ap (λ (xs : List Place). length xs) step in omega (arith, l);
       forward = omega arith;
     }
 
-both_on : (m : Item → Bool) (items : List Item) (stop p q r : ℕ) → MayGoOn m items stop p q → MayGoOn m items stop q r
-    → MayGoOn m items stop p r
-both_on m items stop p q r h k = record {
+both_on : (a : Asking) (q : PacketView) (items : List Item) (stop p r s : ℕ) → MayGoOn a q items stop p r → MayGoOn a q items stop r s
+    → MayGoOn a q items stop p s
+both_on a q items stop p r s h k = record {
   found = λ f. h.found f ∙ k.found f;
+  packet = h.packet ∙ k.packet;
   matches = h.matches ∙ k.matches;
   fewer = omega (arith, h.fewer, k.fewer);
   forward = omega (arith, h.forward, k.forward);
@@ -196,23 +204,23 @@ over_skip P k items p q i last more s at = skip_within q P k items p q i last mo
 -- a walk goes on at the skip of the parameter that an item fails on
 pub skip-on : (tables : List (List Entry)) (packet : PacketView) (k : Parameter) (items : List Item) (stop p q : ℕ) (i : Item)
     → IsSkip k items p i q → slice_get items p ≡ Some i → stop ≤ i.depth
-    → holds_at tables packet k (filter_of i.what) ≡ false → MayGoOn (matches_item tables packet) items stop p q
+    → holds_at tables packet k (filter_of i.what) ≡ false → MayGoOn (asking items tables) packet items stop p q
 skip-on tables packet k items stop p q i s at d h = over_skip GoesOn k items p q i last more s at d h
   where
-    m : Item → Bool
-    m = matches_item tables packet
+    a : Asking
+    a = asking items tables
 
     GoesOn : ℕ → Item → Type 0
-    GoesOn p i = stop ≤ i.depth → holds_at tables packet k (filter_of i.what) ≡ false → MayGoOn m items stop p q
+    GoesOn p i = stop ≤ i.depth → holds_at tables packet k (filter_of i.what) ≡ false → MayGoOn a packet items stop p q
 
     own : (p : ℕ) (i : Item) → slice_get items p ≡ Some i → stop ≤ i.depth → holds_at tables packet k (filter_of i.what) ≡ false
-        → MayGoOn m items stop p (place_behind items p i)
-    own p i at d h = one_on m items stop p i at d (fails tables packet k i h)
+        → MayGoOn a packet items stop p (place_behind items p i)
+    own p i at d h = one_on a packet items stop p i at d (fails tables packet k i h)
 
     last : HoldsLast GoesOn k items q
-    last p i s at e d h = subst (λ r. MayGoOn m items stop p r) e (own p i at d h)
+    last p i s at e d h = subst (λ r. MayGoOn a packet items stop p r) e (own p i at d h)
 
     more : HoldsMore GoesOn k items
     more p i j at there e same on d h =
         let again = sym (same-holds tables packet k (filter_of i.what) (filter_of j.what) same) ∙ h in
-        both_on m items stop p (place_behind items p i) q (own p i at d h) (on (omega (arith, d, e)) again)
+        both_on a packet items stop p (place_behind items p i) q (own p i at d h) (on (omega (arith, d, e)) again)

@@ -1,3 +1,4 @@
+pub mod Asking
 pub mod Blooms
 pub mod Covering
 pub mod Entries

@@ -1,11 +1,13 @@
 -- Items, and what a walk over them reads of each.
-use Rattle.std.specs.Prelude.{ℕ, suc, zero, ◌≡◌, ◌≤◌, ◌+◌, ◌&&◌, max, if◌then◌else◌, Option, Some, None, List, [], ◌∷◌, length, map, slice_get}
+use Rattle.std.specs.Prelude.{ℕ, suc, zero, ◌≡◌, ◌≤◌, ◌+◌, ◌&&◌, max, if◌then◌else◌, Bool, Option, Some, None, List, [], ◌∷◌, length, map, slice_get}
+use Rattle.pfs_addr_values.specs.Packets.{PacketView}
 use Rattle.pfs_conf_values.specs.Depths.{is_rule}
 use Rattle.pfs_conf_values.specs.Order.{IsPreorder}
 use Rattle.pfs_conf_values.specs.declared.items.Item.{Item}
 use Rattle.pfs_conf_values.specs.declared.items.ItemKind.{ItemKind}
 use Rattle.pfs_eval.specs.Skips.{AreSkipsOf, skip_of}
-use Rattle.pfs_eval.specs.Verdict.{enclosing, is_quick}
+use Rattle.pfs_eval.specs.Asking.{asked_tag, came_to, given_tag, marked_by}
+use Rattle.pfs_eval.specs.Verdict.{can_decide, enclosing, is_quick}
 use Rattle.pfs_eval.specs.declared.comparing.Parameter.{Parameter}
 use Rattle.pfs_eval.specs.declared.lines.Line.{Line}
 use Rattle.pfs_eval.specs.declared.walks.Walk.{Walk}
@@ -22,13 +24,15 @@ abbrev pub stop_depth_of : List Item → ℕ
 stop_depth_of [] = 0
 stop_depth_of (a ∷ outer) = if is_quick a.what then max (a.depth + 1) (stop_depth_of outer) else stop_depth_of outer
 
--- where a walk goes on after an item at p that matches: a quick rule ends it
+-- where a walk goes on after an item at p that decides: a quick rule ends it
 abbrev pub next_place : List Item → ℕ → ItemKind → ℕ
 next_place items p what = if is_rule what && is_quick what then length items else p + 1
 
 -- the line of the item i at p, but for its skips
 pub record IsLine (items : List Item) (p : ℕ) (i : Item) (line : Line) : Type 0 where
   pub item : line.item ≡ i
+  pub asked : line.asked ≡ asked_tag items i.what
+  pub given : line.given ≡ given_tag items i.what
   pub next : line.next ≡ next_place items p i.what
   pub stop : line.stop_depth ≡ stop_depth_of (enclosing i.depth (back p [] items))
 
@@ -52,10 +56,21 @@ pub record AreLinesFrom (from : ℕ) (items : List Item) (lines : List Line) : T
 abbrev pub AreLines : List Item → List Line → Type 0
 AreLines items lines = AreLinesFrom 0 items lines
 
--- a walk after a visit to a line, where a parameter failed, or none
-abbrev pub walk_after : Walk → Line → Option Parameter → Walk
-walk_after w line (Some k) = record { place = skip_of line.skips k; stop_depth = w.stop_depth; found = w.found }
-walk_after w line None =
-    if is_rule line.item.what
+-- ---- a visit to a line, whose item fails on a parameter, or on none
+
+-- its rule matches a packet that the filter holds of
+abbrev pub is_matched : Line → PacketView → Bool
+is_matched line p = is_rule line.item.what && came_to line.asked p line.item.what
+
+-- the packet after it
+abbrev pub packet_after : PacketView → Line → Option Parameter → PacketView
+packet_after p line (Some k) = p
+packet_after p line None = if is_matched line p then marked_by line.given p else p
+
+-- the walk after it; p is the packet before it
+abbrev pub walk_after : Walk → PacketView → Line → Option Parameter → Walk
+walk_after w p line (Some k) = record { place = skip_of line.skips k; stop_depth = w.stop_depth; found = w.found }
+walk_after w p line None =
+    if is_matched line p && can_decide line.item.what
     then record { place = line.next; stop_depth = max w.stop_depth line.stop_depth; found = Some w.place }
-    else record { place = line.next; stop_depth = w.stop_depth; found = w.found }
+    else record { place = w.place + 1; stop_depth = w.stop_depth; found = w.found }

@@ -1,26 +1,48 @@
--- Which rule decides: the path of the items, its cut by `quick`, and the last matching rule before it.
-use Rattle.std.specs.Prelude.{ℕ, ◌+◌, Bool, ◌&&◌, ◌||◌, nat_lt, nat_le, if◌then◌else◌, Option, Some, None, List, [], ◌∷◌, IsSome, filter, map, slice_get}
-use Rattle.std.specs.List.{list_all, list_any}
+-- Which rule decides on a packet: the path of the items that it is asked of, its cut by `quick`, and the last matching rule before it; and
+-- what the rules before it made of the packet.
+use Rattle.std.specs.Prelude.{ℕ, ◌+◌, Bool, true, false, ◌&&◌, ◌||◌, not, nat_lt, nat_le, if◌then◌else◌, Option, Some, None, List, [], ◌∷◌, IsSome, filter, map, slice_get}
+use Rattle.std.specs.List.{list_any}
 use Rattle.std.specs.Option.{option_and_then}
-use Rattle.pfs_conf_values.specs.Configs.{rule_in}
+use Rattle.pfs_addr_values.specs.Packets.{PacketView}
+use Rattle.pfs_conf_values.specs.Configs.{is_match, rule_in}
 use Rattle.pfs_conf_values.specs.Depths.{is_rule}
 use Rattle.pfs_conf_values.specs.declared.items.Item.{Item}
 use Rattle.pfs_conf_values.specs.declared.items.ItemKind.{ItemKind}
 use Rattle.pfs_conf_values.specs.declared.items.ItemKind.TheVariants.{Rule, Anchor}
 
--- All that follows is over a test, whether an item matches; no packet is part of it.
+-- All that follows is over these: whether what an item asks in its filter holds of a packet; whether what it asks of how the packet came
+-- does; and the packet as it is behind an item that matches it.
+pub record Asking : Type 0 where
+  pub holds : PacketView → Item → Bool
+  pub came : PacketView → Item → Bool
+  pub marked : PacketView → Item → PacketView
 
 -- whether it has `quick`
 abbrev pub is_quick : ItemKind → Bool
 is_quick (Rule r) = r.quick
 is_quick (Anchor a) = a.quick
 
--- ---- the path (pf.conf(5), ANCHORS)
+-- whether it is a rule that can decide: no anchor, and no `match` rule
+abbrev pub can_decide : ItemKind → Bool
+can_decide (Rule r) = not (is_match r.action)
+can_decide (Anchor a) = false
 
--- a place on the path: the number of its item, the item, the anchors around it from the inside out, the items after it
+-- ---- the path (pf.conf(5), ANCHORS; a `match` rule, and a tag, has effect at once)
+
+-- a rule matches a packet
+abbrev pub matches_rule : Asking → PacketView → Item → Bool
+matches_rule a p i = is_rule i.what && a.holds p i && a.came p i
+
+-- a packet behind an item
+abbrev pub packet_past : Asking → PacketView → Item → PacketView
+packet_past a p i = if matches_rule a p i then a.marked p i else p
+
+-- a place on the path: the number of its item, the item, the packet as it is there, the anchors around it from the inside out, the items
+-- after it
 pub record Place : Type 0 where
   pub no : ℕ
   pub item : Item
+  pub packet : PacketView
   pub around : List Item
   pub after : List Item
 
@@ -29,37 +51,47 @@ abbrev pub enclosing : ℕ → List Item → List Item
 enclosing depth [] = []
 enclosing depth (x ∷ before) = if nat_lt x.depth depth then x ∷ enclosing x.depth before else enclosing depth before
 
--- the places of the items all of whose enclosing anchors match, in order. before: the items in front, the nearest first
-abbrev pub path_from : (Item → Bool) → List Item → ℕ → List Item → List Place
-path_from matches before n [] = []
-path_from matches before n (i ∷ rest) =
-    if list_all matches (enclosing i.depth before)
-    then record { no = n; item = i; around = enclosing i.depth before; after = rest } ∷ path_from matches (i ∷ before) (n + 1) rest
-    else path_from matches (i ∷ before) (n + 1) rest
+-- an anchor of this depth that does not match hides the items that are deeper, up to the first that is not
+abbrev pub is_shown : Option ℕ → ℕ → Bool
+is_shown None depth = true
+is_shown (Some hidden) depth = nat_le depth hidden
 
--- the path: the items all of whose enclosing anchors match
-abbrev pub path : (Item → Bool) → List Item → List Place
-path matches items = path_from matches [] 0 items
+abbrev pub hides : Bool → ℕ → Option ℕ
+hides true depth = None
+hides false depth = Some depth
+
+-- the places of the items that no anchor hides, in order. before: the items in front, the nearest first
+unfoldable pub path_from : Asking → PacketView → Option ℕ → List Item → ℕ → List Item → List Place
+path_from a p hidden before n [] = []
+path_from a p hidden before n (i ∷ rest) =
+    if is_shown hidden i.depth
+    then record { no = n; item = i; packet = p; around = enclosing i.depth before; after = rest }
+    ∷ path_from a (packet_past a p i) (hides (a.holds p i) i.depth) (i ∷ before) (n + 1) rest
+    else path_from a p hidden (i ∷ before) (n + 1) rest
+
+-- the path of a packet
+abbrev pub path : Asking → PacketView → List Item → List Place
+path a p items = path_from a p None [] 0 items
 
 -- ---- the cut (pf.conf(5), PACKET FILTERING, "quick"; ANCHORS)
 
--- a rule that matches is at this place
-abbrev pub is_hit : (Item → Bool) → Place → Bool
-is_hit matches x = is_rule x.item.what && matches x.item
+-- a rule that decides, if none behind it does, is at this place
+abbrev pub is_hit : Asking → Place → Bool
+is_hit a x = matches_rule a x.packet x.item && can_decide x.item.what
 
 -- the rule at r, where it matches, ends the evaluation before x: it is quick, or a quick anchor around it is left at x
 abbrev pub ends_before : Place → Place → Bool
 ends_before x r = is_quick r.item.what || list_any (λ (a : Item). is_quick a.what && nat_le x.item.depth a.depth) r.around
 
 -- the places up to the first one before which a matching rule ends the evaluation. seen: those in front
-abbrev pub cut_from : (Item → Bool) → List Place → List Place → List Place
-cut_from matches seen [] = []
-cut_from matches seen (x ∷ rest) =
-    if list_any (λ (r : Place). is_hit matches r && ends_before x r) seen then [] else x ∷ cut_from matches (x ∷ seen) rest
+abbrev pub cut_from : Asking → List Place → List Place → List Place
+cut_from a seen [] = []
+cut_from a seen (x ∷ rest) =
+    if list_any (λ (r : Place). is_hit a r && ends_before x r) seen then [] else x ∷ cut_from a (x ∷ seen) rest
 
 -- the path before its cut: what the packet is compared with
-abbrev pub cut : (Item → Bool) → List Item → List Place
-cut matches items = cut_from matches [] (path matches items)
+abbrev pub cut : Asking → PacketView → List Item → List Place
+cut a p items = cut_from a [] (path a p items)
 
 -- ---- the verdict (pf.conf(5), PACKET FILTERING: the last matching rule decides)
 
@@ -68,9 +100,18 @@ abbrev pub last_or : Option ℕ → List ℕ → Option ℕ
 last_or found [] = found
 last_or found (n ∷ ns) = last_or (Some n) ns
 
--- the number of the last rule before the cut that matches, or none
-unfoldable pub verdict : (Item → Bool) → List Item → Option ℕ
-verdict matches items = last_or None (map (λ (x : Place). x.no) (filter (is_hit matches) (cut matches items)))
+-- the number of the last rule before the cut that matches and can decide, or none
+unfoldable pub verdict : Asking → PacketView → List Item → Option ℕ
+verdict a p items = last_or None (map (λ (x : Place). x.no) (filter (is_hit a) (cut a p items)))
+
+-- a packet behind the last of these places, or as it was before them
+abbrev pub behind_all : Asking → PacketView → List Place → PacketView
+behind_all a p [] = p
+behind_all a p (x ∷ xs) = behind_all a (packet_past a x.packet x.item) xs
+
+-- the packet as the rules before the cut leave it
+unfoldable pub packet_behind : Asking → PacketView → List Item → PacketView
+packet_behind a p items = behind_all a p (cut a p items)
 
 -- the item of this number is a rule
 abbrev pub IsRuleAt : List Item → ℕ → Type 0

@@ -1,12 +1,16 @@
 //! What items ask of packets, and the one way to compare an item with a packet, which is counted as a visit.
 
 ghost use Rattle.std.specs.Prelude.{◌≡◌, ◌+◌, ◌-◌, ◌<◌, ◌^◌, ◌↔◌, IsTrue, MatchOption, false, true};
+ghost use Rattle.pfs_addr_values.specs.Packets.{came_in_on};
+ghost use Rattle.pfs_eval.specs.Asking.{came_to, is_same_tag, is_this_interface, received_on_holds, tagged_holds};
 ghost use Rattle.pfs_eval.specs.Matching.{common_flags, dir_holds, family_holds, filter_holds, filter_of, flags_hold, host_holds, interface_holds, ports_hold, prefix_holds, proto_holds, same_flags, turned_if};
 ghost use Rattle.pfs_eval.specs.Parameters.{IsSame, failing_at, holds_at, same_test};
 
 use crate::tables::Tables;
-use pfs_addr_values::{Addr, Dir, Flags, Meter, Packet, Prefix, Proto};
-use pfs_conf_values::{Family, Filter, FlagTest, Host, Interface, ItemKind, Ports, TableNo};
+use pfs_addr_values::{Addr, Dir, Flags, IfName, Meter, Packet, Prefix, Proto, TagNo};
+use pfs_conf_values::{
+    Family, Filter, FlagTest, Host, Interface, ItemKind, Ports, TableNo, Tagged,
+};
 
 /// A parameter of an item, in the order in which they are compared. (pf.conf(5), PARAMETERS)
 #[derive(Clone, Copy)]
@@ -32,7 +36,7 @@ pub enum Parameter {
 }
 
 /// Visits an item: compares what it asks with a packet. The answer is the first parameter that does not hold of the packet, or
-/// `None` where each that is given holds, so that the item matches. (pf.conf(5), PARAMETERS)
+/// `None` where each that is given holds. (pf.conf(5), PARAMETERS)
 pub fn failing(
     what: &ItemKind,
     tables: &Tables,
@@ -110,6 +114,60 @@ fn first_failing(tables: &Tables, packet: &Packet, filter: &Filter) -> Option<Pa
         return Some(Parameter::Flags);
     }
     None
+}
+
+/// Whether what a rule asks of how a packet came holds, where this is the tag that it asks for; an anchor asks nothing of it. It is asked
+/// only where each parameter holds, and is none of them: nothing is skipped for it.
+pub fn came_to(what: &ItemKind, asked: Option<TagNo>, packet: &Packet) -> bool
+    ensures { result ≡ came_to asked packet.now what.now }
+{
+    match what {
+        ItemKind::Rule(rule) => {
+            tagged_holds(&rule.came.tagged, asked, packet.tag())
+                && received_on_holds(&rule.came.received_on, packet)
+        }
+        ItemKind::Anchor(_) => true,
+    }
+}
+
+/// A tag that no rule gives is that of no packet.
+fn tagged_holds(tagged: &Option<Tagged>, asked: Option<TagNo>, tag: Option<TagNo>) -> bool
+    ensures { result ≡ tagged_holds asked tagged.now tag }
+{
+    match tagged {
+        None => true,
+        Some(tagged) => turned(tagged.negated, is_same_tag(asked, tag)),
+    }
+}
+
+fn is_same_tag(asked: Option<TagNo>, tag: Option<TagNo>) -> bool
+    ensures { result ≡ is_same_tag asked tag }
+{
+    match (asked, tag) {
+        (Some(asked), Some(tag)) => asked.0 == tag.0,
+        _ => false,
+    }
+}
+
+fn received_on_holds(wanted: &Option<Interface>, packet: &Packet) -> bool
+    ensures { result ≡ received_on_holds wanted.now (came_in_on packet.now) }
+{
+    match wanted {
+        None => true,
+        Some(wanted) => turned(
+            wanted.negated,
+            is_this_interface(&wanted.name, packet.came_in_on()),
+        ),
+    }
+}
+
+fn is_this_interface(name: &IfName, ifname: Option<IfName>) -> bool
+    ensures { result ≡ is_this_interface name.now ifname }
+{
+    match ifname {
+        None => false,
+        Some(ifname) => *name == ifname,
+    }
 }
 
 fn dir_holds(wanted: Option<Dir>, dir: Dir) -> bool

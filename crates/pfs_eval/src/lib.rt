@@ -1,4 +1,4 @@
-//! The tables of a configuration, the verdict of its rules on a packet, and where packets leave.
+//! The tables of a configuration, what its rules make of a packet, and where packets leave.
 #![tactic(auto)]
 
 mod blooms;
@@ -12,7 +12,7 @@ mod skips;
 mod tables;
 mod walks;
 
-pub use books::Book;
+pub use books::{Book, Decision};
 pub use entries::{Mark, TableEntry};
 pub use routing::interface_to;
 pub use tables::{Added, Entered, Tables};

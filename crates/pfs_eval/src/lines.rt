@@ -1,14 +1,19 @@
 //! The items of a book, and what a walk reads of each.
 
 ghost use Rattle.std.specs.Prelude.{◌≡◌, ◌+◌, ◌<◌, ◌≤◌, ℕ, [], IfOk, Some, drop, if◌then◌else◌, length, max, nat_le, slice_get, slice_index};
+ghost use Rattle.std.specs.Option.{option_and_then};
+ghost use Rattle.pfs_conf_values.specs.Configs.{tag_named};
 ghost use Rattle.pfs_conf_values.specs.Invariants.{IsConfig};
 ghost use Rattle.pfs_conf_values.specs.Depths.{is_rule};
+ghost use Rattle.pfs_conf_values.specs.declared.filters.Tagged.{Tagged};
+ghost use Rattle.pfs_eval.specs.Asking.{asked_tag, given_tag};
 ghost use Rattle.pfs_eval.specs.Lines.{AreLines, AreLinesFrom, IsLine, back, next_place, stop_depth_of};
 ghost use Rattle.pfs_eval.specs.Skips.{AreSkipsOf, body_length};
-ghost use Rattle.pfs_eval.specs.Verdict.{enclosing, is_quick};
+ghost use Rattle.pfs_eval.specs.Verdict.{can_decide, enclosing, is_quick};
 
 use crate::skips::Skips;
-use pfs_conf_values::{Config, Item, ItemKind};
+use pfs_addr_values::TagNo;
+use pfs_conf_values::{Action, Config, Item, ItemKind, TagName, Tagged};
 use std::alloc::{AllocError, Global};
 
 /// An item, and where a walk goes on from it.
@@ -18,11 +23,16 @@ use std::alloc::{AllocError, Global};
 pub struct Line {
     /// Where a walk goes on if one of the item's parameters fails.
     pub skips: Skips,
-    /// Where a walk goes on if the item matches: at the next item, or after the last one where it is a quick rule.
+    /// Where a walk goes on if the item is a rule that matches and can decide: at the next item, or after the last one where it is
+    /// quick.
     pub next: u32,
-    /// If the item is a rule and matches, the walk ends at the first item of lesser depth than this: one more than the
-    /// depth of the innermost quick anchor around the item, or 0 if none is quick.
+    /// If it is such a rule, the walk ends at the first item of lesser depth than this: one more than the depth of the innermost
+    /// quick anchor around the item, or 0 if none is quick.
     pub stop_depth: u8,
+    /// The tag that the item gives, if it is a rule that gives one.
+    pub given: Option<TagNo>,
+    /// The tag that the item asks for, if it is a rule that asks for one, and some rule gives it.
+    pub asked: Option<TagNo>,
     /// The item.
     pub item: Item,
 }
@@ -65,6 +75,8 @@ fn short_line(config: &Config, place: u32, item: &Item, stop_depth: u8) -> Line
         skips: Skips::all_to(body_end(config, place + 1, item.depth)),
         next,
         stop_depth,
+        given: given_tag(config, &item.what),
+        asked: asked_tag(config, &item.what),
         item: *item,
     }
 }
@@ -99,7 +111,45 @@ fn skips_at(config: &Config, lines: &[Line], place: u32) -> Skips
     }
 }
 
-/// Where a walk goes on after an item that matches.
+/// The tag that a rule gives.
+fn given_tag(config: &Config, what: &ItemKind) -> Option<TagNo>
+    ensures { result ≡ given_tag config.now.items what.now }
+{
+    match what {
+        ItemKind::Rule(rule) => tag_named(config, &rule.tag),
+        ItemKind::Anchor(_) => None,
+    }
+}
+
+/// The tag that a rule asks for.
+fn asked_tag(config: &Config, what: &ItemKind) -> Option<TagNo>
+    ensures { result ≡ asked_tag config.now.items what.now }
+{
+    match what {
+        ItemKind::Rule(rule) => tag_asked(config, &rule.came.tagged),
+        ItemKind::Anchor(_) => None,
+    }
+}
+
+fn tag_named(config: &Config, name: &Option<TagName>) -> Option<TagNo>
+    ensures { result ≡ option_and_then (tag_named config.now.items) name.now }
+{
+    match name {
+        Some(name) => config.tag_named(name),
+        None => None,
+    }
+}
+
+fn tag_asked(config: &Config, tagged: &Option<Tagged>) -> Option<TagNo>
+    ensures { result ≡ option_and_then (λ (t : Tagged). tag_named config.now.items t.name) tagged.now }
+{
+    match tagged {
+        Some(tagged) => config.tag_named(&tagged.name),
+        None => None,
+    }
+}
+
+/// Where a walk goes on after a rule that decides.
 fn next_place(config: &Config, place: u32, what: &ItemKind) -> u32
     requires { place < length config.now.items }
     ensures { result ≡ next_place config.now.items place what.now }
@@ -153,6 +203,16 @@ pub fn is_rule(what: &ItemKind) -> bool
     ensures { result ≡ is_rule what.now }
 {
     matches!(what, ItemKind::Rule(_))
+}
+
+/// Whether this is a rule that can decide: no anchor, and no `match` rule.
+pub fn can_decide(what: &ItemKind) -> bool
+    ensures { result ≡ can_decide what.now }
+{
+    match what {
+        ItemKind::Rule(rule) => !matches!(rule.action, Action::Match),
+        ItemKind::Anchor(_) => false,
+    }
 }
 
 /// Whether a rule or an anchor has `quick`.

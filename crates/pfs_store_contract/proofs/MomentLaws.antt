@@ -39,10 +39,10 @@ nodes_with-scored now nodes number source at (Some scope) h = by (has_node scope
     by true = h
     by false = All-push (IsScoredBy now) nodes (new_node number scope source at) h (omega arith)
 
-pub world_at-up_to_now : (conf : Conf) (w : World) (p : PacketView) (rule : ℕ) (cookie : Bool) (now : ℕ) (limit : Option Limit) → IsUpToNow now w
-    → IsUpToNow now (world_at conf w p rule cookie now limit)
-world_at-up_to_now conf w p rule cookie now None h = nodes_with-scored now w.nodes (w.made + 1) p.source.addr now (node_scope_of conf rule) h
-world_at-up_to_now conf w p rule cookie now (Some l) h = by (leaves_node conf w p.source.addr rule l)
+pub world_at-up_to_now : (conf : Conf) (w : World) (p going : PacketView) (rule : ℕ) (cookie : Bool) (now : ℕ) (limit : Option Limit) → IsUpToNow now w
+    → IsUpToNow now (world_at conf w p going rule cookie now limit)
+world_at-up_to_now conf w p going rule cookie now None h = nodes_with-scored now w.nodes (w.made + 1) p.source.addr now (node_scope_of conf rule) h
+world_at-up_to_now conf w p going rule cookie now (Some l) h = by (leaves_node conf w p.source.addr rule l)
   where
     by : (b : Bool) → IsUpToNow now
         (if b then record w { nodes = nodes_with w.nodes (w.made + 1) p.source.addr now (node_scope_of conf rule); made = w.made + 1 } else w)

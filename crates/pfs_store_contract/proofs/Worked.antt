@@ -9,7 +9,7 @@ use Rattle.pfs_addr_values.specs.declared.flag_sets.Flags.{Flags}
 use Rattle.pfs_addr_values.specs.declared.packets.Dir.TheVariants.{In, Out}
 use Rattle.pfs_addr_values.specs.declared.packets.Endpoint.{Endpoint}
 use Rattle.pfs_addr_values.specs.declared.protocols.Proto.TheVariants.{Tcp, Udp}
-use Rattle.pfs_conf_values.specs.Configs.{Conf, any_packet, no_options}
+use Rattle.pfs_conf_values.specs.Configs.{Conf, no_options, no_rule}
 use Rattle.pfs_conf_values.specs.declared.actions.Action.TheVariants as action
 use Rattle.pfs_conf_values.specs.declared.actions.Scope.TheVariants as scope
 use Rattle.pfs_conf_values.specs.declared.actions.StateOptions.{StateOptions}
@@ -28,7 +28,7 @@ use Rattle.pfs_store_contract.specs.declared.records.Touched.{Touched}
 
 -- a rule that keeps state
 abbrev keeping : StateOptions → Item
-keeping o = record { depth = 0; what = what.Rule (record { quick = false; filter = any_packet; action = action.Keep o }) }
+keeping o = record { depth = 0; what = what.Rule (record no_rule { action = action.Keep o }) }
 
 -- limits of states and nodes, `udp.first`, `src.track`, `interval`, the adaptive pair, and rules with these options
 abbrev conf_of : ℕ → ℕ → ℕ → ℕ → ℕ → ℕ → ℕ → List Item → Conf
@@ -71,6 +71,8 @@ udp source port = record {
   source = end_at source port;
   destination = end_at (V4 (192 ∷ 0 ∷ 2 ∷ 1 ∷ [])) 53;
   flags = flagged false false;
+  tag = None;
+  came_by = None;
 }
 
 -- a packet of the server to it
@@ -86,6 +88,8 @@ syn source port = record {
   source = end_at source port;
   destination = end_at (V4 (192 ∷ 0 ∷ 2 ∷ 1 ∷ [])) 80;
   flags = flagged true false;
+  tag = None;
+  came_by = None;
 }
 
 abbrev ack : Addr → ℕ → PacketView
@@ -99,11 +103,13 @@ syn_ack source port = record {
   source = end_at (V4 (192 ∷ 0 ∷ 2 ∷ 1 ∷ [])) 80;
   destination = end_at source port;
   flags = flagged true true;
+  tag = None;
+  came_by = None;
 }
 
 -- the world after a packet that makes a state, or is refused
 abbrev after_new : Conf → World → PacketView → ℕ → World
-after_new conf w p now = world_at conf w p 0 false now (packet_limit conf w p 0)
+after_new conf w p now = world_at conf w p p 0 false now (packet_limit conf w p 0)
 
 -- the world after a packet of a state
 abbrev after_more : Conf → World → PacketView → ℕ → World
@@ -171,6 +177,7 @@ tells connections value last = Some (record {
   completed = true;
   taken = false;
   asks = false;
+  tag = None;
   connections = connections;
   score = record { value = value; last = last };
 })

@@ -73,9 +73,9 @@ new_phase conf rule p true = cookie_phase (tracks_fully conf rule)
 new_phase conf rule p false =
     if is_answered conf rule p then proxied_phase (tracks_fully conf rule) else first_phase (tracks_fully conf rule) p.proto
 
--- the state that a packet makes
-abbrev pub new_state : Conf → ℕ → PacketView → ℕ → Bool → ℕ → State
-new_state conf number p rule cookie now = record {
+-- the state that a packet makes, which goes on as another
+abbrev pub new_state : Conf → ℕ → PacketView → PacketView → ℕ → Bool → ℕ → State
+new_state conf number p going rule cookie now = record {
   number = number;
   key = key_of p;
   dir = p.dir;
@@ -83,6 +83,7 @@ new_state conf number p rule cookie now = record {
   rule = record { 0 = rule };
   phase = new_phase conf rule p cookie;
   last = now;
+  tag = going.tag;
 }
 
 -- the node that is made with it, where its source has none in the rule's scope
@@ -94,9 +95,9 @@ nodes_with nodes number source now None = nodes
 nodes_with nodes number source now (Some scope) = if has_node scope source nodes then nodes else nodes ++ new_node number scope source now ∷ []
 
 -- the world with one state more: numbers count from 1 and are never used again
-abbrev pub world_after_admission : Conf → World → PacketView → ℕ → Bool → ℕ → World
-world_after_admission conf w p rule cookie now = record w {
-  states = w.states ++ new_state conf (w.made + 1) p rule cookie now ∷ [];
+abbrev pub world_after_admission : Conf → World → PacketView → PacketView → ℕ → Bool → ℕ → World
+world_after_admission conf w p going rule cookie now = record w {
+  states = w.states ++ new_state conf (w.made + 1) p going rule cookie now ∷ [];
   nodes = nodes_with w.nodes (w.made + 1) p.source.addr now (node_scope_of conf rule);
   made = w.made + 1;
 }

@@ -39,9 +39,9 @@ abbrev pub answer_at : World → Option Limit → Result StateNo Limit
 answer_at w None = Ok (record { 0 = w.made + 1 })
 answer_at w (Some l) = Err l
 
-abbrev pub world_at : Conf → World → PacketView → ℕ → Bool → ℕ → Option Limit → World
-world_at conf w p rule cookie now None = world_after_admission conf w p rule cookie now
-world_at conf w p rule cookie now (Some l) = world_after_refusal conf w p.source.addr rule now l
+abbrev pub world_at : Conf → World → PacketView → PacketView → ℕ → Bool → ℕ → Option Limit → World
+world_at conf w p going rule cookie now None = world_after_admission conf w p going rule cookie now
+world_at conf w p going rule cookie now (Some l) = world_after_refusal conf w p.source.addr rule now l
 
 -- a refusal takes no memory, but for a node that it leaves
 abbrev pub IsFreeRefusal : Conf → World → PacketView → ℕ → Option Limit → Type 0
@@ -76,6 +76,7 @@ touch_of conf w p now s = record {
   completed = completes_at p s;
   taken = is_taken p s;
   asks = is_asking p s;
+  tag = s.tag;
   connections = connections_in conf s.source (world_after_touch conf w s p now).states (node_scope_of conf s.rule.0);
   score = score_in s.source (world_after_touch conf w s p now).nodes (node_scope_of conf s.rule.0);
 }

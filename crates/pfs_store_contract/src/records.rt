@@ -3,7 +3,7 @@
 ghost use Rattle.std.specs.Prelude.{◌≡◌};
 ghost use Rattle.pfs_store_contract.specs.Calls.{told_at};
 
-use pfs_addr_values::{Addr, Dir, FlowKey};
+use pfs_addr_values::{Addr, Dir, FlowKey, TagNo};
 use pfs_conf_values::RuleNo;
 use pfs_track::{Score, StatePhase};
 
@@ -28,6 +28,8 @@ pub struct State {
     pub phase: StatePhase,
     /// The moment of its last packet, in seconds.
     pub last: u64,
+    /// The tag with which the packet that made it went on: each of its packets has it. (pf.conf(5), PARAMETERS, "tag")
+    pub tag: Option<TagNo>,
 }
 
 /// For which rules a source node counts.
@@ -97,6 +99,8 @@ pub struct Touched {
     pub taken: bool,
     /// Whether pf asks the other peer for a connection then, by a SYN of its own. ("synproxy state")
     pub asks: bool,
+    /// The tag of the state.
+    pub tag: Option<TagNo>,
     /// The connections of the source's node after it; 0 for a rule that tracks no sources.
     pub connections: u64,
     /// The score of the source's node after it; 0 at moment 0 for a rule that tracks no sources.

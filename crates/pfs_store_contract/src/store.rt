@@ -63,7 +63,8 @@ pub trait Store {
     fn made(&self) -> u64
         ensures { result ≡ (world self.now).made };
 
-    /// Makes a state for a packet whose key no state has, at a rule that keeps state. Where the rule has `synproxy state`, and the packet
+    /// Makes a state for a packet whose key no state has, at a rule that keeps state; the state keeps the tag with which the packet goes
+    /// on. Where the rule has `synproxy state`, and the packet
     /// is a SYN without ACK of TCP that comes in, pf leads the handshakes of the state. Where the packet brings a `cookie` of pf, pf's
     /// handshake with its maker is complete, and never counts. It makes a source node with it
     /// where the rule tracks sources and the source has none in its scope. It returns the number of the state, or the
@@ -80,6 +81,7 @@ pub trait Store {
     fn admit(
         &mut self,
         packet: &Packet,
+        going: &Packet,
         rule: RuleNo,
         cookie: bool,
         now: u64,
@@ -90,7 +92,7 @@ pub trait Store {
         ensures answer { IfOk result (λ a.
             a ≡ answer_at (world self.old) (packet_limit (config self.old) (world self.old) packet.now rule.0)) }
         ensures ok { IfOk result (λ a. world self.new
-            ≡ world_at (config self.old) (world self.old) packet.now rule.0 cookie now
+            ≡ world_at (config self.old) (world self.old) packet.now going.now rule.0 cookie now
             (packet_limit (config self.old) (world self.old) packet.now rule.0)) }
         ensures err { OnErr result (world self.new ≡ world self.old) }
         ensures no_memory { IsFreeRefusal (config self.old) (world self.old) packet.now rule.0

@@ -411,6 +411,7 @@ impl<S: BuildHasher> Indexes<S> {
                 completed: step.completed,
                 taken: step.taken,
                 asks: step.asks,
+                tag: state.tag,
                 connections: met.connections,
                 score: met.score,
             },

@@ -97,10 +97,12 @@ impl<S: BuildHasher> IndexStore<S> {
 }
 
 impl<S: BuildHasher> IndexStore<S> {
-    /// Makes the state of a packet at a rule, and with it the node of its source where it has none, whatever limits they meet.
+    /// Makes the state of a packet at a rule, which goes on as another, and with it the node of its source where it has none, whatever
+    /// limits they meet.
     fn make(
         &mut self,
         packet: &Packet,
+        going: &Packet,
         rule: RuleNo,
         cookie: bool,
         now: u64,
@@ -109,7 +111,7 @@ impl<S: BuildHasher> IndexStore<S> {
         requires keeps { IsSome (options_at self.old.config rule.0) }
         requires room { self.old.world.made < run_limit }
         ensures number { IfOk result (λ n. n.0 ≡ self.old.world.made + 1) }
-        ensures ok { OnOk result (self.new.world ≡ world_after_admission self.old.config self.old.world packet.now rule.0 cookie now) }
+        ensures ok { OnOk result (self.new.world ≡ world_after_admission self.old.config self.old.world packet.now going.now rule.0 cookie now) }
         ensures err { OnErr result (self.new.world ≡ self.old.world) }
         ensures config { self.new.config ≡ self.old.config }
     {
@@ -124,6 +126,7 @@ impl<S: BuildHasher> IndexStore<S> {
             rule,
             phase: new_phase(self.indexes.config(), rule, packet, cookie),
             last: now,
+            tag: going.tag(),
         };
         match self.indexes.put(state) {
             Ok(()) => {
@@ -226,6 +229,7 @@ impl<S: BuildHasher> Store for IndexStore<S> {
     fn admit(
         &mut self,
         packet: &Packet,
+        going: &Packet,
         rule: RuleNo,
         cookie: bool,
         now: u64,
@@ -235,7 +239,7 @@ impl<S: BuildHasher> Store for IndexStore<S> {
                 Ok(()) => Ok(Err(limit)),
                 Err(refused) => Err(refused),
             },
-            None => match self.make(packet, rule, cookie, now) {
+            None => match self.make(packet, going, rule, cookie, now) {
                 Ok(number) => Ok(Ok(number)),
                 Err(refused) => Err(refused),
             },

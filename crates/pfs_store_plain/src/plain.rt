@@ -75,17 +75,18 @@ impl PlainStore {
         limit_met(&self.config, &self.states, &self.nodes, rule, packet.src())
     }
 
-    /// The state of a packet that meets no limit, and its source's node.
+    /// The state of a packet that meets no limit and goes on as another, and its source's node.
     fn place(
         &mut self,
         packet: &Packet,
+        going: &Packet,
         rule: RuleNo,
         cookie: bool,
         now: u64,
     ) -> Result<StateNo, AllocError>
         requires room { self.old.world.made < run_limit }
         ensures answer { IfOk result (λ number. number.0 ≡ self.old.world.made + 1) }
-        ensures ok { OnOk result (self.new.world ≡ world_after_admission self.old.config self.old.world packet.now rule.0 cookie now) }
+        ensures ok { OnOk result (self.new.world ≡ world_after_admission self.old.config self.old.world packet.now going.now rule.0 cookie now) }
         ensures err { OnErr result (self.new.world ≡ self.old.world) }
         ensures config { self.new.config ≡ self.old.config }
     {
@@ -106,6 +107,7 @@ impl PlainStore {
             rule,
             phase,
             last: now,
+            tag: going.tag(),
         });
         self.made = number;
         Ok(StateNo(number))
@@ -192,6 +194,7 @@ impl Store for PlainStore {
     fn admit(
         &mut self,
         packet: &Packet,
+        going: &Packet,
         rule: RuleNo,
         cookie: bool,
         now: u64,
@@ -202,7 +205,7 @@ impl Store for PlainStore {
                 Err(_) => Err(NoMemory),
             };
         }
-        match self.place(packet, rule, cookie, now) {
+        match self.place(packet, going, rule, cookie, now) {
             Ok(number) => Ok(Ok(number)),
             Err(_) => Err(NoMemory),
         }

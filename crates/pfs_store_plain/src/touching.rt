@@ -97,6 +97,7 @@ fn touch_state(
         completed,
         taken,
         asks,
+        tag: state.tag,
         connections: connections_in(config, states, scope, state.source),
         score: score_in(nodes, scope, state.source),
     }

@@ -4,6 +4,7 @@ pub mod Numbered
 pub mod Pieces
 pub mod Records
 pub mod Retaining
+pub mod Sides
 pub mod Sourced
 pub mod Stays
 pub mod Tallies

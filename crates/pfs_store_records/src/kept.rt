@@ -2,37 +2,88 @@
 //! of 32 bits: a run makes at most 2,000,000,000 states.
 
 ghost use Rattle.std.specs.Prelude.{◌≡◌, ◌<◌, ◌^◌};
+ghost use Rattle.pfs_store_records.specs.Sides.{dir_of_side, number_of_tag, side_from, tag_at_side};
 ghost use Rattle.pfs_store_records.specs.Sourced.{IsSourced, source_at};
 ghost use Rattle.pfs_track.specs.StatePhases.{slot};
 
-use pfs_addr_values::{Addr, Dir, FlowKey};
+use pfs_addr_values::{Addr, Dir, Endpoint, FlowKey, Proto, TagNo};
 use pfs_conf_values::{RuleNo, TimeoutName};
 use pfs_store_contract::State;
 use pfs_track::StatePhase;
 use std::marker::Model;
 
+/// In which direction a state was made, and whether it has a tag.
+#[derive(Clone, Copy)]
+pub(crate) enum Side {
+    /// `in`, without a tag.
+    In,
+    /// `out`, without a tag.
+    Out,
+    /// `in`, with a tag.
+    TaggedIn,
+    /// `out`, with a tag.
+    TaggedOut,
+}
+
 /// A state whose source is the end of its key from which packets of its direction come. Clauses see the state.
 ///
-/// The fields are in memory in this order: what a walk reads comes first, and none of the 64 bytes is unused.
+/// The fields are in memory in this order: what a walk reads comes first, and none of the 64 bytes is unused. So the ends of the key
+/// are kept in parts. The number of the tag is 0 where the state has none.
 #[derive(Clone, Copy)]
 pub(crate) struct Kept {
     last: u64,
     number: u32,
     rule: RuleNo,
     phase: StatePhase,
-    dir: Dir,
-    key: FlowKey,
+    side: Side,
+    tag: u16,
+    proto: Proto,
+    port: u16,
+    other_port: u16,
+    addr: Addr,
+    other_addr: Addr,
 }
+
+const _: () = prove!(size_of::<Kept>() == 64);
 
 impl Model for Kept {
     ghost use Rattle.pfs_store_contract.specs.declared.records.State.{State};
+    ghost use Rattle.pfs_store_records.specs.Sides.{IsTagAt, dir_of_side, number_of_tag, side_back, side_from, tag_at_side};
     ghost use Rattle.pfs_store_records.specs.Sourced.{source_at};
+    ghost use Rattle.std.specs.Prelude.{ℕ};
+    ghost use Rattle.std.proofs.Common.{ap};
+    ghost use Rattle.pfs_store_records.specs.declared.kept.Side.{Side};
 
     ghost Value = { State };
 
-    ghost view = { λ k. record { number = k.number; key = k.key; dir = k.dir; source = source_at k.dir k.key; rule = k.rule; phase = k.phase; last = k.last } };
+    ghost view = { λ k. record {
+      number = k.number;
+      key = record { proto = k.proto; a = record { addr = k.addr; port = k.port }; b = record { addr = k.other_addr; port = k.other_port } };
+      dir = dir_of_side k.side;
+      source = source_at (dir_of_side k.side) (record { proto = k.proto; a = record { addr = k.addr; port = k.port }; b = record { addr = k.other_addr; port = k.other_port } });
+      rule = k.rule;
+      phase = k.phase;
+      last = k.last;
+      tag = tag_at_side k.side k.tag;
+    } };
 
-    ghost inverse = { λ s. record { last = s.last; number = s.number; rule = s.rule; phase = s.phase; dir = s.dir; key = s.key } };
+    ghost invariant = { λ k. IsTagAt k.side k.tag };
+
+    ghost inverse = { λ s. record {
+      last = s.last;
+      number = s.number;
+      rule = s.rule;
+      phase = s.phase;
+      side = side_from s.dir s.tag;
+      tag = number_of_tag s.tag;
+      proto = s.key.proto;
+      port = s.key.a.port;
+      other_port = s.key.b.port;
+      addr = s.key.a.addr;
+      other_addr = s.key.b.addr;
+    } };
+
+    ghost inverse_ok = { λ k h. ap (λ (q : Side × ℕ). record k { side = q.0; tag = q.1 }) (side_back k.side k.tag h) };
 }
 
 impl Kept {
@@ -47,8 +98,13 @@ impl Kept {
             number: state.number as u32,
             rule: state.rule,
             phase: state.phase,
-            dir: state.dir,
-            key: state.key,
+            side: side_from(state.dir, state.tag),
+            tag: number_of_tag(state.tag),
+            proto: state.key.proto,
+            port: state.key.a.port,
+            other_port: state.key.b.port,
+            addr: state.key.a.addr,
+            other_addr: state.key.b.addr,
         }
     }
 
@@ -86,14 +142,33 @@ impl Kept {
         ensures sourced { IsSourced result }
         ensures small { result.number < 2 ^ 32 }
     {
+        let dir = dir_of_side(self.side);
+        let key = self.key();
         State {
             number: u64::from(self.number),
-            key: self.key,
-            dir: self.dir,
-            source: source_of(self.dir, &self.key),
+            key,
+            dir,
+            source: source_of(dir, &key),
             rule: self.rule,
             phase: self.phase,
             last: self.last,
+            tag: tag_at_side(self.side, self.tag),
+        }
+    }
+
+    fn key(&self) -> FlowKey
+        ensures { result ≡ self.now.key }
+    {
+        FlowKey {
+            proto: self.proto,
+            a: Endpoint {
+                addr: self.addr,
+                port: self.port,
+            },
+            b: Endpoint {
+                addr: self.other_addr,
+                port: self.other_port,
+            },
         }
     }
 }
@@ -104,5 +179,43 @@ fn source_of(dir: Dir, key: &FlowKey) -> Addr
     match dir {
         Dir::In => key.a.addr,
         Dir::Out => key.b.addr,
+    }
+}
+
+fn side_from(dir: Dir, tag: Option<TagNo>) -> Side
+    ensures { result ≡ side_from dir tag }
+{
+    match (dir, tag) {
+        (Dir::In, None) => Side::In,
+        (Dir::Out, None) => Side::Out,
+        (Dir::In, Some(_)) => Side::TaggedIn,
+        (Dir::Out, Some(_)) => Side::TaggedOut,
+    }
+}
+
+fn number_of_tag(tag: Option<TagNo>) -> u16
+    ensures { result ≡ number_of_tag tag }
+{
+    match tag {
+        Some(tag) => tag.0,
+        None => 0,
+    }
+}
+
+fn dir_of_side(side: Side) -> Dir
+    ensures { result ≡ dir_of_side side }
+{
+    match side {
+        Side::In | Side::TaggedIn => Dir::In,
+        Side::Out | Side::TaggedOut => Dir::Out,
+    }
+}
+
+fn tag_at_side(side: Side, number: u16) -> Option<TagNo>
+    ensures { result ≡ tag_at_side side number }
+{
+    match side {
+        Side::In | Side::Out => None,
+        Side::TaggedIn | Side::TaggedOut => Some(TagNo(number)),
     }
 }

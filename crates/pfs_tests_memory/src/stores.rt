@@ -203,7 +203,7 @@ fn admit_first<S: Store>(
     {
         return Err(Stop::Input);
     }
-    Ok(store.admit(packet, RuleNo(0), false, now)?)
+    Ok(store.admit(packet, packet, RuleNo(0), false, now)?)
 }
 
 fn touch<S: Store>(rt: &HostRuntime, store: &mut S, packet: &Packet, now: u64) -> Result<(), Stop>
@@ -313,7 +313,7 @@ fn admit_one<S: Store>(
     {
         return Err(Stop::Input);
     }
-    match store.admit(packet, rule, false, 5) {
+    match store.admit(packet, packet, rule, false, 5) {
         Ok(Ok(number)) => Ok(Some(Ok(number.0))),
         Ok(Err(limit)) => Ok(Some(Err(limit))),
         Err(_) => Ok(None),

@@ -92,7 +92,7 @@ fn decide(
     plain(rt, true)?;
     let mut meter = Meter::new();
     begin_free(rt, "decide")?;
-    let decided = book.decide(tables, udp, &mut meter);
+    let decided = book.decide(tables, udp, &mut meter).rule;
     end(rt)?;
     plain(rt, decided.map(number_of) == rule)
 }

@@ -15,6 +15,7 @@ mod scenarios;
 mod streams;
 mod syncookies;
 mod synproxies;
+mod tags;
 mod tallies;
 mod traces;
 mod verdicts;

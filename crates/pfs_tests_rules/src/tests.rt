@@ -4,6 +4,7 @@ mod asking;
 mod bounds;
 mod generated;
 mod lifetimes;
+mod marks;
 mod packets;
 mod phases;
 mod plain;

@@ -10,6 +10,7 @@ mod parameters;
 mod profiles;
 mod round_trips;
 mod settings;
+mod tags;
 mod together;
 mod tokens;
 mod wide_addresses;

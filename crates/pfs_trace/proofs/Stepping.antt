@@ -10,7 +10,7 @@ use Rattle.pfs_addr_values.specs.Packets.{PacketView}
 use Rattle.pfs_conf_values.specs.Configs.{Conf, has_name, is_const_table, table_named}
 use Rattle.pfs_conf_values.specs.declared.filters.TableNo.{TableNo}
 use Rattle.pfs_store_contract.specs.declared.kills.FromTo.{FromTo}
-use Rattle.pfs_engine_machine.specs.Machine.{Machine, step}
+use Rattle.pfs_engine_machine.specs.Machine.{Machine, sent_on, step}
 use Rattle.pfs_engine_machine.specs.Runs.{MayCome, MayChange}
 use Rattle.pfs_engine_machine.specs.Ways.{first_event, second_packet, way, way_on}
 use Rattle.pfs_engine_machine.specs.declared.events.Command.{Command}
@@ -31,7 +31,7 @@ last-step conf m e = refl
 
 pub last-way : (conf : Conf) (m : Machine) (r : Event) → (way conf m r).1.last ≡ Some r.time
 unfolding way
-last-way conf m r = by (second_packet conf o r.what)
+last-way conf m r = by (second_packet conf o (sent_on conf m (first_event conf r)) r.what)
   where
     answer : Outcome × Machine
     answer = step conf m (first_event conf r)

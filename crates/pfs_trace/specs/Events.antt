@@ -79,7 +79,7 @@ packet_at row fields =
     in_column row 4 (proto_in (column_of fields 4)) (λ proto.
     and_then (ends_at row proto fields) (λ ends.
     in_column row 9 (flags_for proto (column_of fields 9)) (λ flags.
-    Ok (if is_icmp proto then None else Some (record { dir = dir; ifname = ifname; proto = proto; source = ends.0; destination = ends.1; flags = flags })))))))
+    Ok (if is_icmp proto then None else Some (record { dir = dir; ifname = ifname; proto = proto; source = ends.0; destination = ends.1; flags = flags; tag = None; came_by = None })))))))
 
 -- a moment is before the last one, if there is one
 abbrev pub falls : Option ℕ → ℕ → Bool

@@ -78,6 +78,10 @@ row_fields row =
     ∷ addr_text row.packet.destination.addr ∷ port_text row.packet.proto row.packet.destination.port
     ∷ letters_text row.packet.flags ∷ []
 
+-- a packet as a row says it: a row says no tag, and no interface by which it came before
+abbrev pub as_said : PacketView → PacketView
+as_said p = record p { tag = None; came_by = None }
+
 -- what a replay has of a row: its packet, or of ICMP a record that it skips
 abbrev pub event_of : Row → Event
-event_of row = record { time = row.second; what = option_map_or arrival.Packet (if is_icmp row.packet.proto then None else Some row.packet) arrival.Skip }
+event_of row = record { time = row.second; what = option_map_or arrival.Packet (if is_icmp row.packet.proto then None else Some (as_said row.packet)) arrival.Skip }

@@ -10,6 +10,7 @@ from dataclasses import asdict, dataclass, field, replace
 from pathlib import Path
 from typing import Any
 
+from pfplan.answers.doubts import of_tags
 from pfplan.answers.explaining import Circumstances, line_for
 from pfplan.answers.hiding import Hider
 from pfplan.answers.judging import Judge, Judged, Verdict
@@ -55,6 +56,7 @@ class Agreement:
     `merged` says how many rows the log had, and `profile` whose pf the rules text asks for. `without_log` and
     `without_all` are rules of the text that keep states: a log lacks their packets, or those behind the first.
     `guessed` is where pf's numbers stop to be sure; by `misfits` packets pf names a rule that does something else here.
+    It `lacks_tags` where rules ask packets out for what is not known without routes.
     """
 
     merged: Merged
@@ -68,6 +70,7 @@ class Agreement:
     doubts: int = 0
     misfits: int = 0
     profile: Profile = Profile.OPENBSD
+    lacks_tags: bool = False
 
     def count(self, verdict: Verdict) -> int:
         """How many packets have a verdict."""
@@ -288,7 +291,7 @@ def agreement_of(folder: Path, ruleset: Ruleset, merged: Merged) -> Agreement:
     first, last = comparing.moments[0], comparing.moments[-1]
     return Agreement(
         merged, first, last, judged, differences, without_log, without_all, guessed, doubts, comparing.misfits,
-        profile_of(shown),
+        profile_of(shown), bool(of_tags(telling.items, ruleset.routes)),
     )  # fmt: skip
 
 

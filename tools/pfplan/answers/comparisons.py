@@ -9,7 +9,7 @@ from pathlib import Path
 from typing import Any
 
 from pfplan.answers.connections import Key
-from pfplan.answers.doubts import of_interfaces, of_routes, of_users
+from pfplan.answers.doubts import of_interfaces, of_routes, of_tags, of_users
 from pfplan.answers.held_states import states_held
 from pfplan.answers.measures import Measure, measure_of, most_of
 from pfplan.answers.sides import Side, follow, side_of
@@ -297,7 +297,8 @@ def compare(
     found.doubts = of_routes(names, [it.routes for it in flushes])
     seen = interfaces_in(trace)
     for name, items, it in zip(names, rules, flushes):
-        found.doubts += [f"{name}: {why}" for why in of_interfaces(items, seen, (), it.routes.interfaces)]
+        doubts = [*of_interfaces(items, seen, (), it.routes.interfaces), *of_tags(items, it.routes)]
+        found.doubts += [f"{name}: {why}" for why in doubts]
     found.doubts += of_users(users, measures[0].connections)
     return found
 

@@ -9,6 +9,8 @@ from typing import Protocol
 
 from pfplan.common.figures import counted, share_text
 from pfplan.common.inputs import Kind, kind_of
+from pfplan.common.limits import OF_RULES
+from pfplan.pf.left_out import joined_ways, way_of_asking
 from pfplan.pf.profiles import Profile
 from pfplan.pf.reading_canonical_text import interfaces_of
 from pfplan.pf.routes import NO_ROUTES, Routes
@@ -22,6 +24,8 @@ SMALL, NAMED = 0.05, 5
 # Why a frame is no record that would be one if it were understood.
 _UNREAD = (NEITHER_WAY, "cut before their ports", "of a link type that is not read")
 _PORTS = re.compile(r" to .*?port (?:= )?(\d+)(?::(\d+))?")
+_GIVEN = re.compile(r" tag (\S+)")
+_ASKED = re.compile(r" (! ?)?(tagged|received-on) (\S+)")
 
 
 class Left(Protocol):
@@ -105,10 +109,32 @@ def of_directions(items: Sequence[str], begun: Mapping[tuple[str, str], int]) ->
     ]
 
 
+def of_tags(items: Sequence[str], routes: Routes) -> list[str]:
+    """That rules ask packets out for what is known where these came in, while without routes a record is asked on one
+    interface alone. A tag that no rule for packets in gives is known there as well as in pf."""
+    given = {tag for text in items if not _is_way(text, "out") for tag in _GIVEN.findall(text)}
+    asked = [
+        (text, bool(sign), f"{word} {name}")
+        for text in items
+        if not routes and not _is_way(text, "in")
+        for sign, word, name in _ASKED.findall(text)
+        if word == "received-on" or name in given
+    ]
+    if not asked:
+        return []
+    ways = [way_of_asking(text.split(" ")[0], _counts(text), holds_here=negated) for text, negated, _ in asked]
+    names = list(dict.fromkeys(name for _, _, name in asked))
+    return [
+        f"rules ask packets out for {_listed(names)}, and without routes a record is asked on one interface alone: the "
+        "tags that rules gave a packet where it came in are not known there, nor that interface; so "
+        f"{joined_ways(ways)} (--routes FILE, what netstat -rn prints)"
+    ]
+
+
 def of_replay(items: Sequence[str], trace: Path, scenario: Scenario | None, routes: Routes = NO_ROUTES) -> list[str]:
     """The doubts of a replay of a trace, or of a play, under rules of these texts."""
     seen = interfaces_played(scenario) if scenario else interfaces_in(trace)
-    return of_interfaces(items, seen, (), routes.interfaces)
+    return of_interfaces(items, seen, (), routes.interfaces) + of_tags(items, routes)
 
 
 def of_routes(names: Sequence[str], routes: Sequence[Routes]) -> list[str]:
@@ -161,6 +187,15 @@ def interfaces_played(scenario: Scenario) -> set[str]:
         is_trace = isinstance(it, Laid) and kind_of(it.file) is Kind.TRACE
         found |= interfaces_in(it.file) if isinstance(it, Laid) and is_trace else {it.interface}
     return found - {""}
+
+
+def _is_way(text: str, way: str) -> bool:
+    """Whether a rule is for packets of one direction alone."""
+    return way in text.split(" ")[:3]
+
+
+def _counts(text: str) -> bool:
+    return any(f"{it} " in text for it in OF_RULES)
 
 
 def _ports(text: str) -> Iterable[int]:

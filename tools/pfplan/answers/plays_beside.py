@@ -14,6 +14,7 @@ from pfplan.answers.doubts import (
     of_missing,
     of_profiles,
     of_routes,
+    of_tags,
 )
 from pfplan.common.outputs import make_folder
 from pfplan.pf.conversion import Ruleset, with_routes, write_rules, write_ruleset
@@ -218,6 +219,7 @@ def _beside(
             *of_interfaces(
                 items_of(ruleset.text.splitlines()), seen, ruleset.skipped, ruleset.routes.interfaces
             ),
+            *of_tags(items_of(ruleset.text.splitlines()), ruleset.routes),
             *of_forwarding(scenario, ruleset.routes),
         )
     ]

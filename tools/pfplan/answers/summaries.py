@@ -7,7 +7,7 @@ from dataclasses import asdict, dataclass, field
 from pathlib import Path
 from typing import Any
 
-from pfplan.answers.doubts import of_directions, of_frames, of_interfaces, of_users, of_ways
+from pfplan.answers.doubts import of_directions, of_frames, of_interfaces, of_tags, of_users, of_ways
 from pfplan.answers.connections import KINDS, LATE, Refusal
 from pfplan.answers.counting import Answers, Limit, Moments, count
 from pfplan.answers.held_states import HeldStates, followed_again
@@ -95,7 +95,7 @@ class Summary:
     sources: Tops = field(default_factory=Tops)
     rules: list[str] = field(default_factory=list)  # the n-th is the text of `@n`
     labels: dict[int, str] = field(default_factory=dict)
-    undecided: list[int] = field(default_factory=list)  # rules, not anchors, that no record has
+    undecided: list[int] = field(default_factory=list)  # rules that may decide, and no record has
     interfaces: Interfaces | None = None
     held: list[HeldCounts] = field(default_factory=list)
     profile: Profile | None = None  # of the rules text, where it is known
@@ -249,6 +249,7 @@ def summary_of(answers: Answers, moments: Moments | None, shown: list[str], want
             summary.forwarding = forwarding_in(rules, moments.interfaces, wanted.origins.skipped)
         summary.doubts += of_interfaces(rules, moments.interfaces, wanted.origins.skipped, moments.onward)
         summary.doubts += of_directions(rules, moments.connections.begun)
+        summary.doubts += of_tags(rules, routes_of(shown))
         summary.doubts += of_ways(moments.twice)
     if summary.users:
         summary.doubts += of_users(summary.users.of, summary.users.connections)
@@ -278,7 +279,8 @@ def _by_number(rules: "Counter[str]") -> dict[str, int]:
 
 def _undecided(rules: Sequence[str], by_rule: Mapping[str, Mapping[str, int]]) -> list[int]:
     answered = {rule for rules_of in by_rule.values() for rule in rules_of}
-    return [it for it, text in enumerate(rules) if f"@{it}" not in answered and not text.startswith("anchor")]
+    deciding = [it for it, text in enumerate(rules) if not text.startswith(("anchor", "match"))]
+    return [it for it in deciding if f"@{it}" not in answered]
 
 
 def _interfaces(rule: str) -> list[str]:

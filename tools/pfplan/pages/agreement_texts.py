@@ -50,6 +50,10 @@ MISFITS = (
     "pf passed or blocked by a rule that does the other in this text: pf had another text, or pfctl reordered it; what "
     "pfctl -nvf prints on the firewall has pf's numbers"
 )
+LACKS_TAGS = (
+    "rules ask packets out for tags, or for the interface where they came in: without routes that is not known of them "
+    "(--routes)"
+)
 
 
 def notes(found: Agreement) -> Iterator[str]:
@@ -62,6 +66,8 @@ def notes(found: Agreement) -> Iterator[str]:
         yield f"by {counted(found.misfits, 'packet')} {MISFITS}"
     if found.doubts:
         yield f"{counted(found.doubts, 'thing')} left out of the pf.conf can change an answer"
+    if found.lacks_tags:
+        yield LACKS_TAGS
     if found.guessed:
         why_not = "the addresses of a name there are not known, and each makes a rule"
         yield f"pf's numbers are sure up to {found.guessed}: {why_not}"

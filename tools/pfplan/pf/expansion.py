@@ -10,6 +10,8 @@ from collections.abc import Iterator
 from dataclasses import dataclass, field, replace
 
 from pfplan.pf.left_out import (
+    COUNTS,
+    OLD_TRANSLATIONS,
     PASSES_MORE,
     TRANSLATION_NOTE,
     TRANSLATIONS,
@@ -17,14 +19,18 @@ from pfplan.pf.left_out import (
     Teller,
     counts_states,
     harmless,
+    is_carried_match,
     reason_of_match,
     reason_of_other,
     reason_of_part,
+    tags_of,
     telling,
 )
 from pfplan.pf.lexer import printable
 from pfplan.pf.linking_anchors import DEEPEST
 from pfplan.pf.numbers_of_pf import Key, Numbered, Numbers
+from pfplan.pf.profiles import Profile
+from pfplan.pf.reading_filters import MOST_TAG_BYTES
 from pfplan.pf.services import shown_protocol
 from pfplan.pf.statements import (
     Anchor,
@@ -34,6 +40,7 @@ from pfplan.pf.statements import (
     HostKind,
     Interface,
     Other,
+    Part,
     Place,
     Rule,
     Setting,
@@ -43,6 +50,7 @@ from pfplan.pf.statements import (
     Table,
 )
 from pfplan.pf.writing_lists import NO_CHOICE, Choice, Chooser, Gap, Options, places_in_pf
+from pfplan.pf.writing_marks import TagNames, received_on
 from pfplan.pf.writing_settings import Settings
 from pfplan.pf.writing_states import beyond_pfsrc, carried_state, check_state, refuse
 from pfplan.pf.writing_tables import TableMaker
@@ -62,6 +70,7 @@ class Combination:
     source_port: str
     destination: str
     destination_port: str
+    received: str = ""
     key: Key = ()
 
     def hosts(self) -> str:
@@ -106,12 +115,20 @@ class Expander:
     _defaults: State | None = None
     _lines_of_tables: dict[int, str] = field(default_factory=dict)
     _opened: dict[int, dict[str, str]] = field(default_factory=dict)
+    _tags: TagNames = field(init=False)
+
+    def __post_init__(self) -> None:
+        self._tags = TagNames(self.teller)
 
     def expand(self, statements: list[Statement]) -> None:
         """Expands all statements of a text, into `lines`, `labels` and `origins`."""
         self.numbers.look(walk(statements))
+        if self.settings.profile is Profile.OPENBSD:
+            self.teller.tags = tags_of(walk(statements))
+            self._tags.look(walk(statements))
         self._skip([it for it in statements if isinstance(it, Setting) and it.name == "skip"])
         self._body(statements, Scope())
+        self._tags.note_missing()
 
     def _skip(self, settings: list[Setting]) -> None:
         """Rules in front of all others for `set skip`: pf passes what is on these interfaces, and makes no state.
@@ -149,7 +166,7 @@ class Expander:
             self._antispoof(statement, scope)
         elif isinstance(statement, Other):
             self.teller.tell_whole(statement, reason_of_other(statement.kind, statement.text))
-            if statement.kind in ("nat", "rdr", "binat"):
+            if statement.kind in OLD_TRANSLATIONS:
                 self.teller.note(TRANSLATION_NOTE)
         elif isinstance(statement, Setting) and scope.depth:
             raise refuse(statement.place, f"'set {statement.name}': no setting stands in an anchor")
@@ -201,30 +218,70 @@ class Expander:
         numbers = self.numbers.rule(scope.ruleset, rule, asked)
         if any(it.kind in TRANSLATIONS for it in asked.parts):
             self.teller.note(TRANSLATION_NOTE)
-        if rule.action == "match":
-            self.teller.tell_whole(rule, reason_of_match(asked.parts, asked.state is not None, asked.log))
+        if rule.action == "match" and self._is_match_left_out(rule):
             return
-        check_state(rule)
-        state = asked.state
-        if rule.action == "pass" and state is None:
-            state = self._defaults
+        state = self._state_of(rule)
         if self._goes_whole(rule, beyond_pfsrc(state)):
             return
         combinations = self._combinations(rule, asked, scope, counts_states(state))
         if not combinations:
             return
         self._tell_parts(rule)
+        if rule.action == "match" and asked.state is not None:
+            self.teller.tell(rule.place, f"{asked.state.word} state", COUNTS, rule)
         clause = carried_state(state, rule.place, self.settings, self._renamed(scope))
-        direction = asked.direction or ("out" if any(it.kind == "binat-to" for it in asked.parts) else "")
-        answer = rule.answer
-        if rule.action == "block" and not answer and self.settings.block_policy != "drop":
-            answer = self.settings.block_policy
-        head = [rule.action, answer, direction, asked.log, "quick" if asked.quick else ""]
+        head = self._head(rule)
         flags = f"flags {asked.flags}" if asked.flags else ""
         for it in combinations:
             self._label(asked, it)
-            line = _joined(*head, it.interface, it.family, it.protocol, it.hosts(), flags, clause)
+            marks = self._marks(rule, it)
+            line = _joined(*head, it.interface, it.family, it.protocol, it.hosts(), flags, marks, clause)
             self._item(rule.place, line, numbers.get(it.key))
+
+    def _is_match_left_out(self, rule: Rule) -> bool:
+        """Tells a match rule that does nothing that a rules text has, or more than that; those that give a tag are
+        carried. pfctl takes none with `quick`."""
+        if rule.filter.quick:
+            raise refuse(rule.place, "quick: a match rule decides nothing")
+        if self.settings.profile is Profile.OPENBSD and is_carried_match(rule):
+            return False
+        self.teller.tell_whole(rule, reason_of_match(rule))
+        return True
+
+    def _state_of(self, rule: Rule) -> State | None:
+        """The state clause of a rule: none of a match rule, and that of `set state-defaults` of a pass rule that has
+        none."""
+        if rule.action == "match":
+            return None
+        check_state(rule)
+        return self._defaults if rule.action == "pass" and rule.filter.state is None else rule.filter.state
+
+    def _head(self, rule: Rule) -> list[str]:
+        """What stands in front of the interface."""
+        asked, answer = rule.filter, rule.answer
+        direction = asked.direction or ("out" if any(it.kind == "binat-to" for it in asked.parts) else "")
+        if rule.action == "block" and not answer and self.settings.block_policy != "drop":
+            answer = self.settings.block_policy
+        return [rule.action, answer, direction, asked.log, "quick" if asked.quick else ""]
+
+    def _marks(self, rule: Rule, made: Combination) -> str:
+        """The tag that a rule gives, that which it asks for, and where the packet came in."""
+        if self.settings.profile is Profile.OWN:
+            return ""
+        tag, tagged = rule.filter.part("tag"), rule.filter.part("tagged")
+        sign = "! " if tagged and tagged.negated else ""
+        return _joined(
+            f"tag {self._tags.given(self._tag(tag.value, rule, made))}" if tag else "",
+            f"{sign}tagged {self._tags.asked(self._tag(tagged.value, rule, made))}" if tagged else "",
+            made.received,
+        )
+
+    def _tag(self, text: str, rule: Rule, made: Combination) -> str:
+        """A tag, with what its macros stand for, which are those of labels (pf.conf(5), "tag")."""
+        name = self._with_macros(text, made)
+        if len(name.encode("utf-8", "surrogateescape")) > MOST_TAG_BYTES:
+            raise refuse(rule.place, f"tag {printable(name)}: a tag has 1 to {MOST_TAG_BYTES} bytes")
+        return name
 
     def _renamed(self, scope: Scope) -> dict[str, str]:
         return {**self.chooser.tables.renamed, **scope.tables}
@@ -240,34 +297,52 @@ class Expander:
 
     def _goes_whole(self, statement: Rule | Anchor, more: Reason | None = None) -> bool:
         """Tells a rule or an anchor that a part makes one that can't be carried."""
-        asked = statement.filter
         reasons = [more] if more is not None else []
-        reasons += [reason for it in asked.parts if (reason := reason_of_part(it, asked.direction)).goes]
-        if reasons:
+        reasons += [reason for _, reason in self._reasons(statement) if reason.goes]
+        if reasons and isinstance(statement, Rule) and self._is_tag_for_nothing(statement):
+            reason = reason_of_match(statement)
+            self.teller.tell_whole(statement, reason if reason.changes else harmless("no rule asks for its tag"))
+        elif reasons:
             self.teller.tell_whole(statement, next((it for it in reasons if it.changes), reasons[0]))
         return bool(reasons)
 
-    def _tell_parts(self, statement: Rule | Anchor) -> None:
+    def _is_tag_for_nothing(self, rule: Rule) -> bool:
+        """Whether no answer depends on the tag that a match rule gives."""
+        return rule.action == "match" and not self.teller.tags.way_without(rule)
+
+    def _reasons(self, statement: Rule | Anchor) -> Iterator[tuple[Part, Reason]]:
+        """The parts that are not carried, and why."""
         for it in statement.filter.parts:
-            self.teller.tell(statement.place, it.text, reason_of_part(it, statement.filter.direction), statement)
+            reason = reason_of_part(it, statement, self.settings.profile)
+            if reason is not None:
+                yield it, reason
+
+    def _tell_parts(self, statement: Rule | Anchor) -> None:
+        for it, reason in self._reasons(statement):
+            if it.kind == "tag" and reason.changes and not self.teller.tags.way_without(statement):
+                reason = harmless("no rule asks for the tag")
+            self.teller.tell(statement.place, it.text, reason, statement)
 
     def _label(self, asked: Filter, made: Combination) -> None:
         """Keeps the label of the item that comes next, with what its macros stand for (pf.conf(5), "label")."""
         text = next((it.text for it in asked.parts if it.kind == "label"), "")
         if not text:
             return
-        number = len(self.origins)
+        label = printable(text.removeprefix("label ").strip('"'))
+        self.labels[len(self.origins)] = self._with_macros(label, made)
+
+    def _with_macros(self, text: str, made: Combination) -> str:
+        """A label or a tag of the item that comes next, with what its macros stand for."""
         words = {
-            "if": made.interface.removeprefix("on "),
+            "if": made.interface.removeprefix("on ").removeprefix("! ") or "any",
             "srcaddr": made.source,
             "dstaddr": made.destination,
             "srcport": re.sub(r"^port =? ?", "", made.source_port),
             "dstport": re.sub(r"^port =? ?", "", made.destination_port),
-            "proto": made.protocol.removeprefix("proto "),
-            "nr": str(number),
+            "proto": made.protocol.removeprefix("proto ") or "ip",
+            "nr": str(len(self.origins)),
         }
-        label = printable(text.removeprefix("label ").strip('"'))
-        self.labels[number] = re.sub(r"\$(srcaddr|dstaddr|srcport|dstport|proto|if|nr)", lambda it: words[it[1]], label)
+        return re.sub(r"\$(srcaddr|dstaddr|srcport|dstport|proto|if|nr)", lambda it: words[it[1]], text)
 
     def _combinations(self, statement: Rule | Anchor, asked: Filter, scope: Scope, counts: bool) -> list[Combination]:
         """All combinations that are of one family. What can't be carried of a list is told, as is the statement if
@@ -282,6 +357,7 @@ class Expander:
             choices.ports(asked.source.ports, counts),
             choices.hosts(asked.destination.hosts, asked.family, counts),
             choices.ports(asked.destination.ports, counts),
+            received_on(asked.part("received-on"), statement, choices.machine, self.teller, counts),
         ]
         size = 1
         for axis in axes:
@@ -291,12 +367,13 @@ class Expander:
         self.tables.sources.budget.take("rules", size, statement.place.file, statement.place.line)
         found: list[Combination] = []
         gaps: dict[Gap, None] = {}
+        # pfctl takes no list behind received-on
         keys = itertools.product(*map(places_in_pf, axes))
-        for chosen, key in zip(itertools.product(*axes), keys, strict=True):
+        for chosen, (*key, _) in zip(itertools.product(*axes), keys, strict=True):
             missing = [it for it in chosen if isinstance(it, Gap)]
             gaps.update(dict.fromkeys(missing))
             if not missing and (made := _combined(asked, [it for it in chosen if isinstance(it, Choice)])):
-                found.append(replace(made, key=key))
+                found.append(replace(made, key=tuple(key)))
         self._tell_gaps(statement, list(gaps), bool(found))
         return found
 
@@ -427,7 +504,7 @@ def _joined(*words: str) -> str:
 
 def _combined(asked: Filter, chosen: list[Choice]) -> Combination | None:
     """The combination, or None where two of its hosts are of different families, or a zone is not its interface."""
-    interface, protocol, source, source_port, destination, destination_port = chosen
+    interface, protocol, source, source_port, destination, destination_port, received = chosen
     family = asked.family
     on = interface.text
     for host in (source, destination):
@@ -439,7 +516,9 @@ def _combined(asked: Filter, chosen: list[Choice]) -> Combination | None:
         if host.zone and not on:
             on = f"on {host.zone}"
     said = family if asked.family or source.is_said or destination.is_said else ""
-    return Combination(on, said, protocol.text, source.text, source_port.text, destination.text, destination_port.text)
+    return Combination(
+        on, said, protocol.text, source.text, source_port.text, destination.text, destination_port.text, received.text
+    )
 
 
 def walk(statements: tuple[Statement, ...] | list[Statement]) -> Iterator[Statement]:

@@ -1,12 +1,16 @@
 """What is left out of a rules text, why, whether that can change an answer, and which way."""
 
-from dataclasses import dataclass, field
+import itertools
+import re
+from collections.abc import Iterable
+from dataclasses import dataclass, field, replace
 from typing import Any
 
 from pfplan.common.errors import Status, Trouble
 from pfplan.common.limits import OF_RULES
 from pfplan.pf.lexer import printable
-from pfplan.pf.statements import Antispoof, Part, Place, Rule, Setting, State, Statement
+from pfplan.pf.profiles import Profile
+from pfplan.pf.statements import Anchor, Antispoof, Other, Part, Place, Rule, Setting, State, Statement
 
 # which way pf answers otherwise than what is left
 BLOCKS_MORE = "pf blocks more"
@@ -16,6 +20,8 @@ EITHER_WAY = "pf may block or pass more"
 # characters of what is left out that are told
 LONGEST = 400
 _COUNTS = (*OF_RULES, "adaptive.start", "adaptive.end")
+OLD_TRANSLATIONS = ("nat", "rdr", "binat")
+_TAG = re.compile(r' tag ("[^"]*"|\S+)')
 
 
 @dataclass(frozen=True)
@@ -101,18 +107,94 @@ def way_of(statement: Statement | None) -> str:
     return EITHER_WAY
 
 
+def joined_ways(ways: Iterable[str]) -> str:
+    """The way of several together: that of other states counts where no other is among them."""
+    found = set(ways) - {""}
+    found = found - {OTHER_STATES} or found
+    return EITHER_WAY if len(found) > 1 else next(iter(found), "")
+
+
+class Tags:
+    """The tags that rules ask for, and those that rules give: by them it is told which way an answer errs where one is
+    not given."""
+
+    def __init__(self, asking: Iterable[Rule] = (), given: Iterable[str] = ()) -> None:
+        """Rules that ask for tags, and the tags that some give. A tag with a macro, as labels have them, may be any."""
+        self._given = frozenset(given)
+        self._is_any_given = any(map(has_macro, self._given))
+        self._lacked: dict[str, set[str]] = {}  # by tag, the ways where a packet does not have it here
+        self._kept: dict[str, set[str]] = {}  # by way, the tags that a packet may have here alone
+        for rule in asking:
+            asked, counts = rule.filter.part("tagged"), counts_states(rule.filter.state)
+            if asked is not None:
+                lacked = way_of_asking(rule.action, counts, holds_here=asked.negated)
+                self._lacked.setdefault(asked.value, set()).add(lacked)
+                if self.is_given(asked.value):
+                    kept = way_of_asking(rule.action, counts, holds_here=not asked.negated)
+                    self._kept.setdefault(kept, set()).add(asked.value)
+        self._always = {way for tag, ways in self._lacked.items() if has_macro(tag) for way in ways}
+
+    def is_given(self, tag: str) -> bool:
+        """Whether some rule may give a tag."""
+        return tag in self._given or self._is_any_given or has_macro(tag) and bool(self._given)
+
+    def way_without(self, statement: Statement | None) -> str:
+        """Which way pf answers otherwise than without the tag that a statement gives; nothing where it gives none, or
+        no answer depends on it.
+
+        The packet has no tag then, or that which it had before.
+        """
+        tag = tag_of(statement)
+        if tag is None:
+            return ""
+        if has_macro(tag):
+            return joined_ways((*self._kept, *itertools.chain.from_iterable(self._lacked.values())))
+        kept = (way for way, tags in self._kept.items() if len(tags) > (tag in tags))
+        return joined_ways((*self._lacked.get(tag, ()), *self._always, *kept))
+
+
+def tag_of(statement: Statement | None) -> str | None:
+    """The tag that a statement gives; so may a translation of older pf."""
+    if isinstance(statement, Other) and statement.kind in OLD_TRANSLATIONS:
+        found = _TAG.search(statement.text)
+        return found[1].strip('"') if found else None
+    tag = statement.filter.part("tag") if isinstance(statement, Rule | Anchor) else None
+    return tag.value if tag else None
+
+
+def tags_of(statements: Iterable[Statement]) -> Tags:
+    """The tags of all statements, those of anchors among them. Rules that a rules text has not ask for none here."""
+    every = list(statements)
+    rules = [it for it in every if isinstance(it, Rule) and it.filter.part("tagged")]
+    given = (tag for it in every if (tag := tag_of(it)) is not None)
+    return Tags((it for it in rules if it.action != "match" or is_carried_match(it)), given)
+
+
+def has_macro(tag: str) -> bool:
+    """Whether a tag stands for several."""
+    return "$" in tag
+
+
+def way_of_asking(action: str, counts: bool, *, holds_here: bool) -> str:
+    """Which way pf answers otherwise where what a rule asks holds here alone, or in pf alone. What a rule `counts`, it
+    also refuses or kills."""
+    if action == "match" or counts:
+        return EITHER_WAY
+    return PASSES_MORE if (action == "block") == holds_here else BLOCKS_MORE
+
+
 ELSEWHERE = telling("the packet goes another way", OTHER_STATES)
 BY_TIMESTAMPS = telling("pf drops packets by their timestamps", BLOCKS_MORE)
 ORDERS = "it orders or marks packets that pass"
 SCRUBS = "it changes fragments and options, which a trace does not have"
 TRANSLATED = "addresses are translated, and a trace has those of one side"
 ICMP = Reason("ICMP is answered by skip", changes=False, goes=True)
-_NOT_CARRIED = ("user", "group", "tagged", "received-on", "os", "tos", "prio", "fragment")
+_NOT_CARRIED = ("user", "group", "os", "tos", "prio", "fragment")
+MARKS = ("tag", "tagged", "received-on")  # what a rules text has behind the hosts of a rule
 _REASONS = {
     "answer": harmless("it says what the sender is told"),
     "label": harmless("it neither passes nor blocks"),
     "queue": harmless("it neither passes nor blocks"),
-    "tag": harmless("the rules that ask for the tag are told by themselves"),
     "set": harmless(ORDERS),
     "allow-opts": harmless("a trace does not carry IP options"),
     "rtable": harmless("the packet passes all the same"),
@@ -136,6 +218,10 @@ _REASONS = {
     "icmp6-type": ICMP,
     **{it: beyond(f"a trace does not carry what it asks ({it})") for it in _NOT_CARRIED},
 }
+_UNASKED_TAG = harmless("the rules that ask for the tag are told by themselves")
+_GIVEN_TWICE = harmless("the last of this kind counts in a rule")
+_TAG_OF_ANCHOR = telling("an anchor of a rules text gives no tag")
+COUNTS = telling("it counts packets or states", OTHER_STATES)
 TRANSLATIONS = ("nat-to", "rdr-to", "binat-to", "af-to")
 TRANSLATION_NOTE = (
     "addresses are translated by this text (nat-to, rdr-to, binat-to or af-to), and in the rules that come of it they "
@@ -160,13 +246,28 @@ _OLD_TRANSLATION = telling("old syntax; addresses are translated before the rule
 _OLD_PASS = telling("old syntax; addresses are translated, and what it matches passes without the rules", PASSES_MORE)
 
 
-def reason_of_part(part: Part, direction: str) -> Reason:
-    """Why a part of a rule of that direction is left out."""
-    if part.kind == "binat-to" and direction == "in":
+def reason_of_part(part: Part, of: Rule | Anchor, profile: Profile) -> Reason | None:
+    """Why a part of a rule or an anchor is left out, or None where it is carried."""
+    if part.kind in MARKS:
+        return _reason_of_mark(part, of, profile)
+    if part.kind == "binat-to" and of.filter.direction == "in":
         return beyond("binat-to stands for a rule of packets out, and one of packets in with other addresses")
     if part.kind == "scrub":
         return BY_TIMESTAMPS if "reassemble tcp" in part.text else harmless(SCRUBS)
+    if part.kind == "rtable" and isinstance(of, Rule) and of.action == "match":
+        return ELSEWHERE
     return _REASONS[part.kind]
+
+
+def _reason_of_mark(part: Part, of: Rule | Anchor, profile: Profile) -> Reason | None:
+    """The same of a tag that is given or asked for, or of the interface on which a packet came in."""
+    if profile is Profile.OWN:
+        own = beyond(f"it is asked ({part.kind}) by the profile {Profile.OPENBSD.value} alone (--profile)")
+        return _UNASKED_TAG if part.kind == "tag" else own
+    if isinstance(of, Anchor):
+        asks = beyond(f"an anchor of a rules text does not ask it ({part.kind})")
+        return _TAG_OF_ANCHOR if part.kind == "tag" else asks
+    return None if of.filter.part(part.kind) is part else _GIVEN_TWICE
 
 
 def reason_of_other(kind: str, text: str) -> Reason:
@@ -176,13 +277,21 @@ def reason_of_other(kind: str, text: str) -> Reason:
         return BY_TIMESTAMPS
     if kind == "no" and text.split()[1:2] == ["scrub"]:
         return _OTHERS["scrub"]
-    if kind in ("nat", "rdr", "binat") and text.split()[1:2] == ["pass"]:
+    if kind in OLD_TRANSLATIONS and text.split()[1:2] == ["pass"]:
         return _OLD_PASS
     return _OTHERS.get(kind, _OLD_TRANSLATION)
 
 
-def reason_of_match(parts: tuple[Part, ...], has_state: bool, log: str) -> Reason:
+def is_carried_match(rule: Rule) -> bool:
+    """Whether a match rule does what a rules text has, and no more that rules behind it would see: it gives a tag, and
+    translates nothing."""
+    kinds = {it.kind for it in rule.filter.parts}
+    return "tag" in kinds and not kinds & set(TRANSLATIONS)
+
+
+def reason_of_match(rule: Rule) -> Reason:
     """Why a match rule is left out, by what it does."""
+    parts, has_state, log = rule.filter.parts, rule.filter.state is not None, rule.filter.log
     kinds = {it.kind for it in parts}
     if kinds & set(TRANSLATIONS):
         return telling("addresses are translated for the rules behind it", OTHER_STATES)
@@ -191,11 +300,11 @@ def reason_of_match(parts: tuple[Part, ...], has_state: bool, log: str) -> Reaso
     if any(it.kind == "scrub" and "reassemble tcp" in it.text for it in parts):
         return BY_TIMESTAMPS
     if kinds & {"max-pkt-rate", "once"} or has_state:
-        return telling("it counts packets or states", OTHER_STATES)
+        return COUNTS
     if "scrub" in kinds:
         return harmless(SCRUBS)
     if "tag" in kinds:
-        return harmless("the rules that ask for the tag are told by themselves")
+        return _UNASKED_TAG
     if kinds & {"set", "label", "queue"} or log:
         return harmless("it neither passes nor blocks")
     return harmless("a match rule neither passes nor blocks")
@@ -203,16 +312,18 @@ def reason_of_match(parts: tuple[Part, ...], has_state: bool, log: str) -> Reaso
 
 @dataclass
 class Teller:
-    """Collects what is left out. With `is_strict` the first that can change an answer is Trouble with status 3."""
+    """Collects what is left out. With `is_strict` the first that can change an answer is Trouble with status 3. `tags`
+    are those that the rules text has."""
 
     is_strict: bool = False
+    tags: Tags = field(default_factory=Tags)
     leftovers: list[Leftover] = field(default_factory=list)
     notes: list[str] = field(default_factory=list)
     _seen: set[Leftover] = field(default_factory=set)
 
     def tell(self, place: Place, text: str, reason: Reason, of: Statement | None = None) -> None:
         """Tells a thing once, however often the statement that it is a part of is expanded."""
-        way = reason.way or way_of(of) if reason.changes else ""
+        way = self._way(reason, of) if reason.changes else ""
         shown = text if len(text) <= LONGEST else f"{text[:LONGEST]} .."
         leftover = Leftover(place.file, place.line, shown, reason.text, reason.changes, way, reason.is_missing)
         if leftover in self._seen:
@@ -222,8 +333,16 @@ class Teller:
         if self.is_strict and reason.changes:
             raise Trouble(f"{leftover.shown()} (--strict)", Status.RULES)
 
+    def _way(self, reason: Reason, of: Statement | None) -> str:
+        """Which way pf answers otherwise. A reason that names none is that a statement is not there, nor is its tag."""
+        return reason.way or joined_ways((way_of(of), self.tags.way_without(of)))
+
     def tell_whole(self, statement: Statement, reason: Reason) -> None:
-        """Tells a statement that is left out whole."""
+        """Tells a statement that is left out whole, and that its tag is not given, where a rule asks for that."""
+        lost = self.tags.way_without(statement) if reason.changes else ""
+        if lost:
+            way = joined_ways((reason.way, lost)) if reason.way else ""
+            reason = replace(reason, text=f"{reason.text}; its tag is not given either", way=way)
         self.tell(statement.place, statement.text, reason, statement)
 
     def note(self, text: str) -> None:

@@ -26,7 +26,7 @@ NAME_BYTES = 15
 # Rules that one statement may stand for; of more, none are numbered.
 MOST_RULES = 100_000
 # Parts whose lists pfctl expands, and which no rules text has: such a rule goes whole.
-_LISTED = ("icmp-type", "icmp6-type", "os", "user", "group", "received-on")
+_LISTED = ("icmp-type", "icmp6-type", "os", "user", "group")
 _WORD = re.compile(r'"[^"]*"|[^\s,{}]+')
 _OPERATORS = ("=", "!=", "<", "<=", ">", ">=", "><", "<>", "!")
 # Which item of each list a rule is of: interface, protocol, source and its port, destination and its port.

@@ -17,6 +17,7 @@ TIMEOUTS = (
 ).split()
 TIMEOUTS_FOR_NOTHING = ["frag", "tcp.tsdiff", "icmp.first", "icmp.error"]
 MOST_SECONDS, MOST_STATES = 2147483647, 4294967295
+MOST_TAG_BYTES = 63
 _STATE_NUMBERS = OF_RULES[:-1]  # of max-src-conn-rate two are given
 _STATE_WORDS = ("sloppy", "floating", "no-sync", "pflow", "if-bound")
 _OPTIONS = (
@@ -25,7 +26,8 @@ _OPTIONS = (
 _TRANSLATIONS = ("nat-to", "rdr-to", "binat-to", "af-to")
 _ROUTES = ("route-to", "reply-to", "dup-to")
 _POOL_WORDS = ("bitmask", "random", "round-robin", "static-port", "sticky-address", "least-states")
-_ONE_WORD = ("label", "tag", "tagged", "received-on", "tos", "rtable", "prio")
+_TAGS = ("tag", "tagged")
+_ONE_WORD = ("label", *_TAGS, "received-on", "tos", "rtable", "prio")
 _ALONE = ("fragment", "allow-opts", "once", "divert-reply", "fastroute")
 PARTS = (
     *_TRANSLATIONS, *_ROUTES, *_ONE_WORD, *_ALONE, "user", "group", "icmp-type", "icmp6-type", "queue", "set", "scrub",
@@ -72,7 +74,7 @@ class FilterReader:
                 self._once(state, "state")
                 state = self.state()
             else:
-                parts.append(self.part())
+                self._part_once(parts)
         return Filter(
             direction, log, quick, interfaces, family, protocols, source, destination, flags, state, tuple(parts)
         )
@@ -80,6 +82,13 @@ class FilterReader:
     def _once(self, before: object, what: str) -> None:
         if before:
             raise trouble(self.at.token, f"'{self.at.token.text}': {what} stands twice in this rule")
+
+    def _part_once(self, parts: list[Part]) -> None:
+        """Takes one more part. pfctl takes `received-on` once."""
+        token = self.at.token
+        parts.append(self.part())
+        if sum(it.kind == "received-on" for it in parts) > 1:
+            raise trouble(token, "'received-on': it stands twice in this rule")
 
     def log_quick(self) -> tuple[str, bool]:
         """`log`, `quick`, or both in either order."""
@@ -281,17 +290,24 @@ class FilterReader:
         return f"{count}/{self.at.want_number(1, MOST_STATES, f'the seconds of {what}')}"
 
     def part(self) -> Part:
-        """A part that a rules text of pfsrc does not have, as its text. Trouble where it is none that pf has."""
+        """A part that may stand behind hosts, as its text. Trouble where it is none that pf has."""
         mark = self.at.mark()
-        if self.at.take_mark("!"):
+        negated = self.at.take_mark("!")
+        if negated:
             kind = self.at.want_word("tagged", "received-on")
         else:
             kind = self.at.take_word(*PARTS)
             if not kind:
                 raise self._no_part()
-        if kind in _BEHIND:
-            _BEHIND[kind](self, kind)
-        return Part(kind, self.at.text_since(mark))
+        behind = _BEHIND[kind](self, kind) if kind in _BEHIND else ""
+        return Part(kind, self.at.text_since(mark), behind if isinstance(behind, str) else "", negated)
+
+    def _tag(self, kind: str) -> str:
+        token = self.at.token
+        name = self.at.want_name(f"what {kind} names")
+        if not 1 <= len(name.encode("utf-8", "surrogateescape")) <= MOST_TAG_BYTES:
+            raise trouble(token, f"{token.shown()}: a tag has 1 to {MOST_TAG_BYTES} bytes")
+        return name
 
     def _no_part(self) -> Exception:
         if self.at.is_word(*HEAD):
@@ -383,6 +399,7 @@ class FilterReader:
 # what reads that which stands behind the word of a part; behind a word that is not in it nothing does
 _BEHIND: Mapping[str, Callable[[FilterReader, str], object]] = {
     **dict.fromkeys(_ONE_WORD, lambda it, kind: it.at.want_name(f"what {kind} names")),
+    **dict.fromkeys(_TAGS, FilterReader._tag),
     **dict.fromkeys(("user", "group"), lambda it, kind: it.at.listed(it._owner)),
     **dict.fromkeys(("icmp-type", "icmp6-type"), lambda it, kind: it.at.listed(it._icmp_type)),
     **dict.fromkeys(_TRANSLATIONS, FilterReader._translation),

@@ -72,10 +72,13 @@ class Port:
 
 @dataclass(frozen=True)
 class Part:
-    """A part of a rule that a rules text of pfsrc does not have. `kind` is its first word."""
+    """A part of a rule that stands behind its hosts. `kind` is its first word, `value` the name behind it, where one
+    stands there; a `!` makes it `negated`."""
 
     kind: str
     text: str
+    value: str = ""
+    negated: bool = False
 
 
 @dataclass(frozen=True)
@@ -124,6 +127,10 @@ class Filter:
     flags: str = ""
     state: State | None = None
     parts: tuple[Part, ...] = ()
+
+    def part(self, kind: str) -> Part | None:
+        """The part of this first word; of several the last, which is the one that pf keeps."""
+        return next((it for it in reversed(self.parts) if it.kind == kind), None)
 
 
 @dataclass(frozen=True)

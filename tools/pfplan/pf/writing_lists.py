@@ -122,7 +122,7 @@ class Chooser:
         if members is None:
             return self._plain_interface(asked, part, statement)
         if not asked.negated:
-            return _split([Choice(f"on {it}") for it in members], part, counts)
+            return split_choices([Choice(f"on {it}") for it in members], part, counts)
         return self._not_on(members, part, counts)
 
     def skipped(self, name: str, statement: Statement) -> list[str]:
@@ -159,7 +159,7 @@ class Chooser:
             ]
         if not others:
             return [Gap(part, harmless("there is no such interface"))]
-        return _split([Choice(f"on {it}") for it in others], part, counts)
+        return split_choices([Choice(f"on {it}") for it in others], part, counts)
 
     def _plain_interface(self, asked: Interface, part: str, statement: Statement) -> Options:
         if not NAME.fullmatch(asked.name) or len(asked.name) > 15 or asked.name == "rdomain":
@@ -265,7 +265,7 @@ class Chooser:
         return [choice for it in ports for choice in _port(it, counts)]
 
 
-def _split(choices: list[Choice], part: str, counts: bool) -> Options:
+def split_choices(choices: list[Choice], part: str, counts: bool) -> Options:
     """Choices that pf has in one rule: a gap where that rule counts its states."""
     return (
         [Gap(part, SPLIT)]
@@ -309,6 +309,6 @@ def _port(port: Port, counts: bool) -> Options:
     ranges = port_ranges(port)
     if not ranges:
         return [Gap(part, harmless("there is no such port"))]
-    return _split(
+    return split_choices(
         [Choice(f"port = {low}" if low == high else f"port {low}:{high}") for low, high in ranges], part, counts
     )

@@ -47,13 +47,13 @@ PREFIXES = [
 PORTS = [0, 1, 21, 22, 23, 25, 53, 79, 80, 81, 443, 65535]
 PORT_NAMES = {21: "ftp", 22: "ssh", 25: "smtp", 53: "domain", 80: "www", 443: "https"}
 HARMLESS = [
-    'label "a b"', "queue q", "queue (q, p)", "tag T", "set prio 3", "set (prio 3, tos 8)", "allow-opts", "rtable 1",
+    'label "a b"', "queue q", "queue (q, p)", "set prio 3", "set (prio 3, tos 8)", "allow-opts", "rtable 1",
     "route-to 10.0.0.2", "reply-to 10.0.0.2@em0", "dup-to 10.0.0.2", "scrub (no-df)", "divert-packet port 700",
 ]  # fmt: skip
 BEYOND = [
-    "user root", "group { 5 > 10 }", "tagged T", "! tagged T", "received-on em1", "! received-on em1", "tos 8",
-    "prio 3", "fragment", "probability 50%", "once", "max-pkt-rate 9/9",
+    "user root", "group { 5 > 10 }", "tos 8", "prio 3", "fragment", "probability 50%", "once", "max-pkt-rate 9/9",
 ]  # fmt: skip
+TAGS = ("T", "U", "a/b")
 
 
 @dataclass(frozen=True)
@@ -96,6 +96,9 @@ class Filter:
     destination_ports: list[Ports] = field(default_factory=list)
     flags: str = ""
     parts: list[str] = field(default_factory=list)
+    tag: str = ""
+    tagged: tuple[str, bool] | None = None
+    received: tuple[str, bool] | None = None
 
 
 @dataclass
@@ -179,12 +182,14 @@ class Drawer:
         return self.rule()
 
     def rule(self) -> Rule:
-        """A rule whose state clause fits its action."""
-        action = self.random.choice(["pass", "pass", "block"])
+        """A rule whose state clause fits its action; no `match` rule is quick."""
+        action = self.random.choice(["pass", "pass", "block", "match"])
         states = (
             ["", "", "no state", "keep state", "keep state (max 5000)", "modulate state"] if action == "pass" else [""]
         )
-        return Rule(action, self.filter(), self.random.choice(states))
+        asked = self.filter()
+        asked.quick = asked.quick and action != "match"
+        return Rule(action, asked, self.random.choice(states))
 
     def filter(self, is_head: bool = False, is_single: bool = False) -> Filter:
         """What is asked; of a head that must stay single no lists."""
@@ -208,6 +213,9 @@ class Drawer:
         if not is_head:
             asked.parts = [self.random.choice(HARMLESS)] if self.chance(0.2) else []
             asked.parts += [self.random.choice(BEYOND)] if self.chance(0.1) else []
+            asked.tag = self.random.choice(TAGS) if self.chance(0.4) else ""
+            asked.tagged = (self.random.choice(TAGS), self.chance(0.4)) if self.chance(0.3) else None
+            asked.received = self.interface(False) if self.chance(0.15) else None
         return asked if has_combination(asked) else self.filter(is_head, is_single)
 
     def interface(self, is_single: bool) -> tuple[str, bool]:
@@ -313,6 +321,7 @@ def most_rules(item: Rule | Anchor) -> int:
         count *= max(1, sum(len(NAMES[it.value]) if it.kind == "static" else 1 for it in hosts))
     for ports in (asked.source_ports, asked.destination_ports):
         count *= max(1, sum(2 if it.operator in ("!=", "<>") else 1 for it in ports))
+    count *= len(GROUPS.get(asked.received[0], ("",))) if asked.received else 1
     return count * (1 + sum(map(most_rules, item.body))) if isinstance(item, Anchor) else count
 
 
@@ -383,7 +392,16 @@ class Writer:
         self._lines.append("}")
 
     def _tail(self, asked: Filter) -> list[str]:
-        return [*([f"flags {asked.flags}"] if asked.flags else []), *asked.parts]
+        marks = [f"tag {self._tag(asked.tag)}"] if asked.tag else []
+        marks += [f"{self._sign(asked.tagged)}tagged {self._tag(asked.tagged[0])}"] if asked.tagged else []
+        marks += [f"{self._sign(asked.received)}received-on {asked.received[0]}"] if asked.received else []
+        return [*([f"flags {asked.flags}"] if asked.flags else []), *asked.parts, *marks]
+
+    def _tag(self, name: str) -> str:
+        return f'"{name}"' if "/" in name or self._chance(0.2) else name
+
+    def _sign(self, named: tuple[str, bool]) -> str:
+        return self._drawer.random.choice(["! ", "!"]) if named[1] else ""
 
     def _statement(self, item: Rule | Anchor, text: str) -> None:
         self._lines.extend(self._pending)

@@ -17,6 +17,7 @@ class Reading:
 
     drawn: Ruleset
     keys: set[tuple[object, ...]] = field(default_factory=set)
+    tag: str = ""  # of the packet that is asked
 
     def answer(self, packet: Packet) -> tuple[str, int]:
         """The word of the report, and the line of the rule that decided; 0 where none did, or where a state was
@@ -28,6 +29,7 @@ class Reading:
             packet.interface in ("lo0",) if it == "lo" else is_on(it, False, packet, False) for it in self.drawn.skipped
         ):
             return "pass", self.drawn.skip_line
+        self.tag = ""
         decided, _, _ = self._walk(self.drawn.items, packet, None)
         if decided is None:
             return "pass", 0
@@ -45,6 +47,9 @@ class Reading:
             if isinstance(item, Rule):
                 if not self.matches_rule(item, packet):
                     continue
+                self.tag = item.asked.tag or self.tag
+                if item.action == "match":
+                    continue
                 decided, is_matched = item, True
                 if item.asked.quick:
                     return decided, True, True
@@ -56,12 +61,17 @@ class Reading:
         return decided, is_matched, False
 
     def matches_rule(self, rule: Rule, packet: Packet) -> bool:
-        """Whether a rule matches; none does that asks what a trace does not carry."""
-        if any(it in drawing.BEYOND for it in rule.asked.parts):
+        """Whether a rule matches a packet of the tag; none does that asks what a trace does not carry."""
+        asked, counts = rule.asked, "max" in rule.state
+        if any(it in drawing.BEYOND for it in asked.parts):
             return False
         keeps = rule.action == "pass" and rule.state != "no state"
-        flags = rule.asked.flags or ("S/SA" if keeps else "any")
-        return self.matches(rule.asked, packet, "max" in rule.state) and has_flags(flags, packet)
+        return (
+            (asked.tagged is None or (self.tag == asked.tagged[0]) != asked.tagged[1])
+            and (asked.received is None or came_in_on(*asked.received, packet, counts))
+            and self.matches(asked, packet, counts)
+            and has_flags(asked.flags or ("S/SA" if keeps else "any"), packet)
+        )
 
     def matches(self, asked: Filter, packet: Packet, counts: bool) -> bool:
         """Whether any combination matches; `counts` where none may stand for several rules."""
@@ -146,6 +156,15 @@ def is_on(name: str, negated: bool, packet: Packet, counts: bool) -> bool:
     ):
         return False
     return (packet.interface in members) != negated
+
+
+def came_in_on(name: str, negated: bool, packet: Packet, counts: bool) -> bool:
+    """Whether a packet came in on an interface or one of a group. Of a packet out it is not known where; and a group of
+    several can be asked neither with `!` nor of a rule that counts."""
+    members = drawing.GROUPS.get(name, (name,))
+    if len(members) > 1 and (negated or counts):
+        return False
+    return (packet.direction == "in" and packet.interface in members) != negated
 
 
 def has_port(ports: Ports, port: int, counts: bool) -> bool:

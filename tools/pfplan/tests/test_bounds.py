@@ -135,7 +135,7 @@ class Names(FolderCase):
     def test_names_are_escaped(self) -> None:
         name = "a\x1b[31mb\n"
         trace = self.trace(["0,in,em0,udp,203.0.113.1,1000,192.0.2.1,53,"])
-        conf = self.write(name, "pass received-on em1\nfrob\n")
+        conf = self.write(name, "pass user root\nfrob\n")
         for words in (
             ("rules", conf),
             ("rules", self.folder / f"no{name}"),
@@ -148,7 +148,7 @@ class Names(FolderCase):
             self.assertNotEqual(done.status, 0, words)
             self.assertEqual(done.err.count("\n"), 1, (words, done.err))
             self.assertIn("a\\x1b[31mb\\n", done.err)
-        conf.write_text("pass received-on em1\npass in\n", "utf-8")
+        conf.write_text("pass user root\npass in\n", "utf-8")
         done = pfplan("run", conf, trace, "--into", self.folder / f"into{name}", env={"PFSRC": str(STAND_IN)})
         self.assertEqual(done.status, 0, done.err)
         self.assertNotIn("\x1b", done.out + done.err + (self.folder / f"into{name}" / "report.html").read_text("utf-8"))

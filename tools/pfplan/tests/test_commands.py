@@ -39,7 +39,7 @@ class Commands(FolderCase):
             ("rules_shipped", "ok items=4 tables=0 entries=0"),
             ("rules_manual_source_tracking", "ok items=3 tables=1 entries=0"),
             ("rules_router_without_help", "ok items=7 tables=2 entries=9"),
-            ("rules_parts", "ok items=23 tables=2 entries=4"),
+            ("rules_parts", "ok items=25 tables=2 entries=4"),
             ("rules_both_families", "ok items=5 tables=2 entries=6"),
         ):
             with self.subTest(name):
@@ -54,7 +54,7 @@ class Commands(FolderCase):
         conf = self.write(
             "pf.conf",
             'web = "192.0.2.1"\nblock all\npass in proto { tcp udp } to $web port { 80 443 } label "w" keep state '
-            "(max 40)\npass in all received-on em1\n",
+            "(max 40)\npass in all user root\n",
         )
         homes = '[group.homes]\nkind = "visits"\nfrom = "198.51.100.0/24"\nhosts = 10\n'
         flood = '[group.flood]\nkind = "syn"\nfrom = "203.0.113.0/24"\nrate = 20\n'
@@ -79,7 +79,7 @@ class Commands(FolderCase):
         summary = json.loads((into / "summary.json").read_text("utf-8"))
         self.assertEqual((len(summary["held"]), summary["users"]["connections"]), (3, 10))
         self.assertIn("(w)", (into / "summary.txt").read_text("utf-8"))
-        self.assertIn("received-on", (into / "report.html").read_text("utf-8"))
+        self.assertIn("user root", (into / "report.html").read_text("utf-8"))
         words = ("run", into / "rules", trace, "--users", "198.51.100.0/24", "--held", 0, "--into")
         again = pfplan(*words, self.folder / "another")
         self.assertEqual(again.status, 0, again.err)

@@ -5,7 +5,7 @@ import struct
 import unittest
 from pathlib import Path
 
-from pfplan.answers.doubts import of_directions, of_frames, of_interfaces, of_profiles
+from pfplan.answers.doubts import of_directions, of_frames, of_interfaces, of_profiles, of_tags
 from pfplan.commands.interfaces import interface_of
 from pfplan.commands.words import share_word
 from pfplan.common.errors import Trouble
@@ -14,6 +14,7 @@ from pfplan.pages.play_folder import names_of
 from pfplan.pf.conversion import RuleOptions, Ruleset, convert_text
 from pfplan.pf.interfaces import Machine, read_ifconfig
 from pfplan.pf.profiles import Profile
+from pfplan.pf.routes import NO_ROUTES, routes_of
 from pfplan.tests.support import FolderCase, pfplan
 from pfplan.traces.accounts import Frames
 from pfplan.traces.capture_names import is_log, names_in
@@ -74,6 +75,28 @@ class Pages(FolderCase):
     def test_entries_that_are_missing(self) -> None:
         rules = self.write("pf.conf", "pass in on em0 from any to (egress)\npass in on em0\n")
         self.check("missing that the rules need", "run", rules, self.trace(RECORDS), *USERS, text="summary.txt")
+
+    def test_tags_without_routes(self) -> None:
+        """No route says where a packet came in that is seen on its way out, so rules do not know what it got there."""
+        rules = self.write("pf.conf", "match in on em0 tag LAN\npass in on em0\npass out on em0 tagged LAN\n")
+        trace = self.trace(RECORDS)
+        for words in (
+            ("run", rules, trace, *USERS), ("margins", rules, trace, *USERS), ("compare", rules, rules, trace, *USERS),
+            ("size", rules, trace, "--vary", "states=5..9", "--runs", 2, "--grid", 2, *USERS),
+        ):  # fmt: skip
+            with self.subTest(words[0]):
+                (self.folder / "page").unlink(missing_ok=True)
+                self.check("rules ask packets out for tagged LAN", *words, text="summary.txt" * (words[0] == "run"))
+        told = json.loads((self.folder / "answer/summary.json").read_text("utf-8"))
+        self.assertEqual((len(told["doubts"]), [it["text"][:8] for it in told["undecided"]]), (1, ["pass out"]))
+
+    def test_tags_of_a_play_without_routes(self) -> None:
+        rules = self.write("pf.conf", "pass in on em0 tag WEB\nblock out ! tagged WEB\n")
+        scenario = self.write(
+            "s.toml",
+            'seconds = 3\nserver = "192.0.2.1:80"\n[group.a]\nkind = "visits"\nfrom = "198.51.100.0/24"\nhosts = 2\n',
+        )
+        self.check("rules ask packets out for tagged WEB", "play", rules, scenario, text="summary.txt")
 
     def test_no_user(self) -> None:
         rules, trace = self.write("pf.conf", RULES.format("em0")), self.trace(RECORDS)
@@ -194,6 +217,29 @@ class Reasons(unittest.TestCase):
         self.assertEqual(len(of_interfaces(items, {"em0"})), 1)
         self.assertEqual(len(of_interfaces(items, {"em4"}, {0})), 2)
         self.assertEqual(of_interfaces(["pass"], {"em4"}), [])
+
+    def test_tags(self) -> None:
+        """Which way the answer errs, and that with routes it does not; nor by a tag that rules for packets out give."""
+        gives = "match in on em0 all flags any tag LAN"
+        for items, way in (
+            ([gives, "pass out all flags S/SA tagged LAN keep state"], "pf passes more"),
+            ([gives, "pass out all flags S/SA !tagged LAN keep state"], "pf blocks more"),
+            ([gives, "block drop all tagged LAN"], "pf blocks more"),
+            ([gives, "block return out all ! tagged LAN"], "pf passes more"),
+            ([gives, "pass out all tagged LAN keep state (max 3)"], "pf may block or pass more"),
+            ([gives, "match all tag WEB tagged LAN"], "pf may block or pass more"),
+            ([gives, "pass out all tagged LAN", "block out all tagged LAN"], "pf may block or pass more"),
+            (["pass out all received-on em0"], "pf passes more"), (["block all !received-on em0"], "pf passes more"),
+        ):
+            with self.subTest(items):
+                said = of_tags(items, NO_ROUTES)
+                self.assertEqual((len(said), f"; so {way} (--routes" in said[0]), (1, True), said)
+                self.assertEqual(of_tags(items, routes_of(["set route 0.0.0.0/0 em0"])), [])
+        for items in (
+            [gives, "pass in all tagged LAN"], ["match out all tag LAN", "pass out all tagged LAN"],
+            ["pass out all tagged LAN"], [gives, "pass in all received-on em0"], [gives, "pass out all"],
+        ):  # fmt: skip
+            self.assertEqual(of_tags(items, NO_ROUTES), [], items)
 
     def test_frames(self) -> None:
         self.assertEqual(of_frames(Frames(100, 60, {"not IP": 40})), [])

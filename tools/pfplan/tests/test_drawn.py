@@ -16,6 +16,7 @@ from pathlib import Path
 
 from pfplan.common.repository import program
 from pfplan.pf.conversion import RuleOptions, Ruleset, convert_text
+from pfplan.pf.profiles import Profile
 from pfplan.tests.drawing import IFCONFIG, Anchor, Drawer, Packet, Rule
 from pfplan.tests.drawing import Ruleset as Drawn
 from pfplan.tests.drawing import Writer
@@ -73,9 +74,10 @@ class DrawnRulesets(unittest.TestCase):
                 self.assertEqual(0 if number is None else made.origins[number].line, line, shown)
 
     def check_rule(self, drawn: Drawn, made: Ruleset, packets: list[Packet], drawer: Drawer) -> None:
-        """What is carried of one of the rules, alone, matches the packets that the drawn rule matches and no other."""
+        """What is carried of one of the rules, alone, matches the packets without a tag that the drawn rule matches,
+        and no other."""
         carried = {it.line for it in made.origins}
-        rules = [it for it in rules_of(drawn.items) if it.line in carried]
+        rules = [it for it in rules_of(drawn.items) if it.line in carried and it.action != "match"]
         if not rules:
             return
         rule = drawer.random.choice(rules)
@@ -83,7 +85,7 @@ class DrawnRulesets(unittest.TestCase):
         mine = [line for line, origin in zip(items, made.origins, strict=True) if origin.line == rule.line]
         tables = [it for it in made.text.splitlines() if it.startswith("table ")]
         reading = Reading(drawn)
-        alone = "".join(f"{it}\n" for it in [*tables, *mine])
+        alone = "".join(f"{it}\n" for it in [*Profile.OPENBSD.lines(), *tables, *mine])
         for packet, (word, number) in zip(packets, self.replay(alone, packets), strict=True):
             if word != "state":
                 self.assertEqual(

@@ -36,6 +36,17 @@ class Numbering(unittest.TestCase):
         )
         self.assertEqual(numbers(converted(text)), [("", at, None, ()) for at in range(5)] + [("", 5, None, (0,))])
 
+    def test_match_rules(self) -> None:
+        """Each has its number, also where it is left out; a group behind received-on is one rule in pf."""
+        text = (
+            "match in all scrub (no-df)\nmatch in log proto { tcp udp } tag LAN\n"
+            "pass out received-on lan tagged LAN\nblock all\n"
+        )
+        made = converted(text, interfaces=(("lan", "em1"), ("lan", "em2")))
+        wanted = [((), "match"), ((0,), "match"), ((1,), "match"), ((2, 3), "pass"), ((4,), "block")]
+        self.assertEqual([(it.items, it.action) for it in made.pf_rules], wanted)
+        self.assertEqual([it.logs for it in made.pf_rules], [False, True, True, False, False])
+
     def test_families(self) -> None:
         made = converted("pass from { 192.0.2.1 2001:db8::1 } to { 192.0.2.2 2001:db8::2 any }\nblock all\n")
         self.assertEqual(numbers(made), [("", at, None, (at,)) for at in range(5)])

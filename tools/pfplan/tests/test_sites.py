@@ -630,7 +630,11 @@ class Checker:
 
 
 def ways_of(words: Words) -> set[str]:
-    """The ways in which pf can answer otherwise than without a statement."""
+    """The ways in which pf can answer otherwise than without a statement. What asks for the tag that it gives may be of
+    another way."""
+    if "tag" in words:
+        own = {"pf blocks more", "pf passes more"} if words[0] in ("match", *OLD) else set()
+        return {*ways_of(tuple(it for it in words if it != "tag")), "pf may block or pass more", *own}
     if words[0] in ("block", "antispoof"):
         return {"pf blocks more"}
     if words[0] == "pass" and not counts(words) or words[0] in OLD and words[1] == "pass":
@@ -756,7 +760,7 @@ def split_items(item: Words, reader: Reader) -> Iterator[Words]:
 
 def wrong_items(item: Words) -> Iterator[Words]:
     """Items that match more, do something else, or count less."""
-    yield ({"pass": "block", "block": "pass", "anchor": "pass"}[item[0]], *item[1:])
+    yield ({"pass": "block", "block": "pass"}.get(item[0], "pass"), *item[1:])
     rule = read_rule(item)
     for part in rule.parts:
         kept = tuple(itertools.chain(*(it for it in rule.parts if it is not part)))
@@ -857,6 +861,21 @@ class Sites(unittest.TestCase):
             for statement, answer in found:
                 with self.subTest(f"{name} {statement.line}", words=words):
                     self.assertEqual(checker.faults(statement, answer), [], " ".join(statement.words))
+
+    def test_tags_come_whole(self) -> None:
+        """Rules that give or ask for tags, or ask where a packet came in, are there, but for a `match` that translates
+        too and for routing domains; nothing of their tags is told."""
+        marks, count = {"tag", "tagged", "received-on"}, 0
+        for name in NAMES:
+            for statement, answer in answers(name, WITH)[1]:
+                words = {*statement.words}
+                is_left_out = statement.words[0] == "match" and words & {*TRANSLATIONS} or "rdomain" in words
+                if words & marks and words & {"pass", "block", "match"} and not is_left_out:
+                    count += 1
+                    with self.subTest(f"{name} {statement.line}"):
+                        self.assertTrue(answer.items)
+                        self.assertFalse([it for it in answer.told if marks & {*it.words}])
+        self.assertEqual(count, 19)
 
     def test_wrong_answers(self) -> None:
         """Each answer with one thing wrong is refused, so the test above refuses each pfplan that gives one."""

@@ -137,6 +137,7 @@ class Summaries(FolderCase):
             'anchor "a" on ! em3 all {',
             "pass all",
             "}",
+            "match in on em0 all flags any tag LAN",
         ]
         with mock.patch("pfplan.answers.summaries.show_rules", return_value=shown):
             summary = summarize(report, Wanted(trace, rules=report))

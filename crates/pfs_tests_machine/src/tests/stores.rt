@@ -150,6 +150,7 @@ fn come<S: Store>(rt: &impl Abort, tried: &mut Tried<S>, row: &Row) -> Result<()
                 completed: true,
                 taken: false,
                 asks: false,
+                tag: None,
                 connections,
                 score: Score { value, last: row.0 },
             };

@@ -65,12 +65,13 @@ impl<S: Store> Store for Tallied<S> {
     fn admit(
         &mut self,
         packet: &Packet,
+        going: &Packet,
         rule: RuleNo,
         cookie: bool,
         now: u64,
     ) -> Result<Result<StateNo, Limit>, NoMemory> {
         self.tick();
-        self.inner.admit(packet, rule, cookie, now)
+        self.inner.admit(packet, going, rule, cookie, now)
     }
 
     fn touch(&mut self, found: Found, packet: &Packet, now: u64, meter: &mut Meter) -> Touched {

@@ -66,7 +66,7 @@ impl<'a, S: Store> Tried<'a, S> {
         }
         assert!(rt; self.config.options(rule).is_some());
         assert!(rt; self.store.made() < RUN_LIMIT);
-        Ok(self.store.admit(packet, rule, cookie, self.now)?)
+        Ok(self.store.admit(packet, packet, rule, cookie, self.now)?)
     }
 
     /// A packet of a held state comes.

@@ -2,7 +2,7 @@
 
 use pfs_addr_values::{Meter, Packet};
 use pfs_conf::{Config, RuleNo};
-use pfs_eval::{Book, Tables};
+use pfs_eval::{Book, Decision, Tables};
 use std::alloc::Global;
 use std::test::Fail;
 
@@ -22,10 +22,16 @@ impl Rules {
         })
     }
 
+    /// What the rules make of a packet, and the number of visits.
+    pub fn decide(&self, packet: &Packet) -> (Decision, u64) {
+        let mut visits = Meter::new();
+        let decision = self.book.decide(&self.tables, packet, &mut visits);
+        (decision, visits.count())
+    }
+
     /// The rule that decides on a packet, and the number of visits.
     pub fn ask(&self, packet: &Packet) -> (Option<RuleNo>, u64) {
-        let mut visits = Meter::new();
-        let decided = self.book.decide(&self.tables, packet, &mut visits);
-        (decided, visits.count())
+        let (decision, visits) = self.decide(packet);
+        (decision.rule, visits)
     }
 }

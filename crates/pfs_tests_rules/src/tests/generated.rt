@@ -4,17 +4,17 @@ ghost use Rattle.std.specs.Prelude.{◌<◌};
 
 use super::asking::Rules;
 use super::packets::packet_on;
-use super::plain::{Evaluation, Step};
-use pfs_addr_values::{Addr, Dir, Packet, Proto};
+use super::plain::{Evaluation, Marks, Step};
+use pfs_addr_values::{Addr, Dir, Packet, Proto, TagNo};
 use pfs_conf::load;
 use pfs_tests_cases::{CaseError, SYN, SYN_ACK, same};
 use std::alloc::{AllocError, Global};
 use std::process::Abort;
 use std::test::Fail;
 
-/// Two tables, which are in front of each ruleset.
-const TABLES: &[u8] =
-    b"table <t> { 10.0.0.0/8, !10.1.0.0/16, 10.1.2.3, 2001:db8::/32, !2001:db8:2::/48 }
+/// The profile and two tables, which are in front of each ruleset.
+const HEAD: &[u8] = b"set profile openbsd-7.4
+table <t> { 10.0.0.0/8, !10.1.0.0/16, 10.1.2.3, 2001:db8::/32, !2001:db8:2::/48 }
 table <bad> { 203.0.113.9, 2001:db8:1::9 }
 ";
 
@@ -137,6 +137,46 @@ fn words(parameter: usize, choice: u32) -> &'static [u8] {
     }
 }
 
+/// What a rule does besides.
+fn marks(numbers: &mut Numbers) -> Marks {
+    Marks {
+        is_match: numbers.once_in(4),
+        tag: one_of_three(numbers.below(8)),
+        tagged: one_of_three(numbers.below(9)),
+        negated: numbers.once_in(2),
+    }
+}
+
+fn one_of_three(tag: u32) -> Option<u32> {
+    if tag < 3 { Some(tag) } else { None }
+}
+
+/// Appends what a rule asks of tags, and the tag that it gives.
+fn write_marks(marks: &Marks, text: &mut Vec<u8>) -> Result<(), AllocError> {
+    if let Some(tag) = marks.tag {
+        text.extend_from_slice(b" tag")?;
+        text.extend_from_slice(name(tag))?;
+    }
+    if let Some(tag) = marks.tagged {
+        text.extend_from_slice(if marks.negated {
+            b" ! tagged"
+        } else {
+            b" tagged"
+        })?;
+        text.extend_from_slice(name(tag))?;
+    }
+    Ok(())
+}
+
+/// The name of a tag.
+fn name(tag: u32) -> &'static [u8] {
+    match tag {
+        0 => b" a",
+        1 => b" b",
+        _ => b" c",
+    }
+}
+
 /// A ruleset that is being made.
 #[derive(Drop)]
 struct Ruleset {
@@ -145,20 +185,20 @@ struct Ruleset {
     open: usize,
 }
 
-/// An item, and the rules of a text that has it alone, as a rule.
+/// An item, and the rules of a text that has its filter alone, as a rule.
 #[derive(Drop)]
 struct Item {
     depth: usize,
-    is_anchor: bool,
     quick: bool,
+    marks: Option<Marks>,
     alone: Rules,
 }
 
 impl Ruleset {
-    /// The two tables, without an item.
+    /// What is in front, without an item.
     fn new(alloc: Global) -> Result<Ruleset, AllocError> {
         Ok(Ruleset {
-            text: Vec::from_slice(alloc, TABLES)?,
+            text: Vec::from_slice(alloc, HEAD)?,
             items: Vec::new(alloc),
             open: 0,
         })
@@ -173,34 +213,57 @@ impl Ruleset {
         Ok(())
     }
 
-    /// Appends an item.
+    /// Appends a rule with these marks, or an anchor.
     fn push(
         &mut self,
         alloc: Global,
         asked: &Asked,
         quick: bool,
-        is_anchor: bool,
+        marks: Option<Marks>,
     ) -> Result<(), Fail> {
-        let mut alone = Vec::from_slice(alloc, TABLES)?;
+        let mut alone = Vec::from_slice(alloc, HEAD)?;
         alone.extend_from_slice(b"block")?;
         asked.write(&mut alone, false)?;
         alone.extend_from_slice(b"\n")?;
         let item = Item {
             depth: self.open,
-            is_anchor,
             quick,
+            marks,
             alone: Rules::of(alloc, &load(alloc, &alone)?)?,
         };
         self.items.push(item).map_err(|_| "no memory")?;
-        self.text
-            .extend_from_slice(if is_anchor { b"anchor" } else { b"block" })?;
-        asked.write(&mut self.text, quick)?;
-        self.text
-            .extend_from_slice(if is_anchor { b" {\n" } else { b"\n" })?;
-        if is_anchor {
+        self.write(asked, quick, &marks)?;
+        if marks.is_none() {
             self.open = self.open.saturating_add(1);
         }
         Ok(())
+    }
+
+    /// Appends the text of an item.
+    fn write(
+        &mut self,
+        asked: &Asked,
+        quick: bool,
+        marks: &Option<Marks>,
+    ) -> Result<(), AllocError> {
+        self.text.extend_from_slice(verb(marks))?;
+        asked.write(&mut self.text, quick)?;
+        match marks {
+            Some(marks) => {
+                write_marks(marks, &mut self.text)?;
+                self.text.extend_from_slice(b"\n")
+            }
+            None => self.text.extend_from_slice(b" {\n"),
+        }
+    }
+}
+
+/// The word with which an item begins.
+fn verb(marks: &Option<Marks>) -> &'static [u8] {
+    match marks {
+        None => b"anchor",
+        Some(marks) if marks.is_match => b"match",
+        Some(_) => b"block",
     }
 }
 
@@ -218,8 +281,14 @@ fn generate(alloc: Global, numbers: &mut Numbers) -> Result<Ruleset, Fail> {
             asked = asked.changed(numbers);
         }
         let is_anchor = ruleset.open < 4 && numbers.once_in(3);
-        let quick = numbers.once_in(6);
-        ruleset.push(alloc, &asked, quick, is_anchor)?;
+        let marks = if is_anchor {
+            None
+        } else {
+            Some(marks(numbers))
+        };
+        // a `match` rule has no `quick`
+        let quick = numbers.once_in(6) && !marks.is_some_and(|marks| marks.is_match);
+        ruleset.push(alloc, &asked, quick, marks)?;
     }
     ruleset.leave(0)?;
     Ok(ruleset)
@@ -232,13 +301,22 @@ fn evaluated(items: &[Item], packet: &Packet) -> Evaluation {
         let (decided, _) = item.alone.ask(packet);
         let step = Step {
             depth: item.depth,
-            is_anchor: item.is_anchor,
             quick: item.quick,
-            matches: decided.is_some(),
+            holds: decided.is_some(),
+            marks: item.marks,
         };
         evaluation = evaluation.behind(place, &step);
     }
     evaluation
+}
+
+/// The number by which a tag is known: that of the first rule that gives it.
+fn known(items: &[Item], tag: Option<u32>) -> Option<TagNo> {
+    let tag = tag?;
+    let place = items.iter().position(|item| item
+        .marks
+        .is_some_and(|marks| marks.tag == Some(tag)))?;
+    Some(TagNo(u16::try_from(place).ok()?))
 }
 
 #[test]
@@ -252,8 +330,10 @@ fn generated_rulesets_answer_as_a_plain_walk_does(rt: HostRuntime) -> Result<(),
         for _ in 0..20 {
             let packet = numbers.packet()?;
             let plain = evaluated(&ruleset.items, &packet);
-            let (rule, visits) = rules.ask(&packet);
+            let (decision, visits) = rules.decide(&packet);
+            let rule = decision.rule;
             same!(rt; rule.map(|rule| rule.0 as usize), plain.found);
+            same!(rt; decision.packet, packet.with_tag(known(&ruleset.items, plain.tag)));
             assert!(rt; visits <= plain.visits, "{visits} visits");
             if visits < plain.visits {
                 fewer = fewer.saturating_add(1);

@@ -8,29 +8,51 @@ pub const DEPTHS: usize = 6;
 pub struct Step {
     /// The number of anchors around it.
     pub depth: usize,
-    /// Whether it is an anchor, and no rule.
-    pub is_anchor: bool,
     /// Whether it has `quick`.
     pub quick: bool,
-    /// Whether it matches.
-    pub matches: bool,
+    /// Whether its filter holds.
+    pub holds: bool,
+    /// What it does besides, if it is a rule, and no anchor.
+    pub marks: Option<Marks>,
+}
+
+/// What a rule asks of a packet's tag, and does with it. A tag is known by a number of its own here.
+#[derive(Clone, Copy, Debug, PartialEq, Eq)]
+pub struct Marks {
+    /// Whether it is a `match` rule.
+    pub is_match: bool,
+    /// The tag that it gives.
+    pub tag: Option<u32>,
+    /// The tag that it asks for.
+    pub tagged: Option<u32>,
+    /// Whether it asks for another, or none.
+    pub negated: bool,
+}
+
+impl Marks {
+    /// Whether what it asks holds of a packet with this tag.
+    fn hold_of(&self, tag: Option<u32>) -> bool {
+        self.tagged.is_none() || (tag == self.tagged) != self.negated
+    }
 }
 
 /// An anchor that is open.
 #[derive(Clone, Copy, Debug, PartialEq, Eq)]
 struct Open {
     quick: bool,
-    /// Whether a rule in it matched.
+    /// Whether a rule in it matched and decides.
     hit: bool,
 }
 
 /// A plain evaluation, as far as it has come.
 #[derive(Clone, Copy, Debug, PartialEq, Eq)]
 pub struct Evaluation {
-    /// The place of the last rule that matched.
+    /// The place of the last rule that matched and decides.
     pub found: Option<usize>,
     /// The number of items that were compared.
     pub visits: u64,
+    /// The packet's tag.
+    pub tag: Option<u32>,
     is_over: bool,
     /// The depth of an anchor that did not match, in whose body the evaluation is.
     hidden: Option<usize>,
@@ -43,6 +65,7 @@ impl Evaluation {
         Evaluation {
             found: None,
             visits: 0,
+            tag: None,
             is_over: false,
             hidden: None,
             open: [None; DEPTHS],
@@ -61,14 +84,14 @@ impl Evaluation {
             hidden: None,
             ..left
         };
-        match (step.matches, step.is_anchor) {
-            (false, false) => visited,
-            (false, true) => Evaluation {
+        match (step.holds, step.marks) {
+            (false, Some(_)) => visited,
+            (false, None) => Evaluation {
                 hidden: Some(step.depth),
                 ..visited
             },
-            (true, false) => visited.hit(place, step.quick),
-            (true, true) => visited.opened(step.depth, step.quick),
+            (true, Some(marks)) => visited.asked(place, step.quick, &marks),
+            (true, None) => visited.opened(step.depth, step.quick),
         }
     }
 
@@ -86,7 +109,23 @@ impl Evaluation {
         left
     }
 
-    /// After a rule that matched.
+    /// After a rule whose filter holds.
+    fn asked(self, place: usize, quick: bool, marks: &Marks) -> Evaluation {
+        if !marks.hold_of(self.tag) {
+            return self;
+        }
+        let marked = Evaluation {
+            tag: marks.tag.or(self.tag),
+            ..self
+        };
+        if marks.is_match {
+            marked
+        } else {
+            marked.hit(place, quick)
+        }
+    }
+
+    /// After a rule that matched and decides.
     fn hit(self, place: usize, quick: bool) -> Evaluation {
         let mut hit = self;
         for anchor in hit.open.iter_mut() {

@@ -266,6 +266,7 @@ fn verbs(rt: HostRuntime) {
     same!(rt; read_verb(&mut cursor), Ok(blocks));
     holds!(rt; blocks.has(cursor.key()));
     holds!(rt; !Verb::Pass.has(cursor.key()));
+    holds!(rt; !Verb::Match.has(cursor.key()));
     holds!(rt; !blocks.has(Key::Quick));
     same!(rt; read_verb(&mut cursor), Err(Refusal::Stop(Why::Statement)));
     same!(rt; cursor.key(), Key::Drop);

@@ -7,7 +7,7 @@ use pfs_tests_cases::{holds, same};
 use std::test::Fail;
 
 /// Texts, and what their canonical text ends with
-const SHOWN: [(&[u8], &[u8]); 16] = [
+const SHOWN: [(&[u8], &[u8]); 19] = [
     (
         b"set limit states 1009\nset profile openbsd-7.4\n\
         pass in proto tcp to any port 80 keep state (max 25, sloppy)\n\
@@ -91,6 +91,23 @@ const SHOWN: [(&[u8], &[u8]); 16] = [
     (
         b"set route 10.0.0.1 em0\nset route 10.0.0.1 em1\nset route { 10.0.0.1 em2 }\nset profile openbsd-7.4\nblock\n",
         b"set profile openbsd-7.4\nset route 10.0.0.1 em2\nblock all flags any\n",
+    ),
+    (
+        b"set profile openbsd-7.4\nmatch out on em0 tag OUT\n\
+        match in proto tcp to any port 80 ! tagged OUT received-on em0\n",
+        b"set profile openbsd-7.4\nmatch out on em0 all flags any tag OUT\n\
+        match in proto tcp from any to any port 80 flags any !tagged OUT received-on em0\n",
+    ),
+    (
+        b"set profile openbsd-7.4\npass !received-on em1 keep state (max 9) tagged A tag B flags any\n\
+        block return tagged A\nmatch log flags S/SA ! received-on em0\n",
+        b"set profile openbsd-7.4\npass all flags any tag B tagged A !received-on em1 keep state (max 9)\n\
+        block all flags any tagged A\nmatch all flags S/SA !received-on em0\n",
+    ),
+    (
+        b"set profile openbsd-7.4\nanchor tag {\npass no state tag tag\nmatch\n}\n",
+        b"set profile openbsd-7.4\nanchor \"tag\" all flags any {\npass all flags any tag tag no state\n\
+        match all flags any\n}\n",
     ),
 ];
 

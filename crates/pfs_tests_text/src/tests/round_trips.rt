@@ -14,7 +14,7 @@ const LIMITS: [LimitName; 4] = [
 ];
 
 /// Each part of a rules text, in usual and in unusual spellings.
-const TEXTS: [&[u8]; 50] = [
+const TEXTS: [&[u8]; 53] = [
     b"",
     b"# a comment alone \\\n",
     b"set limit states 1\nset limit src-nodes 4294967295\nset limit tables 2\nset limit table-entries 3",
@@ -65,6 +65,9 @@ const TEXTS: [&[u8]; 50] = [
     b"set profile openbsd-7.4\nanchor synproxy {\npass out on synproxy synproxy state (no-sync)\n}\nblock from <synproxy>",
     b"set route 2001:db8::1/64 em0\nset profile openbsd-7.4\npass",
     b"set profile openbsd-7.4\nset route { 0.0.0.0/0 em0, 10.1.2.3/8 set\n192.0.2.1\nlo0, ::/0 route }\nset route 0.0.0.0/0 em9\ntable <route> { 10.0.0.1 }\npass on route from <route>",
+    b"set profile openbsd-7.4\nmatch\nmatch in log on em0 inet6 proto udp from any port domain to <t> flags any tag a tagged b received-on em1",
+    b"pass quick keep state (max 5) ! tagged a tag tagged\nblock !received-on tag flags S/SA\nset profile openbsd-7.4\npass no state received-on a",
+    b"anchor match {\nmatch out ! received-on 7 tagged 7 tag 7\n}\npass synproxy state ! tagged received-on\nset profile openbsd-7.4",
 ];
 
 /// The profile, SYN cookies, routes, limits and timeouts of two configurations are the same.

@@ -116,6 +116,12 @@ const WORDS: &[(&[u8], Key)] = &[
     (b"routes", Key::Name),
     (b"25%", Key::Number),
     (b"modulate", Key::Foreign),
+    (b"match", Key::Match),
+    (b"matches", Key::Matches),
+    (b"tag", Key::Tag),
+    (b"tagged", Key::Tagged),
+    (b"received-on", Key::ReceivedOn),
+    (b"nat-to", Key::Foreign),
     (b"", Key::Name),
 ];
 

@@ -23,11 +23,11 @@ returns-after-branch-2-clause-answered g c =
           let none : packet_limit (g.S.Store.config inside.store) w c.args.packet.now c.args.rule.0 ≡ None = admitted_at w _ x.in-Ok.field-0 (sym x.in-Ok.is ∙ a.answer) in
           let none_here : packet_limit inside.config w c.args.packet.now c.args.rule.0 ≡ None = ap (λ (k : Conf). packet_limit k w c.args.packet.now c.args.rule.0) (sym c.held.invariant.store) ∙ none in
           let found : rule_at inside.config c.args.rule.0 ≡ Some c.in-Some.found.now = sym c.rule.ensures.value ∙ ap option_copied c.in-Some.is in
-          let after = a.ok ∙ ap (world_at (g.S.Store.config inside.store) w c.args.packet.now c.args.rule.0 c.args.cookie c.args.now) none
-          ∙ ap (λ (k : Conf). world_after_admission k w c.args.packet.now c.args.rule.0 c.args.cookie c.args.now) c.held.invariant.store in
-          let told = told_made inside.config (held_of w inside.tables.entries) c.args.packet.now c.args.cookie c.args.now c.args.rule c.in-Some.found.now c.in-Keep.field-0
+          let after = a.ok ∙ ap (world_at (g.S.Store.config inside.store) w c.args.packet.now c.args.going.now c.args.rule.0 c.args.cookie c.args.now) none
+          ∙ ap (λ (k : Conf). world_after_admission k w c.args.packet.now c.args.going.now c.args.rule.0 c.args.cookie c.args.now) c.held.invariant.store in
+          let told = told_made inside.config (held_of w inside.tables.entries) c.args.packet.now c.args.going.now c.args.cookie c.args.now c.args.rule c.in-Some.found.now c.in-Keep.field-0
           (g.S.Store.world c.admit.new.self) found c.in-Keep.is none_here after
-          ∙ ap (λ (v : HeldView _). answer_of_rule v.config v.held c.args.packet.now c.args.cookie c.args.now (Some c.args.rule.0)) c.held.view_is in
+          ∙ ap (λ (v : HeldView _). answer_of_rule v.config v.held c.args.packet.now c.args.going.now c.args.cookie c.args.now (Some c.args.rule.0)) c.held.view_is in
           rw (x.result-is, x.made.ensures) (record { ok = told; err = tt; config = search rules })
       | in-Err x ↦
           let met : packet_limit (g.S.Store.config inside.store) w c.args.packet.now c.args.rule.0 ≡ Some x.in-Err.limit = refused_at w _ x.in-Err.limit (sym x.in-Err.is ∙ a.answer) in

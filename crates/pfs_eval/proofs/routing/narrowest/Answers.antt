@@ -1,5 +1,5 @@
 -- Answers of narrowest: one route more.
-use Rattle.std.proofs.Common.{◌∙◌, arith}
+use Rattle.std.proofs.Common.{arith}
 use Rattle.pfs_eval.proofs.Routes.{route-next}
 use Rattle.pfs_eval.proofs.routing.narrowest.Goals as goal
 

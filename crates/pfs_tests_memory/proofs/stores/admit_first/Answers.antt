@@ -6,5 +6,5 @@ use Rattle.pfs_tests_memory.proofs.stores.admit_first.Goals as goal
 pub returns : goal.returns
 returns g c =
     rw c.in_ok-admit.ensures.ok (record {
-      order = world_at-up_to_now (g.S.Store.config c.args.store.now) (g.S.Store.world c.args.store.now) c.args.packet.now 0 false c.args.now _ c.requires.order;
+      order = world_at-up_to_now (g.S.Store.config c.args.store.now) (g.S.Store.world c.args.store.now) c.args.packet.now c.args.packet.now 0 false c.args.now _ c.requires.order;
     })

@@ -11,5 +11,5 @@ invariant_of-self g c =
 pub returns-clause-keeps : goal.returns-clause-keeps
 returns-clause-keeps g c =
     let inside = c.self.inside in
-    keeps inside.held c.add.new.self c.args.self.now inside.guard inside.guard inside.first inside.last inside.taken inside.taken inside.work inside.work c.self.view_is c.add.ensures.answered.config
+    keeps inside.held c.add.new.self c.args.self.now inside.guard inside.guard inside.first inside.last inside.taken inside.taken inside.going inside.going inside.work inside.work c.self.view_is c.add.ensures.answered.config
     (whole_answered inside.held c.add.new.self inside.guard inside.first inside.last inside.taken 0 c.unwrap_or-now.result c.args.table.0 (command.Add c.args.entry.now) c.add.result _ c.self.invariant c.add.ensures.answered)

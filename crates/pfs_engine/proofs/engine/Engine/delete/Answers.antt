@@ -11,5 +11,5 @@ invariant_of-self g c =
 pub returns-clause-keeps : goal.returns-clause-keeps
 returns-clause-keeps g c =
     let inside = c.self.inside in
-    keeps inside.held c.delete.new.self c.args.self.now inside.guard inside.guard inside.first inside.last inside.taken inside.taken inside.work inside.work c.self.view_is c.delete.ensures.config
+    keeps inside.held c.delete.new.self c.args.self.now inside.guard inside.guard inside.first inside.last inside.taken inside.taken inside.going inside.going inside.work inside.work c.self.view_is c.delete.ensures.config
     (whole_told inside.held c.delete.new.self inside.guard inside.first inside.last inside.taken 0 0 c.args.table.0 (command.Delete c.args.entry.now) _ c.self.invariant c.delete.ensures)

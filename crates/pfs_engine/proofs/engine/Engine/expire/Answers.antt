@@ -11,5 +11,5 @@ invariant_of-self g c =
 pub returns-clause-keeps : goal.returns-clause-keeps
 returns-clause-keeps g c =
     let inside = c.self.inside in
-    keeps inside.held c.expire.new.self c.args.self.now inside.guard inside.guard inside.first inside.last inside.taken inside.taken inside.work inside.work c.self.view_is c.expire.ensures.config
+    keeps inside.held c.expire.new.self c.args.self.now inside.guard inside.guard inside.first inside.last inside.taken inside.taken inside.going inside.going inside.work inside.work c.self.view_is c.expire.ensures.config
     (whole_told inside.held c.expire.new.self inside.guard inside.first inside.last inside.taken c.unwrap_or-first.result c.unwrap_or-now.result c.args.table.0 (command.Expire c.args.seconds) _ c.self.invariant c.expire.ensures)

@@ -10,5 +10,5 @@ invariant_of-self g c =
 pub returns-clause-keeps : goal.returns-clause-keeps
 returns-clause-keeps g c =
     let inside = c.self.inside in
-    keeps inside.held c.kill.new.self c.args.self.now inside.guard inside.guard inside.first inside.last inside.taken inside.taken inside.work inside.work c.self.view_is c.kill.ensures.config
+    keeps inside.held c.kill.new.self c.args.self.now inside.guard inside.guard inside.first inside.last inside.taken inside.taken inside.going inside.going inside.work inside.work c.self.view_is c.kill.ensures.config
     (whole_killed inside.held c.kill.new.self inside.guard inside.first inside.last inside.taken _ c.args.hosts.now _ c.self.invariant c.kill.ensures)

@@ -28,7 +28,7 @@ returns-clause-answered g c =
     (record { answered = a.ensures.answered; guard = a.ensures.guard; refused = a.ensures.refused; free = a.ensures.free }) in
     let taken = c.taken_after-self-inside.ensures in
     let whole = whole_packet inside.held a.new.held inside.guard a.new.guard inside.first inside.last inside.taken _ c.args.packet.now a.result room c.self.invariant told taken in
-    answered_by inside.held a.new.held c.args.self.now inside.guard a.new.guard inside.first inside.last inside.taken _ inside.work _ c.args.packet.now a.result c.self.view_is whole told taken
+    answered_by inside.held a.new.held c.args.self.now inside.guard a.new.guard inside.first inside.last inside.taken _ inside.going _ inside.work _ c.args.packet.now a.result c.self.view_is whole told taken
 
 pub returns-clause-limited : goal.returns-clause-limited
 returns-clause-limited g c =
@@ -36,7 +36,7 @@ returns-clause-limited g c =
     let a = c.answer_behind_guard-outcome in
     let told = taken_at_last inside.held a.new.held inside.guard a.new.guard inside.last c.unwrap_or-now.result c.args.packet.now a.result c.unwrap_or-now.ensures
     (record { answered = a.ensures.answered; guard = a.ensures.guard; refused = a.ensures.refused; free = a.ensures.free }) in
-    limited inside.held a.new.held c.args.self.now inside.guard a.new.guard inside.first inside.last inside.taken _ inside.work _ c.args.packet.now a.result c.self.view_is c.self.invariant told
+    limited inside.held a.new.held c.args.self.now inside.guard a.new.guard inside.first inside.last inside.taken _ inside.going _ inside.work _ c.args.packet.now a.result c.self.view_is c.self.invariant told
 
 pub answer_behind_guard-outcome-requires-clause-moment : goal.answer_behind_guard-outcome-requires-clause-moment
 answer_behind_guard-outcome-requires-clause-moment g c = omega (arith, c.unwrap_or-now.ensures, c.self.invariant.early)

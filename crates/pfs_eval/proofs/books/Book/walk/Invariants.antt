@@ -1,13 +1,13 @@
 -- Invariant of Book::walk: what is left of the walk, and at most one visit for each place before this one.
 use Rattle.std.proofs.Common.{length, ◌-◌, ◌+◌, ◌≤◌}
-use Rattle.pfs_eval.specs.Matching.{matches_item}
+use Rattle.pfs_eval.specs.Asking.{asking}
 use Rattle.pfs_eval.specs.Visits.{is_left_with}
 use Rattle.pfs_eval.proofs.Visiting.{IsLeft}
 use Rattle.pfs_eval.proofs.books.Book.walk.Given as goal
 
 abbrev pub invariant-loop-walk : goal.invariant-loop-walk
 invariant-loop-walk l = record {
-  left : IsLeft (is_left_with l.tables.entries l.packet) (matches_item l.tables.entries l.packet) l.self l.walk l.meter l.fn.meter;
+  left : IsLeft (is_left_with l.tables.entries) (asking l.self l.tables.entries) l.self l.fn.packet l.walk l.packet l.meter l.fn.meter;
   few : l.meter ≤ l.fn.meter + l.walk.place;
 }
 

@@ -135,7 +135,7 @@ returns-clause-told g c =
     ∙ ap (λ ns. score_in s.source ns sc) (returns-clause-nodes g c)
     ∙ ap (λ (x : Conf). score_in s.source (nodes_touched c.args.self.now.config c.args.self.now.nodes s c.args.now (completes_at c.args.packet.now s)) (node_scope_of x s.rule.0)) (ap (λ (x : Holding). x.config) c.self.view_is))
     ∙ ap (λ b. if c.args.asked || b then score_in s.source (nodes_touched c.args.self.now.config c.args.self.now.nodes s c.args.now (completes_at c.args.packet.now s)) (node_scope_of c.args.self.now.config s.rule.0) else zero_score) c.stepped-step.ensures.completes in
-    (λ j. record { rule = s.rule; source = s.source; dir = s.dir; completed = c.stepped-step.ensures.completes j; taken = c.stepped-step.ensures.taken j; asks = c.stepped-step.ensures.asks j; connections = n j; score = z j })
+    (λ j. record { rule = s.rule; source = s.source; dir = s.dir; completed = c.stepped-step.ensures.completes j; taken = c.stepped-step.ensures.taken j; asks = c.stepped-step.ensures.asks j; tag = s.tag; connections = n j; score = z j })
 
 pub returns-clause-reached : goal.returns-clause-reached
 returns-clause-reached g c =

@@ -36,7 +36,7 @@ put-requires-clause-sourced g c =
 
 pub invariant_of-self : goal.invariant_of-self
 invariant_of-self g c =
-    let s : State = record { number = c.self.inside.made + 1; key = c.of.result; dir = c.dir.result; source = c.src-source.result; rule = c.args.rule; phase = c.new_phase.result; last = c.args.now } in
+    let s : State = record { number = c.self.inside.made + 1; key = c.of.result; dir = c.dir.result; source = c.src-source.result; rule = c.args.rule; phase = c.new_phase.result; last = c.args.now; tag = c.tag.result } in
     let l : c.self.inside.made < run_limit = omega (arith, ap (λ (p : Indexed). p.world.made) c.self.view_is, c.requires.room) in
     stored-came s c.self.inside.indexes c.put.new.self c.self.inside.states_round.cursor c.self.inside.states_round.mark c.self.inside.nodes_round.cursor c.self.inside.nodes_round.mark c.self.inside.made _ l c.self.invariant refl
     c.in-Ok.ensures.config c.in-Ok.ensures.states c.in-Ok.ensures.nodes
@@ -46,11 +46,11 @@ returns-in-Ok-clause-ok g c =
     let h = c.self.inside.indexes in
     let m = c.self.inside.made in
     let w : World = world_of c.self.inside.indexes c.self.inside.states_round.cursor c.self.inside.states_round.mark c.self.inside.nodes_round.cursor c.self.inside.nodes_round.mark c.self.inside.made in
-    let s : State = record { number = c.self.inside.made + 1; key = c.of.result; dir = c.dir.result; source = c.src-source.result; rule = c.args.rule; phase = c.new_phase.result; last = c.args.now } in
+    let s : State = record { number = c.self.inside.made + 1; key = c.of.result; dir = c.dir.result; source = c.src-source.result; rule = c.args.rule; phase = c.new_phase.result; last = c.args.now; tag = c.tag.result } in
     let phase : c.new_phase.result ≡ new_phase c.self.inside.indexes.config c.args.rule.0 c.args.packet.now c.args.cookie =
     c.new_phase.ensures ∙ ap (λ (k : Conf). new_phase k c.args.rule.0 c.args.packet.now c.args.cookie) c.config.ensures in
-    let q : s ≡ new_state c.self.inside.indexes.config (c.self.inside.made + 1) c.args.packet.now c.args.rule.0 c.args.cookie c.args.now =
-    (λ j. record { number = c.self.inside.made + 1; key = c.of.ensures j; dir = c.dir.ensures j; source = c.src-source.ensures j; rule = c.args.rule; phase = phase j; last = c.args.now }) in
+    let q : s ≡ new_state c.self.inside.indexes.config (c.self.inside.made + 1) c.args.packet.now c.args.going.now c.args.rule.0 c.args.cookie c.args.now =
+    (λ j. record { number = c.self.inside.made + 1; key = c.of.ensures j; dir = c.dir.ensures j; source = c.src-source.ensures j; rule = c.args.rule; phase = phase j; last = c.args.now; tag = c.tag.ensures j }) in
     world-came s h c.put.new.self c.self.inside.states_round.cursor c.self.inside.states_round.mark c.self.inside.nodes_round.cursor c.self.inside.nodes_round.mark m _ c.self.invariant refl c.in-Ok.ensures.states c.in-Ok.ensures.nodes
     ∙ ap (λ (x : State). lists (h.states ++ x ∷ []) (nodes_with h.nodes (m + 1) x.source x.last (node_scope_of h.config x.rule.0)) (waiting c.self.inside.states_round.cursor c.self.inside.states_round.mark (state_numbers h.states)) (waiting c.self.inside.nodes_round.cursor c.self.inside.nodes_round.mark (node_numbers h.nodes)) (m + 1)) q
-    ∙ ap (λ (p : Indexed). world_after_admission p.config p.world c.args.packet.now c.args.rule.0 c.args.cookie c.args.now) c.self.view_is
+    ∙ ap (λ (p : Indexed). world_after_admission p.config p.world c.args.packet.now c.args.going.now c.args.rule.0 c.args.cookie c.args.now) c.self.view_is
