@@ -174,13 +174,16 @@ settled_IsItem : (p : Profile) (tables : ℕ) (i : Item) → IsItem tables i →
 settled_IsItem p tables i h = by i.what h
   where
     by : (w : ItemKind) → IsItemAt tables i.depth w → IsItemAt tables i.depth (settled_kind p w)
-    by (what.Rule r) k = (k.0, record {
-      filter = k.1.filter;
-      came = k.1.came;
-      tag = k.1.tag;
-      action = settled_IsAction p tables r.action k.1.action;
-      quick = settled_IsQuick p r.action r.quick k.1.quick;
-    })
+    by (what.Rule r) k = (
+      k.0,
+      record {
+        filter = k.1.filter;
+        came = k.1.came;
+        tag = k.1.tag;
+        action = settled_IsAction p tables r.action k.1.action;
+        quick = settled_IsQuick p r.action r.quick k.1.quick;
+      },
+    )
     by (what.Anchor a) k = k
 
 -- an item that is settled is so a second time

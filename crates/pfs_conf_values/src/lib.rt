@@ -17,7 +17,8 @@ mod timeouts;
 pub use actions::{Action, Overload, Rate, Scope, StateOptions};
 pub use configs::{Config, count_entries, rule_retention};
 pub use filters::{
-    Came, Family, Filter, FlagTest, Host, Interface, Ports, Side, TableName, TableNo, TagName, Tagged,
+    Came, Family, Filter, FlagTest, Host, Interface, Ports, Side, TableName, TableNo, TagName,
+    Tagged,
 };
 pub use hashing::RulesHasher;
 pub use items::{Anchor, AnchorName, Item, ItemKind, Rule, RuleNo};
