@@ -125,6 +125,7 @@ pub fn push_addr(out: &mut Vec<u8>, addr: Addr) -> Result<(), NoMemory>
     ensures ok { OnOk result (out.new.items ≡ out.old.items ++ addr_text addr) }
     ensures err { OnErr result (out.new.items ≡ out.old.items) }
     ensures refused { OnErr result (vec_capacity out.old < vec_len out.old + length (addr_text addr)) }
+    ensures capacity { vec_capacity out.old ≤ vec_capacity out.new }
     ensures again { addr_of (addr_text addr) ≡ Some addr }
 {
     match addr {
@@ -137,6 +138,7 @@ fn push_quad(out: &mut Vec<u8>, bytes: [u8; 4]) -> Result<(), NoMemory>
     ensures ok { OnOk result (out.new.items ≡ out.old.items ++ dotted_decimal bytes) }
     ensures err { OnErr result (out.new.items ≡ out.old.items) }
     ensures refused { OnErr result (vec_capacity out.old < vec_len out.old + length (dotted_decimal bytes)) }
+    ensures capacity { vec_capacity out.old ≤ vec_capacity out.new }
 {
     let [a, b, c, d] = bytes;
     out.reserve(octet_len(a) + octet_len(b) + octet_len(c) + octet_len(d) + 3)?;
@@ -188,6 +190,7 @@ fn push_short(out: &mut Vec<u8>, groups: [u16; 8]) -> Result<(), NoMemory>
     ensures ok { OnOk result (out.new.items ≡ out.old.items ++ hex_groups_text groups) }
     ensures err { OnErr result (out.new.items ≡ out.old.items) }
     ensures refused { OnErr result (vec_capacity out.old < vec_len out.old + length (hex_groups_text groups)) }
+    ensures capacity { vec_capacity out.old ≤ vec_capacity out.new }
 {
     let (start, len) = longest_zeros(&groups);
     if is_left_out(len) {
@@ -209,6 +212,7 @@ fn push_all(out: &mut Vec<u8>, groups: &[u16]) -> Result<(), NoMemory>
     ensures ok { OnOk result (out.new.items ≡ out.old.items ++ groups_text groups.now) }
     ensures err { OnErr result (out.new.items ≡ out.old.items) }
     ensures refused { OnErr result (vec_capacity out.old < vec_len out.old + length (groups_text groups.now)) }
+    ensures capacity { vec_capacity out.old ≤ vec_capacity out.new }
 {
     out.reserve(groups_len(groups))?;
     push_groups(out, groups);
@@ -222,6 +226,7 @@ fn push_around(out: &mut Vec<u8>, head: &[u16], tail: &[u16]) -> Result<(), NoMe
     ensures ok { OnOk result (out.new.items ≡ out.old.items ++ around head.now tail.now) }
     ensures err { OnErr result (out.new.items ≡ out.old.items) }
     ensures refused { OnErr result (vec_capacity out.old < vec_len out.old + length (around head.now tail.now)) }
+    ensures capacity { vec_capacity out.old ≤ vec_capacity out.new }
 {
     out.reserve(groups_len(head) + 2 + groups_len(tail))?;
     push_groups(out, head);

@@ -1,6 +1,7 @@
 //! Sets of TCP flags in texts.
 
-ghost use Rattle.std.specs.Prelude.{◌≡◌, ◌++◌, OnOk, Some};
+ghost use Rattle.std.specs.Prelude.{◌≡◌, ◌≤◌, ◌<◌, ◌+◌, ◌++◌, OnErr, OnOk, Some, length, vec_len};
+ghost use Rattle.std.specs.Vec.{vec_capacity};
 ghost use Rattle.pfs_addr_values.specs.FlagSets.{flags_of, is_flag_letter, letter_text, letters_text};
 ghost use Rattle.pfs_addr.specs.LetterSteps.{with_letter};
 
@@ -46,10 +47,13 @@ fn is_letter(b: u8) -> bool
 
 /// Appends the letters of flags, in the order `FSRPAUEW`, which `parse_flags` reads as them.
 ///
-/// `NoMemory` where memory was refused; some of the letters may have been appended then.
+/// `NoMemory` where the vector had no room for the letters and more memory was refused; some of them may have been appended
+/// then.
 #[tactic(auto, using(crate::proofs::LetterTexts::flags_again))]
 pub fn push_flags(out: &mut Vec<u8>, flags: Flags) -> Result<(), NoMemory>
     ensures ok { OnOk result (out.new.items ≡ out.old.items ++ letters_text flags) }
+    ensures refused { OnErr result (vec_capacity out.old < vec_len out.old + length (letters_text flags)) }
+    ensures capacity { vec_capacity out.old ≤ vec_capacity out.new }
     ensures again { flags_of (letters_text flags) ≡ Some flags }
 {
     push_letter(out, flags.fin, b"F")?;
@@ -63,7 +67,9 @@ pub fn push_flags(out: &mut Vec<u8>, flags: Flags) -> Result<(), NoMemory>
 }
 
 fn push_letter(out: &mut Vec<u8>, is_set: bool, letter: &[u8]) -> Result<(), NoMemory>
-    ensures { OnOk result (out.new.items ≡ out.old.items ++ letter_text is_set letter.now) }
+    ensures ok { OnOk result (out.new.items ≡ out.old.items ++ letter_text is_set letter.now) }
+    ensures refused { OnErr result (vec_capacity out.old < vec_len out.old + length (letter_text is_set letter.now)) }
+    ensures capacity { vec_capacity out.old ≤ vec_capacity out.new }
 {
     if is_set {
         out.extend_from_slice(letter)?;

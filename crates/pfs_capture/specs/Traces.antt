@@ -1,5 +1,5 @@
 -- The trace of captures, and the account of their frames. (own)
-use Rattle.std.specs.Prelude.{ℕ, ◌≡◌, ◌⊎◌, ◌<◌, ◌+◌, ◌++◌, ◌&&◌, Bool, true, false, List, [], ◌∷◌, codes, flat_map, length, take, Option, Some, None, Result, Ok, Err, ⊤}
+use Rattle.std.specs.Prelude.{ℕ, ◌≡◌, ◌⊎◌, ◌≤◌, ◌<◌, ◌+◌, ◌++◌, ◌&&◌, Bool, true, false, List, [], ◌∷◌, codes, flat_map, length, take, drop, Option, Some, None, Result, Ok, Err, ⊤}
 use Rattle.std.specs.Bool.{MatchBool}
 use Rattle.std.specs.List.{count_by}
 use Rattle.std.specs.Option.{option_map_or}
@@ -149,10 +149,25 @@ TellsAll run end trace answers account = (run.1 ≡ end) × (trace ≡ trace_tex
 abbrev pub TellsFirst : Run → List ℕ → List ℕ → Account → Type 0
 TellsFirst run trace answers account = (k : ℕ) × (trace ≡ trace_text (take k run.0)) × (answers ≡ answers_text (take k run.0)) × (account ≡ account_of (take k run.0))
 
--- they are those of its first frames, and another follows
+-- each row of these frames has at most so many bytes, and each answer so many; there are so many records before them
+abbrev pub AreWithin : ℕ → ℕ → ℕ → List Judged → Type 0
+AreWithin row answer records [] = ⊤
+AreWithin row answer records (j ∷ js) =
+    (length (frame_text j.instant.second j.outcome) ≤ row) × (length (answer_text (records + 1) j.outcome) ≤ answer)
+    × AreWithin row answer (records_with records j.outcome) js
+
+-- the row of the next frame is longer than that of each frame so far, or its answer is longer than each so far
+abbrev pub Outgrows : List Judged → List Judged → Type 0
+Outgrows seen [] = ⊥
+Outgrows seen (j ∷ js) =
+    (row : ℕ) × (answer : ℕ) × AreWithin row answer 0 seen
+    × ((row < length (frame_text j.instant.second j.outcome)) ⊎ (answer < length (answer_text (count_by (λ x. is_record x.outcome) seen + 1) j.outcome)))
+
+-- they are those of its first frames, and another follows, which has the longest row or the longest answer so far
 abbrev pub TellsBefore : Run → List ℕ → List ℕ → Account → Type 0
 TellsBefore run trace answers account =
     (k : ℕ) × (k < length run.0) × (trace ≡ trace_text (take k run.0)) × (answers ≡ answers_text (take k run.0)) × (account ≡ account_of (take k run.0))
+    × Outgrows (take k run.0) (drop k run.0)
 
 -- the texts begin those of its first frames, and the account is that of these
 abbrev pub TellsFront : Run → List ℕ → List ℕ → Account → Type 0
@@ -160,7 +175,7 @@ TellsFront run trace answers account =
     (k : ℕ) × BeginsText trace (trace_text (take k run.0)) × BeginsText answers (answers_text (take k run.0)) × (account ≡ account_of (take k run.0))
 
 -- what is written of a run, by how the call ends: all of it, or only its first part where something around the capture fails. `Memory` is
--- told only of a frame that is there, never of a fault
+-- told only of a frame that is there, never of a fault, and only where its texts are longer than those before
 abbrev pub TellsRun : Run → List ℕ → List ℕ → Account → Result Unit TraceStop → Type 0
 TellsRun run trace answers account (Ok u) = TellsAll run None trace answers account
 TellsRun run trace answers account (Err (stop.File f)) = MatchBool (is_outside f) (TellsFirst run trace answers account) (TellsAll run (Some (stop.File f)) trace answers account)

@@ -1,5 +1,5 @@
 -- What the next frame of a capture makes of an account, and what a turn writes.
-use Rattle.std.specs.Prelude.{ℕ, ◌≡◌, ◌+◌, List, [], take, Result, Ok, Err}
+use Rattle.std.specs.Prelude.{ℕ, ◌≡◌, ◌⊎◌, ◌<◌, ◌+◌, List, [], length, take, Result, Ok, Err}
 use Rattle.pfs_capture.specs.Accounts.{frame_counted}
 use Rattle.pfs_capture.specs.Runs.{Judged}
 use Rattle.pfs_capture.specs.Traces.{answer_text, frame_text}
@@ -25,6 +25,10 @@ frame_taken account j = record {
 abbrev pub TakesFrame : Taken → Result Unit TraceStop → Account → List ℕ → List ℕ → Type 0
 TakesFrame taken (Ok u) account row answer = taken ≡ record { account = account; row = row; answer = answer }
 TakesFrame taken (Err f) account row answer = f ≡ stop.Memory
+
+-- what a frame makes does not fit lines with room for so many bytes of a row, and of an answer
+abbrev pub Overflows : Taken → ℕ → ℕ → Type 0
+Overflows taken row answer = (row < length taken.row) ⊎ (answer < length taken.answer)
 
 -- a text is written whole, or a front of it
 abbrev pub IsFront : List ℕ → List ℕ → Type 0

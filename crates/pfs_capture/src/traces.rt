@@ -1,6 +1,7 @@
 //! The trace of captures, row by row, and in another file what pf answered.
 
-ghost use Rattle.std.specs.Prelude.{◌≡◌, ◌⊎◌, ◌<◌, ◌≤◌, ◌^◌, ◌+◌, ◌++◌, ℕ, List, Err, IfErr, IfOk, OnErr, OnOk, length, slice_get, slice_set};
+ghost use Rattle.std.specs.Prelude.{◌≡◌, ◌⊎◌, ◌<◌, ◌≤◌, ◌^◌, ◌+◌, ◌++◌, ℕ, List, Err, IfErr, IfOk, OnErr, OnOk, length, slice_get, slice_set, vec_len};
+ghost use Rattle.std.specs.Vec.{vec_capacity};
 ghost use Rattle.std.specs.Io.KnownBytes.{Appends};
 ghost use Rattle.pfs_capture_files.specs.declared.faults.FileFault.TheVariants as fault;
 ghost use Rattle.pfs_streams.specs.Feeds.{unread};
@@ -13,7 +14,7 @@ ghost use Rattle.pfs_capture.specs.Runs.{judged_at};
 ghost use Rattle.pfs_capture.specs.Sorting.{IsFound, found_in_frame};
 ghost use Rattle.pfs_capture.specs.Traces.{TellsCaptures, answer_text, frame_text};
 ghost use Rattle.pfs_capture.specs.declared.captures.Capture.{Capture};
-ghost use Rattle.pfs_capture.specs.Turns.{Sends, TakesFrame, frame_taken};
+ghost use Rattle.pfs_capture.specs.Turns.{Overflows, Sends, TakesFrame, frame_taken};
 
 use crate::accounts::Account;
 use crate::captures::{Capture, MOST_ITEMS, Next};
@@ -48,7 +49,8 @@ pub struct Lines {
 /// capture has that one's moment, and is counted as late if it is a record of an earlier second. `TraceStop` says why the
 /// trace is not whole. Of a faulty capture, all is written that comes before its fault is reached: before the frame is taken
 /// that follows the last one in front of the fault. Where a read or a write fails or memory is refused, only the first part is
-/// written; `TraceStop::Memory` is told only of a frame that is there. A failed read or write is reported only where a reader or that writer failed. It takes memory for one block of each
+/// written; `TraceStop::Memory` is told only of a frame that is there, and whose row is longer than each before it, or whose
+/// answer is. A failed read or write is reported only where a reader or that writer failed. It takes memory for one block of each
 /// capture, and for two rows.
 pub fn write_trace<R: Read, W: Write, T: Write>(
     alloc: Global,
@@ -141,6 +143,9 @@ fn take_next<R>(
     requires within { place.index < length captures.old }
     ensures takes { (c : Capture R) → slice_get captures.old place.index ≡ Some c →
         TakesFrame (frame_taken account.old (judged_at c.points.items (seen_of place.frame c.held.items) c.last)) result account.new lines.new.row.items lines.new.answer.items }
+    ensures refused { (c : Capture R) → slice_get captures.old place.index ≡ Some c →
+        OnErr result (Overflows (frame_taken account.old (judged_at c.points.items (seen_of place.frame c.held.items) c.last)) (vec_capacity lines.old.row) (vec_capacity lines.old.answer)) }
+    ensures capacity { (vec_capacity lines.old.row ≤ vec_capacity lines.new.row) × (vec_capacity lines.old.answer ≤ vec_capacity lines.new.answer) }
     ensures asks { (c : Capture R) → slice_get captures.old place.index ≡ Some c →
         captures.new ≡ slice_set captures.old place.index (record c { next = Next.Unasked }) }
     ensures same { failures_of captures.new ≡ failures_of captures.old }
@@ -165,6 +170,9 @@ fn take_frame<R>(
     requires sum { AddsUp account.old }
     ensures takes { TakesFrame (frame_taken account.old (judged_at capture.now.points.items (seen_of frame capture.now.held.items) capture.now.last))
         result account.new lines.new.row.items lines.new.answer.items }
+    ensures refused { OnErr result (Overflows (frame_taken account.old (judged_at capture.now.points.items (seen_of frame capture.now.held.items) capture.now.last))
+        (vec_capacity lines.old.row) (vec_capacity lines.old.answer)) }
+    ensures capacity { (vec_capacity lines.old.row ≤ vec_capacity lines.new.row) × (vec_capacity lines.old.answer ≤ vec_capacity lines.new.answer) }
     ensures sum { AddsUp account.new }
     ensures one { OnOk result (account.new.frames ≡ account.old.frames + 1) }
     ensures kept { OnErr result (account.new ≡ account.old) }
@@ -190,6 +198,8 @@ fn write_row(
     requires found { IfOk outcome.now IsFound }
     requires second { second ≤ 4294967295 }
     ensures text { OnOk result (line.new.items ≡ line.old.items ++ frame_text second outcome.now) }
+    ensures refused { OnErr result (vec_capacity line.old < vec_len line.old + length (frame_text second outcome.now)) }
+    ensures capacity { vec_capacity line.old ≤ vec_capacity line.new }
     ensures fails { IfErr result (λ f. f ≡ TraceStop.Memory) }
 {
     let Ok(found) = outcome else {
@@ -213,6 +223,8 @@ fn write_answer(
     line: &mut Vec<u8>,
 ) -> Result<(), TraceStop>
     ensures text { OnOk result (line.new.items ≡ line.old.items ++ answer_text number outcome.now) }
+    ensures refused { OnErr result (vec_capacity line.old < vec_len line.old + length (answer_text number outcome.now)) }
+    ensures capacity { vec_capacity line.old ≤ vec_capacity line.new }
     ensures fails { IfErr result (λ f. f ≡ TraceStop.Memory) }
 {
     let Ok(found) = outcome else {

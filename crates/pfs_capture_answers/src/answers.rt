@@ -1,6 +1,7 @@
 //! The row of what pf answered for a packet.
 
-ghost use Rattle.std.specs.Prelude.{◌≡◌, ◌++◌, ◌<◌, OnOk, decimal};
+ghost use Rattle.std.specs.Prelude.{◌≡◌, ◌++◌, ◌+◌, ◌<◌, ◌≤◌, OnErr, OnOk, decimal, length, vec_len};
+ghost use Rattle.std.specs.Vec.{vec_capacity};
 ghost use Rattle.pfs_capture_answers.specs.Answers.{action_word, anchor_byte, anchor_column, answer_row, answer_start, hex_digit, reason_column, reason_name, rewritten_word, rule_column, why_columns};
 
 use pfs_addr_values::NoMemory;
@@ -12,9 +13,11 @@ pub const ANSWER_HEADER: &[u8] = b"row,action,rule,anchor,subrule,reason,rewritt
 
 /// Appends the row of what pf answered for the packet in the row of this number in a trace, from 1.
 ///
-/// `NoMemory` where memory was refused; a part of the row may have been appended then.
+/// `NoMemory` where the vector had no room for the row and more memory was refused; a part of it may have been appended then.
 pub fn push_answer(out: &mut Vec<u8>, number: u64, answer: &Answer) -> Result<(), NoMemory>
-    ensures { OnOk result (out.new.items ≡ out.old.items ++ answer_row number answer.now) }
+    ensures text { OnOk result (out.new.items ≡ out.old.items ++ answer_row number answer.now) }
+    ensures refused { OnErr result (vec_capacity out.old < vec_len out.old + length (answer_row number answer.now)) }
+    ensures capacity { vec_capacity out.old ≤ vec_capacity out.new }
 {
     push_start(out, number, answer.action)?;
     push_rule(out, answer.rule, b",")?;
@@ -26,7 +29,9 @@ pub fn push_answer(out: &mut Vec<u8>, number: u64, answer: &Answer) -> Result<()
 
 /// Appends the columns in front of the rule.
 fn push_start(out: &mut Vec<u8>, number: u64, action: u8) -> Result<(), NoMemory>
-    ensures { OnOk result (out.new.items ≡ out.old.items ++ answer_start number action) }
+    ensures text { OnOk result (out.new.items ≡ out.old.items ++ answer_start number action) }
+    ensures refused { OnErr result (vec_capacity out.old < vec_len out.old + length (answer_start number action)) }
+    ensures capacity { vec_capacity out.old ≤ vec_capacity out.new }
 {
     push_number(out, number)?;
     out.extend_from_slice(b",")?;
@@ -36,7 +41,9 @@ fn push_start(out: &mut Vec<u8>, number: u64, action: u8) -> Result<(), NoMemory
 }
 
 fn push_action(out: &mut Vec<u8>, action: u8) -> Result<(), NoMemory>
-    ensures { OnOk result (out.new.items ≡ out.old.items ++ action_word action) }
+    ensures text { OnOk result (out.new.items ≡ out.old.items ++ action_word action) }
+    ensures refused { OnErr result (vec_capacity out.old < vec_len out.old + length (action_word action)) }
+    ensures capacity { vec_capacity out.old ≤ vec_capacity out.new }
 {
     match action {
         0 => out.extend_from_slice(b"pass")?,
@@ -49,7 +56,9 @@ fn push_action(out: &mut Vec<u8>, action: u8) -> Result<(), NoMemory>
 
 /// Appends the number of a rule, or nothing where there is none, and what ends its column.
 fn push_rule(out: &mut Vec<u8>, number: u32, end: &[u8]) -> Result<(), NoMemory>
-    ensures { OnOk result (out.new.items ≡ out.old.items ++ (rule_column number ++ end.now)) }
+    ensures text { OnOk result (out.new.items ≡ out.old.items ++ (rule_column number ++ end.now)) }
+    ensures refused { OnErr result (vec_capacity out.old < vec_len out.old + length (rule_column number ++ end.now)) }
+    ensures capacity { vec_capacity out.old ≤ vec_capacity out.new }
 {
     if number != u32::MAX {
         push_number(out, u64::from(number))?;
@@ -60,7 +69,9 @@ fn push_rule(out: &mut Vec<u8>, number: u32, end: &[u8]) -> Result<(), NoMemory>
 
 /// Appends the columns behind the rule: why, and whether the packet was translated.
 fn push_why(out: &mut Vec<u8>, answer: &Answer) -> Result<(), NoMemory>
-    ensures { OnOk result (out.new.items ≡ out.old.items ++ why_columns answer.now) }
+    ensures text { OnOk result (out.new.items ≡ out.old.items ++ why_columns answer.now) }
+    ensures refused { OnErr result (vec_capacity out.old < vec_len out.old + length (why_columns answer.now)) }
+    ensures capacity { vec_capacity out.old ≤ vec_capacity out.new }
 {
     push_reason(out, answer.reason)?;
     out.extend_from_slice(b",")?;
@@ -71,7 +82,9 @@ fn push_why(out: &mut Vec<u8>, answer: &Answer) -> Result<(), NoMemory>
 
 /// Appends the name of a reason, or its number where it has none.
 fn push_reason(out: &mut Vec<u8>, reason: u8) -> Result<(), NoMemory>
-    ensures { OnOk result (out.new.items ≡ out.old.items ++ reason_column reason) }
+    ensures text { OnOk result (out.new.items ≡ out.old.items ++ reason_column reason) }
+    ensures refused { OnErr result (vec_capacity out.old < vec_len out.old + length (reason_column reason)) }
+    ensures capacity { vec_capacity out.old ≤ vec_capacity out.new }
 {
     let name = reason_name(reason);
     if name.is_empty() {
@@ -119,7 +132,9 @@ fn rewritten_word(rewritten: Option<bool>) -> &'static str
 }
 
 fn push_anchor(out: &mut Vec<u8>, name: &[u8]) -> Result<(), NoMemory>
-    ensures { OnOk result (out.new.items ≡ out.old.items ++ anchor_column name.now) }
+    ensures text { OnOk result (out.new.items ≡ out.old.items ++ anchor_column name.now) }
+    ensures refused { OnErr result (vec_capacity out.old < vec_len out.old + length (anchor_column name.now)) }
+    ensures capacity { vec_capacity out.old ≤ vec_capacity out.new }
 {
     for byte in name {
         push_anchor_byte(out, *byte)?;
@@ -128,7 +143,9 @@ fn push_anchor(out: &mut Vec<u8>, name: &[u8]) -> Result<(), NoMemory>
 }
 
 fn push_anchor_byte(out: &mut Vec<u8>, byte: u8) -> Result<(), NoMemory>
-    ensures { OnOk result (out.new.items ≡ out.old.items ++ anchor_byte byte) }
+    ensures text { OnOk result (out.new.items ≡ out.old.items ++ anchor_byte byte) }
+    ensures refused { OnErr result (vec_capacity out.old < vec_len out.old + length (anchor_byte byte)) }
+    ensures capacity { vec_capacity out.old ≤ vec_capacity out.new }
 {
     match byte {
         b'a'..=b'z' | b'A'..=b'Z' | b'0'..=b'9' | b'_' | b'-' | b'.' | b'/' => {

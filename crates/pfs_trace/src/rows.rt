@@ -1,6 +1,7 @@
 //! The row of a packet.
 
-ghost use Rattle.std.specs.Prelude.{◌≡◌, ◌≤◌, ◌++◌, ℕ, List, [], Ok, Option, Some, OnOk, true, false};
+ghost use Rattle.std.specs.Prelude.{◌≡◌, ◌≤◌, ◌<◌, ◌+◌, ◌++◌, ℕ, List, [], Ok, Option, Some, OnErr, OnOk, length, true, false, vec_len};
+ghost use Rattle.std.specs.Vec.{vec_capacity};
 ghost use Rattle.csv.specs.Machine.{next_record};
 ghost use Rattle.csv.specs.Reading.{default_config};
 ghost use Rattle.csv.specs.declared.parser.State.TheVariants as state;
@@ -28,13 +29,15 @@ pub struct Row {
 /// 4294967295. A replay reads its text as nine columns, whatever follows, and the columns as that packet, where no later moment
 /// comes before it.
 ///
-/// `NoMemory` where memory was refused; a part of the row may have been appended then.
+/// `NoMemory` where the vector had no room for the row and more memory was refused; a part of it may have been appended then.
 pub fn push_row(out: &mut Vec<u8>, row: &Row) -> Result<(), NoMemory>
     requires family { same_family row.now.packet.source.addr row.now.packet.destination.addr ≡ true }
     requires second { row.now.second ≤ 4294967295 }
     requires name { is_name 15 row.now.packet.ifname ≡ true }
     requires said { IsSaid row.now.packet }
     ensures text { OnOk result (out.new.items ≡ out.old.items ++ packet_row row.now) }
+    ensures refused { OnErr result (vec_capacity out.old < vec_len out.old + length (packet_row row.now)) }
+    ensures capacity { vec_capacity out.old ≤ vec_capacity out.new }
     ensures read { OnOk result ((rest : List ℕ) → next_record default_config state.StartRecord [] [] (packet_row row.now ++ rest) ≡ Some (row_fields row.now, state.StartRecord, rest)) }
     ensures again { OnOk result ((conf : Conf) (number : ℕ) (last : Option ℕ) → falls last row.now.second ≡ false → event_at conf number last (row_fields row.now) ≡ Ok (event_of row.now)) }
 {
@@ -48,7 +51,9 @@ pub fn push_row(out: &mut Vec<u8>, row: &Row) -> Result<(), NoMemory>
 
 /// Appends the columns in front of the ends of the packet.
 fn push_start(out: &mut Vec<u8>, row: &Row) -> Result<(), NoMemory>
-    ensures { OnOk result (out.new.items ≡ out.old.items ++ start_text row.now) }
+    ensures text { OnOk result (out.new.items ≡ out.old.items ++ start_text row.now) }
+    ensures refused { OnErr result (vec_capacity out.old < vec_len out.old + length (start_text row.now)) }
+    ensures capacity { vec_capacity out.old ≤ vec_capacity out.new }
 {
     let ifname = row.packet.ifname();
     push_number(out, row.second)?;
@@ -67,7 +72,9 @@ fn dir_word(dir: Dir) -> &'static str
 }
 
 fn push_proto(out: &mut Vec<u8>, proto: Proto) -> Result<(), NoMemory>
-    ensures { OnOk result (out.new.items ≡ out.old.items ++ row_proto proto) }
+    ensures text { OnOk result (out.new.items ≡ out.old.items ++ row_proto proto) }
+    ensures refused { OnErr result (vec_capacity out.old < vec_len out.old + length (row_proto proto)) }
+    ensures capacity { vec_capacity out.old ≤ vec_capacity out.new }
 {
     match proto {
         Proto::Tcp => out.extend_from_slice(b",tcp,")?,
@@ -84,6 +91,8 @@ fn push_proto(out: &mut Vec<u8>, proto: Proto) -> Result<(), NoMemory>
 /// Appends the columns of an end, its port where the protocol has ports.
 fn push_end(out: &mut Vec<u8>, proto: Proto, end: Endpoint) -> Result<(), NoMemory>
     ensures text { OnOk result (out.new.items ≡ out.old.items ++ row_end proto end) }
+    ensures refused { OnErr result (vec_capacity out.old < vec_len out.old + length (row_end proto end)) }
+    ensures capacity { vec_capacity out.old ≤ vec_capacity out.new }
     ensures again { addr_of (addr_text end.addr) ≡ Some end.addr }
 {
     push_addr(out, end.addr)?;
@@ -94,7 +103,9 @@ fn push_end(out: &mut Vec<u8>, proto: Proto, end: Endpoint) -> Result<(), NoMemo
 }
 
 fn push_port(out: &mut Vec<u8>, proto: Proto, port: u16) -> Result<(), NoMemory>
-    ensures { OnOk result (out.new.items ≡ out.old.items ++ port_text proto port) }
+    ensures text { OnOk result (out.new.items ≡ out.old.items ++ port_text proto port) }
+    ensures refused { OnErr result (vec_capacity out.old < vec_len out.old + length (port_text proto port)) }
+    ensures capacity { vec_capacity out.old ≤ vec_capacity out.new }
 {
     if proto.has_ports() {
         push_number(out, u64::from(port))?;

@@ -8,7 +8,7 @@ use Rattle.pfs_capture.specs.Captures.{seen_of}
 use Rattle.pfs_capture.specs.Merging.{captures_run}
 use Rattle.pfs_capture.specs.Runs.{judged_at}
 use Rattle.pfs_capture.specs.declared.faults.TraceStop.TheVariants as stop
-use Rattle.pfs_capture.proofs.Running.{captured-headers, captured-none, captured-run, counted, ends-asked, ends-before, ends-end, ends-many, ends-send, headers, kept-ok, sends-these, so_far-asked, so_far-frame, so_far-start}
+use Rattle.pfs_capture.proofs.Running.{captured-headers, captured-none, captured-run, counted, ends-asked, ends-before, ends-end, ends-many, ends-send, headers, in-room, kept-ok, sends-these, so_far-asked, so_far-frame, so_far-start}
 use Rattle.pfs_capture.proofs.Together.{chosen, chosen-here, none-comes, then-few, then-kept}
 use Rattle.pfs_capture.proofs.traces.write_trace.Goals as goal
 
@@ -96,7 +96,7 @@ returns-in_err-take_next-clause-tells g c gs given =
     rw (p.1, p.2) (captured-run gs _ _ _ _ _ c.take_next.new.account (Err f) begun.1
     (ends-before rem run _ _ _ _ c.loop-turn._turn c.loop-turn.account c.take_next.new.account c.ask_all.new.captures
     (judged_at next.capture.points.items (seen_of c.in-Some.place.frame next.capture.held.items) next.capture.last) next.rest f h c.loop-turn-test.true next.comes
-    c.in_err-take_next.ensures.kept c.in_err-take_next.ensures.fails))
+    c.in_err-take_next.ensures.kept c.in_err-take_next.ensures.fails (c.in_err-take_next.ensures.refused next.capture (chosen-here rem c.ask_all.new.captures h.runs c.in-Some.place next).0)))
 
 pub returns-in_err-take_next-clause-first_read : goal.returns-in_err-take_next-clause-first_read
 returns-in_err-take_next-clause-first_read g c =
@@ -117,12 +117,15 @@ returns-in_err-send-2-clause-tells g c gs given =
     let which = chosen-here rem c.ask_all.new.captures h.runs place next in
     let row = c.take_next.new.lines.row.items in
     let answer = c.take_next.new.lines.answer.items in
+    let grown = c.in_ok-take_next.ensures.capacity in
+    let within = in-room c.take_next.new.lines.row in
+    let within2 = in-room c.take_next.new.lines.answer in
     let left = subst (λ (cs : List _). Aheads rem cs next.rest) (sym (c.in_ok-take_next.ensures.asks next.capture which.0)) which.1 in
     rw (p.1, p.2) (captured-run gs _ _ _ _ _ c.take_next.new.account (Err f) begun.1
     (ends-send rem run _ _ _ _ _ _ (c.loop-turn._turn + 1) c.take_next.new.account c.take_next.new.captures row answer t u f
     (counted rem run _ _ _ _ c.loop-turn._turn c.loop-turn.account c.take_next.new.account c.ask_all.new.captures c.take_next.new.captures
     (judged_at next.capture.points.items (seen_of c.in-Some.place.frame next.capture.held.items) next.capture.last) next.rest row answer h c.loop-turn-test.true next.comes left
-    (c.in_ok-take_next.ensures.takes next.capture which.0)) trace answers
+    (c.in_ok-take_next.ensures.takes next.capture which.0) grown.0 grown.1 within within2) trace answers
     (sends-these _ _ row answer t u (Err f) c.deref.ensures.value c.deref-in-loop-turn.ensures.value sends)))
 
 pub returns-in_err-send-2-clause-first_read : goal.returns-in_err-send-2-clause-first_read
@@ -154,6 +157,9 @@ loop-turn-preserved g c =
     let (t, u, trace, answers, sends) = c.in_ok-send-2.ensures.sends in
     let row = c.take_next.new.lines.row.items in
     let answer = c.take_next.new.lines.answer.items in
+    let grown = c.in_ok-take_next.ensures.capacity in
+    let within = in-room c.take_next.new.lines.row in
+    let within2 = in-room c.take_next.new.lines.answer in
     let rem = unread g.R.Read.remaining in
     record {
       few = omega (arith, inv.few, one);
@@ -174,7 +180,7 @@ loop-turn-preserved g c =
           so_far-frame rem run _ _ _ _ _ _ (c.loop-turn._turn + 1) c.take_next.new.account c.take_next.new.captures row answer t u
           (counted rem run _ _ _ _ c.loop-turn._turn c.loop-turn.account c.take_next.new.account c.ask_all.new.captures c.take_next.new.captures
           (judged_at next.capture.points.items (seen_of c.in-Some.place.frame next.capture.held.items) next.capture.last) next.rest row answer h c.loop-turn-test.true next.comes left
-          (c.in_ok-take_next.ensures.takes next.capture which.0)) trace answers
+          (c.in_ok-take_next.ensures.takes next.capture which.0) grown.0 grown.1 within within2) trace answers
           (sends-these _ _ row answer t u (Ok tt) c.deref.ensures.value c.deref-in-loop-turn.ensures.value sends);
     }
 
