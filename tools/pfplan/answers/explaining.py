@@ -31,7 +31,7 @@ ALL = (
 # The line for each reason of a drop that is no limit's.
 _DROPS = {
     "state-mismatch": WINDOWS, "state-insert": TRANSLATION, "fragment": FRAGMENT, "normalize": SCRUB,
-    "bad-timestamp": SCRUB, "ip-option": SCRUB,
+    "bad-timestamp": WINDOWS, "ip-option": SCRUB,
     "translate": TRANSLATION, "no-route": TRANSLATION,
 }  # fmt: skip
 # The share of `set limit states` from which a table is taken as nearly full: pf's may be full then.

@@ -11,7 +11,8 @@ from pfplan.common.errors import Status, Trouble
 from pfplan.common.inputs import check_rules, name_of
 from pfplan.common.networks import Network
 from pfplan.common.outputs import part_file
-from pfplan.pf.expansion import Expander, overloaded_tables, table_names, walk
+from pfplan.pf import translations
+from pfplan.pf.expansion import Expander
 from pfplan.pf.interfaces import Given, Machine, read_ifconfig, shown
 from pfplan.pf.left_out import Leftover, Teller
 from pfplan.pf.lexer import printable
@@ -24,6 +25,7 @@ from pfplan.pf.reading_routes import routes_given
 from pfplan.pf.reading_statements import parse
 from pfplan.pf.routes import NO_ROUTES, Routes
 from pfplan.pf.statements import Place, Setting, Statement, Table
+from pfplan.pf.walking import overloaded_tables, table_names, walk
 from pfplan.pf.writing_lists import Chooser, MadeTables
 from pfplan.pf.writing_settings import Settings
 from pfplan.pf.writing_tables import TableMaker
@@ -58,6 +60,7 @@ class RuleOptions:
     by_records: bool = False  # whether tables may get entries by records (traces/entries.py)
     profile: Profile | None = None
     routes: Path | None = None  # what netstat -rn prints on the firewall
+    translates: bool = field(default_factory=lambda: translations.TRANSLATES)  # whether it has address translation
 
 
 @dataclass(frozen=True)
@@ -173,10 +176,12 @@ def convert_text(text: str, name: str, options: RuleOptions, records: Sequence[s
     sources = NamedFiles(options.root)
     parsed = parse(text, name, dict(options.macros), sources)
     anchors = {anchor.strip("/"): path for anchor, path in options.anchors}
-    linker = Linker(sources, teller, dict(options.macros), anchors)
-    statements = linker.link(parsed.statements)
     profile = options.profile or (Profile.OWN if is_without_profile(text) else Profile.OPENBSD)
+    translates = options.translates and profile is Profile.OPENBSD
+    linker = Linker(sources, teller, dict(options.macros), anchors, translates)
+    statements = linker.link(parsed.statements)
     expander = _expander(statements, teller, sources, options, by_table(records), profile)
+    expander.translates = translates
     expander.expand(statements)
     _note_unused(teller, statements, linker, options)
     made = expander.chooser.tables
@@ -256,7 +261,8 @@ def _expander(
     settings.look(it for it in walk(statements) if isinstance(it, Setting))
     maker = TableMaker(machine, sources, teller, dict(options.entries), recorded)
     overloaded = overloaded_tables(statements)
-    return Expander(Chooser(machine, tables, teller, maker), maker, settings, teller, Numbers(machine), overloaded)
+    chooser = Chooser(machine, tables, teller, maker)
+    return Expander(chooser, maker, settings, teller, Numbers(machine), overloaded)
 
 
 def machine_of(ifconfig: Path | None) -> Machine:

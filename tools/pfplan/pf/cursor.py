@@ -3,19 +3,26 @@ what a syntax error says."""
 
 import difflib
 from collections.abc import Callable, Iterable
-from typing import TypeVar
+from typing import Protocol, TypeVar
 
 from pfplan.common.errors import Trouble
-from pfplan.pf.lexer import Kind, Lexer, Token, text_of, trouble
+from pfplan.pf.lexer import Kind, Token, text_of, trouble
 
 T = TypeVar("T")
 DEEPEST_LIST = 64  # lists inside one another; pfctl's parser has a bound of its own
 
 
+class Tokens(Protocol):
+    """What gives token by token, and END again and again behind the last."""
+
+    def next(self) -> Token:
+        """The next token."""
+
+
 class Cursor:
     """Where the reading of a text is: the token that comes next, and those of the statement so far."""
 
-    def __init__(self, lexer: Lexer) -> None:
+    def __init__(self, lexer: Tokens) -> None:
         self._lexer = lexer
         self._taken: list[Token] = []
         self.token = lexer.next()
@@ -32,6 +39,10 @@ class Cursor:
     def text_since(self, mark: int = 0) -> str:
         """The tokens of the statement that were taken since a mark, as one line."""
         return text_of(self._taken[mark:])
+
+    def tokens(self) -> tuple[Token, ...]:
+        """The tokens of the statement that have been taken."""
+        return tuple(self._taken)
 
     def take(self) -> Token:
         """Takes the token, and reads the next one."""

@@ -9,9 +9,12 @@ import re
 from collections.abc import Iterator
 from dataclasses import dataclass, field, replace
 
+from pfplan.pf.combinations import Combination, combined
 from pfplan.pf.left_out import (
     COUNTS,
+    LACK_NOTE,
     OLD_TRANSLATIONS,
+    OTHER_STATES,
     PASSES_MORE,
     TRANSLATION_NOTE,
     TRANSLATIONS,
@@ -29,6 +32,7 @@ from pfplan.pf.left_out import (
 from pfplan.pf.lexer import printable
 from pfplan.pf.linking_anchors import DEEPEST
 from pfplan.pf.numbers_of_pf import Key, Numbered, Numbers
+from pfplan.pf.old_translations import Knowledge, as_today, old_rules, shown_today
 from pfplan.pf.profiles import Profile
 from pfplan.pf.reading_filters import MOST_TAG_BYTES
 from pfplan.pf.services import shown_protocol
@@ -39,6 +43,8 @@ from pfplan.pf.statements import (
     Host,
     HostKind,
     Interface,
+    OldAnchor,
+    OldTranslation,
     Other,
     Part,
     Place,
@@ -49,37 +55,18 @@ from pfplan.pf.statements import (
     Statement,
     Table,
 )
+from pfplan.pf.walking import any_counts, walk
 from pfplan.pf.writing_lists import NO_CHOICE, Choice, Chooser, Gap, Options, places_in_pf
 from pfplan.pf.writing_marks import TagNames, received_on
+from pfplan.pf.writing_old_order import OldOrder
 from pfplan.pf.writing_settings import Settings
 from pfplan.pf.writing_states import beyond_pfsrc, carried_state, check_state, refuse
 from pfplan.pf.writing_tables import TableMaker
+from pfplan.pf.writing_translations import Planned, Translator, Written
 
 MOST_ITEMS = 10_000  # rules and anchors of a rules text of pfsrc
 MOST_COMBINATIONS = 100_000  # of one rule, some of which may be left out
-
-
-@dataclass(frozen=True)
-class Combination:
-    """One of the rules that a rule with lists stands for, as texts. `key` says which items of pf's lists it has."""
-
-    interface: str
-    family: str
-    protocol: str
-    source: str
-    source_port: str
-    destination: str
-    destination_port: str
-    received: str = ""
-    key: Key = ()
-
-    def hosts(self) -> str:
-        """`all`, or both sides."""
-        if (self.source, self.source_port, self.destination, self.destination_port) == ("any", "", "any", ""):
-            return "all"
-        return " ".join(
-            it for it in ("from", self.source, self.source_port, "to", self.destination, self.destination_port) if it
-        )
+_NO_STATE = telling("in older pf a packet that is translated makes a state by this rule, too", OTHER_STATES)
 
 
 @dataclass
@@ -100,7 +87,7 @@ class Scope:
 
 @dataclass
 class Expander:
-    """Expands the statements of a text."""
+    """Expands the statements of a text. With `translates` the rules that come of it translate addresses."""
 
     chooser: Chooser
     tables: TableMaker
@@ -108,6 +95,7 @@ class Expander:
     teller: Teller
     numbers: Numbers
     overloaded: frozenset[str] = frozenset()
+    translates: bool = False
     lines: list[str] = field(default_factory=list)
     labels: dict[int, str] = field(default_factory=dict)
     origins: list[Place] = field(default_factory=list)
@@ -116,16 +104,20 @@ class Expander:
     _lines_of_tables: dict[int, str] = field(default_factory=dict)
     _opened: dict[int, dict[str, str]] = field(default_factory=dict)
     _tags: TagNames = field(init=False)
+    _translator: Translator = field(init=False)
+    _called: dict[tuple[str, Place], bool] = field(default_factory=dict)
 
     def __post_init__(self) -> None:
         self._tags = TagNames(self.teller)
+        self._translator = Translator(self.chooser.machine, self.teller, self.tables.entries)
 
     def expand(self, statements: list[Statement]) -> None:
         """Expands all statements of a text, into `lines`, `labels` and `origins`."""
         self.numbers.look(walk(statements))
         if self.settings.profile is Profile.OPENBSD:
-            self.teller.tags = tags_of(walk(statements))
-            self._tags.look(walk(statements))
+            every = [*walk(statements), *(as_today(it) for it in old_rules(statements) if self.translates)]
+            self.teller.tags = tags_of(every, self.translates)
+            self._tags.look(every)
         self._skip([it for it in statements if isinstance(it, Setting) and it.name == "skip"])
         self._body(statements, Scope())
         self._tags.note_missing()
@@ -147,7 +139,12 @@ class Expander:
     def _body(self, statements: list[Statement], scope: Scope) -> None:
         if not scope.is_copy:
             self._tables([it for it in statements if isinstance(it, Table)], scope)
+        waits = self.translates and scope.depth == 0
         for it in statements:
+            if waits and isinstance(it, Rule | Anchor | Antispoof | OldTranslation | OldAnchor):
+                order = OldOrder(self.teller, self._tags, lambda rule: self._planned(rule, scope, {}), self._write)
+                self._called = order.write(statements, Knowledge(self.chooser.tables.made))
+                waits = False
             self._statement(it, scope)
 
     def _own_tables(self, body: tuple[Statement, ...], path: str) -> dict[str, str]:
@@ -165,14 +162,27 @@ class Expander:
         elif isinstance(statement, Antispoof):
             self._antispoof(statement, scope)
         elif isinstance(statement, Other):
-            self.teller.tell_whole(statement, reason_of_other(statement.kind, statement.text))
-            if statement.kind in OLD_TRANSLATIONS:
-                self.teller.note(TRANSLATION_NOTE)
+            self._other(statement, scope)
         elif isinstance(statement, Setting) and scope.depth:
             raise refuse(statement.place, f"'set {statement.name}': no setting stands in an anchor")
         elif isinstance(statement, Setting):
             self._defaults = self.settings.defaults(statement) or self._defaults
             self.lines.extend(self.settings.lines(statement))
+
+    def _other(self, statement: Other, scope: Scope) -> None:
+        """Tells a statement that a rules text does not have. The older translation of the main text stands in front of
+        the filter rules."""
+        is_old = isinstance(statement, OldTranslation | OldAnchor)
+        if is_old and self.translates and (scope.depth == 0 or self._is_called(statement)):
+            return
+        today = shown_today(statement) if isinstance(statement, OldTranslation) else ""
+        self.teller.tell_whole(statement, reason_of_other(statement, today))
+        if statement.kind in OLD_TRANSLATIONS:
+            self.teller.note(LACK_NOTE if self.translates else TRANSLATION_NOTE)
+
+    def _is_called(self, statement: Other) -> bool:
+        """Whether an anchor of the older translation calls this rule, which stands in a file with filter rules."""
+        return isinstance(statement, OldTranslation) and self._called.get((statement.sort, statement.place), False)
 
     def _tables(self, defined: list[Table], scope: Scope) -> None:
         """Makes the lines of tables before the rules are expanded, which may stand in front of them. The last of a name
@@ -214,36 +224,56 @@ class Expander:
                 self._rule(Rule(statement.place, statement.text, "block", "drop", own), scope)
 
     def _rule(self, rule: Rule, scope: Scope) -> None:
-        asked = rule.filter
-        numbers = self.numbers.rule(scope.ruleset, rule, asked)
-        if any(it.kind in TRANSLATIONS for it in asked.parts):
+        numbers = self.numbers.rule(scope.ruleset, rule, rule.filter)
+        if not self.translates and any(it.kind in TRANSLATIONS for it in rule.filter.parts):
             self.teller.note(TRANSLATION_NOTE)
         if rule.action == "match" and self._is_match_left_out(rule):
             return
+        if self._called and rule.action == "pass" and rule.filter.state and rule.filter.state.word == "no":
+            self.teller.tell(rule.place, "no state", _NO_STATE, rule)
+        for it in self._planned(rule, scope, numbers):
+            self._write(it)
+
+    def _planned(self, rule: Rule, scope: Scope, numbers: dict[Key, int]) -> list[Planned]:
+        """The items that come of a rule; what is left out of them is told."""
         state = self._state_of(rule)
         if self._goes_whole(rule, beyond_pfsrc(state)):
-            return
-        combinations = self._combinations(rule, asked, scope, counts_states(state))
-        if not combinations:
-            return
+            return []
+        combinations = self._combinations(rule, rule.filter, scope, counts_states(state))
+        written = self._written(rule, combinations, scope, counts_states(state))
+        if not written:
+            return []
         self._tell_parts(rule)
-        if rule.action == "match" and asked.state is not None:
-            self.teller.tell(rule.place, f"{asked.state.word} state", COUNTS, rule)
+        if rule.action == "match" and rule.filter.state is not None:
+            self.teller.tell(rule.place, f"{rule.filter.state.word} state", COUNTS, rule)
         clause = carried_state(state, rule.place, self.settings, self._renamed(scope))
-        head = self._head(rule)
-        flags = f"flags {asked.flags}" if asked.flags else ""
-        for it in combinations:
-            self._label(asked, it)
-            marks = self._marks(rule, it)
-            line = _joined(*head, it.interface, it.family, it.protocol, it.hosts(), flags, marks, clause)
-            self._item(rule.place, line, numbers.get(it.key))
+        places = [(it, numbers.get(it.made.key)) for it in written]
+        return [Planned(rule, it, clause, None if at is None else at + it.number) for it, at in places]
+
+    def _written(self, rule: Rule, combinations: list[Combination], scope: Scope, counts: bool) -> list[Written]:
+        """The combinations, with what the rule translates."""
+        if not self.translates or not any(it.kind in TRANSLATIONS for it in rule.filter.parts):
+            return [Written(it) for it in combinations]
+        return self._translator.written(rule, combinations, self._renamed(scope), counts)
+
+    def _write(self, it: Planned, mark: str = "") -> None:
+        """Writes an item; `mark` is what it gives and asks for of pfplan's own tags."""
+        rule, made = it.rule, it.written.made
+        flags = f"flags {rule.filter.flags}" if rule.filter.flags else ""
+        self._label(rule.filter, made)
+        own = self._marks(rule, made)
+        marks = _joined(mark, own) if mark.startswith("tag ") else _joined(own, mark)
+        head = self._head(rule, it.written.direction)
+        parts = (flags, marks, it.written.clause, it.clause)
+        line = _joined(*head, made.interface, made.family, made.protocol, made.hosts(), *parts)
+        self._item(rule.place, line, it.number)
 
     def _is_match_left_out(self, rule: Rule) -> bool:
-        """Tells a match rule that does nothing that a rules text has, or more than that; those that give a tag are
-        carried. pfctl takes none with `quick`."""
+        """Tells a match rule that does nothing that a rules text has, or more than that; those that give a tag or
+        translate are carried. pfctl takes none with `quick`."""
         if rule.filter.quick:
             raise refuse(rule.place, "quick: a match rule decides nothing")
-        if self.settings.profile is Profile.OPENBSD and is_carried_match(rule):
+        if self.settings.profile is Profile.OPENBSD and is_carried_match(rule, self.translates):
             return False
         self.teller.tell_whole(rule, reason_of_match(rule))
         return True
@@ -256,10 +286,10 @@ class Expander:
         check_state(rule)
         return self._defaults if rule.action == "pass" and rule.filter.state is None else rule.filter.state
 
-    def _head(self, rule: Rule) -> list[str]:
-        """What stands in front of the interface."""
+    def _head(self, rule: Rule, direction: str) -> list[str]:
+        """What stands in front of the interface; a direction that is given is that of the item."""
         asked, answer = rule.filter, rule.answer
-        direction = asked.direction or ("out" if any(it.kind == "binat-to" for it in asked.parts) else "")
+        direction = direction or asked.direction or ("out" if asked.part("binat-to") else "")
         if rule.action == "block" and not answer and self.settings.block_policy != "drop":
             answer = self.settings.block_policy
         return [rule.action, answer, direction, asked.log, "quick" if asked.quick else ""]
@@ -313,7 +343,7 @@ class Expander:
     def _reasons(self, statement: Rule | Anchor) -> Iterator[tuple[Part, Reason]]:
         """The parts that are not carried, and why."""
         for it in statement.filter.parts:
-            reason = reason_of_part(it, statement, self.settings.profile)
+            reason = reason_of_part(it, statement, self.settings.profile, self.translates)
             if reason is not None:
                 yield it, reason
 
@@ -372,7 +402,7 @@ class Expander:
         for chosen, (*key, _) in zip(itertools.product(*axes), keys, strict=True):
             missing = [it for it in chosen if isinstance(it, Gap)]
             gaps.update(dict.fromkeys(missing))
-            if not missing and (made := _combined(asked, [it for it in chosen if isinstance(it, Choice)])):
+            if not missing and (made := combined(asked, [it for it in chosen if isinstance(it, Choice)])):
                 found.append(replace(made, key=tuple(key)))
         self._tell_gaps(statement, list(gaps), bool(found))
         return found
@@ -500,60 +530,3 @@ class Expander:
 
 def _joined(*words: str) -> str:
     return " ".join(it for it in words if it)
-
-
-def _combined(asked: Filter, chosen: list[Choice]) -> Combination | None:
-    """The combination, or None where two of its hosts are of different families, or a zone is not its interface."""
-    interface, protocol, source, source_port, destination, destination_port, received = chosen
-    family = asked.family
-    on = interface.text
-    for host in (source, destination):
-        if host.family and family and host.family != family:
-            return None
-        family = family or host.family
-        if host.zone and on and on.split()[-1] != host.zone:
-            return None
-        if host.zone and not on:
-            on = f"on {host.zone}"
-    said = family if asked.family or source.is_said or destination.is_said else ""
-    return Combination(
-        on, said, protocol.text, source.text, source_port.text, destination.text, destination_port.text, received.text
-    )
-
-
-def walk(statements: tuple[Statement, ...] | list[Statement]) -> Iterator[Statement]:
-    """All statements, those of anchors too."""
-    for it in statements:
-        yield it
-        if isinstance(it, Anchor) and it.body is not None:
-            yield from walk(it.body)
-
-
-def any_counts(statements: tuple[Statement, ...] | list[Statement]) -> bool:
-    """Whether a rule among the statements counts its states or sources."""
-    return any(isinstance(it, Rule) and counts_states(it.filter.state) for it in walk(statements))
-
-
-def overloaded_tables(statements: list[Statement]) -> frozenset[str]:
-    """The tables that rules put sources into."""
-    found: set[str] = set()
-    for it in walk(statements):
-        options = it.filter.state.options if isinstance(it, Rule) and it.filter.state else ()
-        found.update(option.table for option in options if option.table)
-        if isinstance(it, Setting):
-            found.update(option.table for option in it.options if option.table)
-    return frozenset(found)
-
-
-def table_names(statements: list[Statement]) -> set[str]:
-    """Every name of a table that the statements have."""
-    names: set[str] = set()
-    for it in walk(statements):
-        if isinstance(it, Table):
-            names.add(it.name)
-        if isinstance(it, Rule | Anchor):
-            hosts = (*it.filter.source.hosts, *it.filter.destination.hosts)
-            names.update(host.text for host in hosts if host.kind is HostKind.TABLE)
-            options = it.filter.state.options if it.filter.state else ()
-            names.update(option.table for option in options if option.table)
-    return names

@@ -10,7 +10,20 @@ from pfplan.common.errors import Status, Trouble
 from pfplan.common.limits import OF_RULES
 from pfplan.pf.lexer import printable
 from pfplan.pf.profiles import Profile
-from pfplan.pf.statements import Anchor, Antispoof, Other, Part, Place, Rule, Setting, State, Statement
+from pfplan.pf.statements import (
+    Anchor,
+    Antispoof,
+    OldAnchor,
+    OldTranslation,
+    Other,
+    Part,
+    Place,
+    Rule,
+    Setting,
+    State,
+    Statement,
+    Unread,
+)
 
 # which way pf answers otherwise than what is left
 BLOCKS_MORE = "pf blocks more"
@@ -21,6 +34,8 @@ EITHER_WAY = "pf may block or pass more"
 LONGEST = 400
 _COUNTS = (*OF_RULES, "adaptive.start", "adaptive.end")
 OLD_TRANSLATIONS = ("nat", "rdr", "binat")
+# characters of a rule of today that are told of an older one
+_LONGEST_RULE = 200
 _TAG = re.compile(r' tag ("[^"]*"|\S+)')
 
 
@@ -155,19 +170,19 @@ class Tags:
 
 def tag_of(statement: Statement | None) -> str | None:
     """The tag that a statement gives; so may a translation of older pf."""
-    if isinstance(statement, Other) and statement.kind in OLD_TRANSLATIONS:
+    if isinstance(statement, Unread):
         found = _TAG.search(statement.text)
         return found[1].strip('"') if found else None
-    tag = statement.filter.part("tag") if isinstance(statement, Rule | Anchor) else None
+    tag = statement.filter.part("tag") if isinstance(statement, Rule | Anchor | OldTranslation) else None
     return tag.value if tag else None
 
 
-def tags_of(statements: Iterable[Statement]) -> Tags:
+def tags_of(statements: Iterable[Statement], translates: bool) -> Tags:
     """The tags of all statements, those of anchors among them. Rules that a rules text has not ask for none here."""
     every = list(statements)
     rules = [it for it in every if isinstance(it, Rule) and it.filter.part("tagged")]
     given = (tag for it in every if (tag := tag_of(it)) is not None)
-    return Tags((it for it in rules if it.action != "match" or is_carried_match(it)), given)
+    return Tags((it for it in rules if it.action != "match" or is_carried_match(it, translates)), given)
 
 
 def has_macro(tag: str) -> bool:
@@ -184,7 +199,8 @@ def way_of_asking(action: str, counts: bool, *, holds_here: bool) -> str:
 
 
 ELSEWHERE = telling("the packet goes another way", OTHER_STATES)
-BY_TIMESTAMPS = telling("pf drops packets by their timestamps", BLOCKS_MORE)
+# what a trace lacks of every TCP packet is told with the windows (docs/DIFFERENCES.md), not of each text
+TIMESTAMPS = harmless("it asks for timestamps, which a trace does not have, as it has no windows (docs/DIFFERENCES.md)")
 ORDERS = "it orders or marks packets that pass"
 SCRUBS = "it changes fragments and options, which a trace does not have"
 TRANSLATED = "addresses are translated, and a trace has those of one side"
@@ -223,6 +239,12 @@ _GIVEN_TWICE = harmless("the last of this kind counts in a rule")
 _TAG_OF_ANCHOR = telling("an anchor of a rules text gives no tag")
 COUNTS = telling("it counts packets or states", OTHER_STATES)
 TRANSLATIONS = ("nat-to", "rdr-to", "binat-to", "af-to")
+WRITTEN = ("nat-to", "rdr-to", "binat-to")  # those of them that a rules text may have
+AF_TO = beyond("packets go on in the other family, and a rules text has one family for a rule")
+LACK_NOTE = (
+    "the rules that come of this text translate addresses, but for what is left out: rules behind that see the "
+    "addresses that came to it"
+)
 TRANSLATION_NOTE = (
     "addresses are translated by this text (nat-to, rdr-to, binat-to or af-to), and in the rules that come of it they "
     "are not: the rules"
@@ -242,18 +264,24 @@ _OTHERS = {
     "dummynet-anchor": telling("it is none of OpenBSD's; it delays and drops packets", BLOCKS_MORE),
     "ether": telling("it is none of OpenBSD's; it asks for Ethernet headers"),
 }
-_OLD_TRANSLATION = telling("old syntax; addresses are translated before the rules are asked", OTHER_STATES)
-_OLD_PASS = telling("old syntax; addresses are translated, and what it matches passes without the rules", PASSES_MORE)
+OLD_ANCHOR = telling(
+    "old syntax; its rules are loaded by others while pf runs; --anchor NAME=FILE gives them", OTHER_STATES,
+    is_missing=True,
+)  # fmt: skip
+_ASKED_BEFORE = "addresses are translated before the rules are asked"
+_PASSED = "addresses are translated, and what it matches passes without the rules"
 
 
-def reason_of_part(part: Part, of: Rule | Anchor, profile: Profile) -> Reason | None:
-    """Why a part of a rule or an anchor is left out, or None where it is carried."""
+def reason_of_part(part: Part, of: Rule | Anchor, profile: Profile, translates: bool) -> Reason | None:
+    """Why a part of a rule or an anchor is left out, or None where it is carried, or told by what writes it."""
     if part.kind in MARKS:
         return _reason_of_mark(part, of, profile)
     if part.kind == "binat-to" and of.filter.direction == "in":
         return beyond("binat-to stands for a rule of packets out, and one of packets in with other addresses")
+    if translates and isinstance(of, Rule) and part.kind in TRANSLATIONS:
+        return AF_TO if part.kind == "af-to" else None
     if part.kind == "scrub":
-        return BY_TIMESTAMPS if "reassemble tcp" in part.text else harmless(SCRUBS)
+        return TIMESTAMPS if "reassemble tcp" in part.text else harmless(SCRUBS)
     if part.kind == "rtable" and isinstance(of, Rule) and of.action == "match":
         return ELSEWHERE
     return _REASONS[part.kind]
@@ -270,22 +298,42 @@ def _reason_of_mark(part: Part, of: Rule | Anchor, profile: Profile) -> Reason |
     return None if of.filter.part(part.kind) is part else _GIVEN_TWICE
 
 
-def reason_of_other(kind: str, text: str) -> Reason:
+def reason_of_other(statement: Other, today: str = "") -> Reason:
     """Why a statement is left out, by its first words and, of `scrub`, by what it does. `no scrub` takes packets out of
-    what later `scrub` rules do, which are told by themselves."""
+    what later `scrub` rules do, which are told by themselves. `today` is a rule of translation as it is written now."""
+    kind, text = statement.kind, statement.text
     if kind == "scrub" and "reassemble tcp" in text:
-        return BY_TIMESTAMPS
+        return TIMESTAMPS
     if kind == "no" and text.split()[1:2] == ["scrub"]:
         return _OTHERS["scrub"]
-    if kind in OLD_TRANSLATIONS and text.split()[1:2] == ["pass"]:
-        return _OLD_PASS
-    return _OTHERS.get(kind, _OLD_TRANSLATION)
+    if isinstance(statement, OldAnchor):
+        return telling(f"old syntax; the {statement.sort} rules of an anchor, which others load", OTHER_STATES)
+    if isinstance(statement, OldTranslation | Unread):
+        return _reason_of_old(statement, today)
+    return _OTHERS.get(kind, telling(f"old syntax; {_ASKED_BEFORE}", OTHER_STATES))
 
 
-def is_carried_match(rule: Rule) -> bool:
-    """Whether a match rule does what a rules text has, and no more that rules behind it would see: it gives a tag, and
-    translates nothing."""
+def _reason_of_old(statement: OldTranslation | Unread, today: str) -> Reason:
+    """Why a rule of translation of older pf is left out, with the rule of today that does the same."""
+    if isinstance(statement, Unread):
+        passes = statement.text.split()[1:2] == ["pass"]
+        what = f"{_PASSED if passes else _ASKED_BEFORE}; it is not read: {statement.why}"
+    elif statement.pool is None:
+        return telling(f"old syntax; pf asks no further {statement.sort} rule about what it matches", OTHER_STATES)
+    else:
+        passes = statement.passes
+        what = _PASSED if passes else _ASKED_BEFORE
+    if today:
+        what += f"; today: {today if len(today) <= _LONGEST_RULE else f'{today[:_LONGEST_RULE]} ..'}"
+    return telling(f"old syntax; {what}", PASSES_MORE if passes else OTHER_STATES)
+
+
+def is_carried_match(rule: Rule, translates: bool) -> bool:
+    """Whether a match rule does what a rules text has, and no more that rules behind it would see: it gives a tag or
+    translates."""
     kinds = {it.kind for it in rule.filter.parts}
+    if translates and kinds & set(WRITTEN):
+        return "af-to" not in kinds
     return "tag" in kinds and not kinds & set(TRANSLATIONS)
 
 
@@ -297,10 +345,10 @@ def reason_of_match(rule: Rule) -> Reason:
         return telling("addresses are translated for the rules behind it", OTHER_STATES)
     if kinds & {"divert-to", "divert-reply", "divert-packet", "route-to", "reply-to", "rtable"}:
         return ELSEWHERE
-    if any(it.kind == "scrub" and "reassemble tcp" in it.text for it in parts):
-        return BY_TIMESTAMPS
     if kinds & {"max-pkt-rate", "once"} or has_state:
         return COUNTS
+    if any(it.kind == "scrub" and "reassemble tcp" in it.text for it in parts):
+        return TIMESTAMPS
     if "scrub" in kinds:
         return harmless(SCRUBS)
     if "tag" in kinds:

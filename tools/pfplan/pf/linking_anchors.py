@@ -7,19 +7,20 @@ from pathlib import Path
 from pfplan.pf.left_out import Teller, harmless, telling
 from pfplan.pf.named_files import NamedFiles
 from pfplan.pf.reading_statements import parse_file, unquoted
-from pfplan.pf.statements import Anchor, Load, Place, Setting, Statement
+from pfplan.pf.statements import Anchor, Load, OldAnchor, Place, Setting, Statement
 
 DEEPEST = 16  # anchors inside one another, as pfsrc takes them
 
 
 @dataclass
 class Linker:
-    """Puts the rules of files into anchors that have no body."""
+    """Puts the rules of files into anchors that have no body, with `translates` into those of older translation too."""
 
     sources: NamedFiles
     teller: Teller
     macros: Mapping[str, str]
     files: dict[str, Path]
+    translates: bool = False
     _bodies: dict[str, tuple[Statement, ...]] = field(default_factory=dict)
     _places: dict[Path, Place] = field(default_factory=dict)
 
@@ -49,7 +50,7 @@ class Linker:
         return set(self._bodies)
 
     def _linked(self, statement: Statement, above: str, depth: int) -> Statement:
-        if not isinstance(statement, Anchor):
+        if not isinstance(statement, Anchor | OldAnchor) or isinstance(statement, OldAnchor) and not self.translates:
             return statement
         name = statement.name.strip("/") if statement.name.startswith("/") else f"{above}/{statement.name}".strip("/")
         body = statement.body

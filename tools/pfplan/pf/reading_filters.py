@@ -7,8 +7,21 @@ from collections.abc import Callable, Mapping
 from pfplan.common.limits import OF_RULES
 from pfplan.pf.cursor import Cursor
 from pfplan.pf.lexer import Kind, printable, trouble
+from pfplan.pf.reading_pools import POOL_WORDS, PoolReader
 from pfplan.pf.services import TCP, UDP, port_of, protocol_of
-from pfplan.pf.statements import ANY_HOST, Filter, Host, HostKind, Interface, Part, Port, Side, State, StateOption
+from pfplan.pf.statements import (
+    ANY_HOST,
+    Filter,
+    Host,
+    HostKind,
+    Interface,
+    Part,
+    Pool,
+    Port,
+    Side,
+    State,
+    StateOption,
+)
 
 PORT_MARKS = ("=", "!=", "<", "<=", ">", ">=")
 TIMEOUTS = (
@@ -25,7 +38,6 @@ _OPTIONS = (
 )  # fmt: skip
 _TRANSLATIONS = ("nat-to", "rdr-to", "binat-to", "af-to")
 _ROUTES = ("route-to", "reply-to", "dup-to")
-_POOL_WORDS = ("bitmask", "random", "round-robin", "static-port", "sticky-address", "least-states")
 _TAGS = ("tag", "tagged")
 _ONE_WORD = ("label", *_TAGS, "received-on", "tos", "rtable", "prio")
 _ALONE = ("fragment", "allow-opts", "once", "divert-reply", "fastroute")
@@ -37,7 +49,7 @@ AFTER_HOSTS = (*PARTS, "flags", "keep", "modulate", "synproxy", "no")
 HEAD = ("in", "out", "log", "quick", "on", "inet", "inet6", "proto", "all", "from", "to")
 # the words that are no strings to pfctl, so none of them is the key of source-hash
 KEYWORDS = frozenset((
-    *HEAD, *AFTER_HOSTS, *_POOL_WORDS, *_STATE_NUMBERS, *_STATE_WORDS, *PARTS, "anchor", "antispoof", "any",
+    *HEAD, *AFTER_HOSTS, *POOL_WORDS, *_STATE_NUMBERS, *_STATE_WORDS, *PARTS, "anchor", "antispoof", "any",
     "bandwidth", "block", "block-policy", "burst", "code", "debug", "default", "delay", "file", "fingerprints", "flows",
     "flush", "for", "global", "hostid", "include", "limit", "load", "loginterface", "match", "matches", "max-mss",
     "max-src-conn-rate", "min-ttl", "no-df", "no-route", "optimization", "overload", "parent", "pass", "port", "qlimit",
@@ -53,6 +65,7 @@ class FilterReader:
 
     def __init__(self, cursor: Cursor) -> None:
         self.at = cursor
+        self.pools = PoolReader(cursor, self.table_name, KEYWORDS)
 
     def filter(self, has_log: bool = True) -> Filter:
         """Direction, log, quick, interfaces, family, protocols, hosts and ports, and what may follow."""
@@ -300,7 +313,9 @@ class FilterReader:
             if not kind:
                 raise self._no_part()
         behind = _BEHIND[kind](self, kind) if kind in _BEHIND else ""
-        return Part(kind, self.at.text_since(mark), behind if isinstance(behind, str) else "", negated)
+        value = behind if isinstance(behind, str) else ""
+        pool = behind if isinstance(behind, Pool) else None
+        return Part(kind, self.at.text_since(mark), value, negated, pool)
 
     def _tag(self, kind: str) -> str:
         token = self.at.token
@@ -345,50 +360,6 @@ class FilterReader:
         if self.at.take_word("code"):
             self.at.want_name("a code of ICMP packets")
 
-    def _translation(self, kind: str) -> None:
-        if kind == "af-to":
-            self.at.want_word("inet", "inet6")
-            if self.at.take_word("from"):
-                self._pool()
-                if self.at.take_word("to"):
-                    self._pool()
-            return
-        self._pool()
-        if self.at.take_word("port"):
-            self.at.want_name("a port")
-            self.at.take_mark("*")
-            self._pool_words()
-
-    def _pool(self) -> None:
-        self.at.listed(self._pool_host)
-        self._pool_words()
-
-    def _pool_words(self) -> None:
-        while True:
-            if self.at.take_word("source-hash"):
-                if self.at.is_name() and not self.at.is_word(*KEYWORDS):
-                    self.at.take()  # the key: 0x and 32 digits, or a string (pf.conf(5), "source-hash")
-            elif not self.at.take_word(*_POOL_WORDS):
-                return
-            elif self.at.take_word("port"):
-                self.at.want_name("a port")
-
-    def _pool_host(self) -> None:
-        if self.at.take_mark("<"):
-            self.table_name()
-        elif self.at.is_mark("("):
-            self.at.skip_parentheses()
-            self._length()
-        else:
-            self.at.want_name("an address")
-            if self.at.take_mark("@"):
-                self.at.want_name("an interface")
-            if self.at.take_mark("-"):
-                self.at.want_name("the last address of the range")
-            self._length()
-        if self.at.take_word("weight"):
-            self.at.want_name("a weight")
-
     def _divert(self, kind: str) -> None:
         if kind == "divert-to":
             self.at.want_name("an address")
@@ -402,8 +373,8 @@ _BEHIND: Mapping[str, Callable[[FilterReader, str], object]] = {
     **dict.fromkeys(_TAGS, FilterReader._tag),
     **dict.fromkeys(("user", "group"), lambda it, kind: it.at.listed(it._owner)),
     **dict.fromkeys(("icmp-type", "icmp6-type"), lambda it, kind: it.at.listed(it._icmp_type)),
-    **dict.fromkeys(_TRANSLATIONS, FilterReader._translation),
-    **dict.fromkeys(_ROUTES, lambda it, kind: it._pool()),
+    **dict.fromkeys(_TRANSLATIONS, lambda it, kind: it.pools.translation(kind)),
+    **dict.fromkeys(_ROUTES, lambda it, kind: it.pools.pool()),
     **dict.fromkeys(("divert-to", "divert-packet"), FilterReader._divert),
     "queue": lambda it, kind: it._name_or_parentheses("a queue"),
     "set": lambda it, kind: it._set(),

@@ -23,6 +23,7 @@ from pfplan.pf.reading_filters import (
     TIMEOUTS_FOR_NOTHING,
     FilterReader,
 )
+from pfplan.pf.reading_old_translations import is_old_translation, read_old_translation
 from pfplan.pf.statements import (
     Anchor,
     Antispoof,
@@ -233,6 +234,8 @@ class Parser:
     def _other(self, place: Place) -> Other:
         kind = self.at.token.text
         self.at.skip_line()
+        if is_old_translation(self.at.tokens()):
+            return read_old_translation(self.at.tokens(), place, self.at.text_since())
         return Other(place, self.at.text_since(), kind)
 
     def _antispoof(self, place: Place) -> Antispoof:

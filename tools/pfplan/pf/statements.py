@@ -71,14 +71,25 @@ class Port:
 
 
 @dataclass(frozen=True)
+class Pool:
+    """The addresses that a translation puts in, or that a route names. `words` say how pf chooses among them, with
+    `static-port` where that stands there; `port` is what stands behind `port`: `P`, `P:Q` or `P:*`."""
+
+    hosts: tuple[Host, ...] = ()
+    words: tuple[str, ...] = ()
+    port: str = ""
+
+
+@dataclass(frozen=True)
 class Part:
     """A part of a rule that stands behind its hosts. `kind` is its first word, `value` the name behind it, where one
-    stands there; a `!` makes it `negated`."""
+    stands there, and `pool` the addresses; a `!` makes it `negated`."""
 
     kind: str
     text: str
     value: str = ""
     negated: bool = False
+    pool: Pool | None = None
 
 
 @dataclass(frozen=True)
@@ -206,6 +217,34 @@ class Other(Statement):
     """A statement that is known, and that a rules text of pfsrc does not have: `kind` is its first word."""
 
     kind: str
+
+
+@dataclass(frozen=True)
+class Unread(Other):
+    """Such a statement with words that nobody reads here, and what was expected in their place."""
+
+    why: str
+
+
+@dataclass(frozen=True)
+class OldTranslation(Other):
+    """`nat`, `rdr` or `binat` of pf before OpenBSD 4.7, which is `sort`. With `no` it has no pool, and ends the search
+    for one; what it `passes` is not asked of the filter rules."""
+
+    sort: str
+    filter: Filter
+    passes: bool = False
+    pool: Pool | None = None
+
+
+@dataclass(frozen=True)
+class OldAnchor(Other):
+    """`nat-anchor`, `rdr-anchor` or `binat-anchor`: where the rules of that `sort` are asked that an anchor has."""
+
+    sort: str
+    name: str
+    filter: Filter
+    body: tuple[Statement, ...] | None = None
 
 
 @dataclass

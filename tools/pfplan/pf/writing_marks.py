@@ -8,7 +8,7 @@ from dataclasses import dataclass, field
 from pfplan.pf.interfaces import Machine
 from pfplan.pf.left_out import Teller, beyond, harmless, telling
 from pfplan.pf.reading_filters import MOST_TAG_BYTES
-from pfplan.pf.statements import Part, Rule, Statement
+from pfplan.pf.statements import OldTranslation, Part, Rule, Statement
 from pfplan.pf.writing_lists import NAME, NO_CHOICE, Choice, Gap, Options, split_choices
 
 
@@ -21,11 +21,12 @@ class TagNames:
     _taken: set[str] = field(default_factory=set)
     _given: set[str] = field(default_factory=set)
     _asked: dict[str, None] = field(default_factory=dict)
+    _own: dict[str, str] = field(default_factory=dict)
 
     def look(self, statements: Iterable[Statement]) -> None:
         """Sees all statements, those of anchors too, before one of their tags gets another name."""
         for statement in statements:
-            for it in statement.filter.parts if isinstance(statement, Rule) else ():
+            for it in statement.filter.parts if isinstance(statement, Rule | OldTranslation) else ():
                 if it.kind in ("tag", "tagged") and NAME.fullmatch(it.value):
                     self._names[it.value] = it.value
                     self._taken.add(it.value)
@@ -39,6 +40,12 @@ class TagNames:
         """The name of a tag that a rule asks for."""
         self._asked[tag] = None
         return self._name(tag)
+
+    def own(self, wish: str) -> str:
+        """The name of a tag that is pfplan's own, as near to the wish as may be; the same each time."""
+        if wish not in self._own:
+            self._own[wish] = self._reserve(wish)
+        return self._own[wish]
 
     def note_missing(self) -> None:
         """Says which tags are asked for that no rule of the text gives. Those that are left out are told by

@@ -26,7 +26,7 @@ class TableMaker:
     An entry that is not there leaves a table narrower, so `! <t>` would match more: such tables are in `narrower`.
     Without a negated entry `<t>` would match more: those are in `wider`. Those that persist without a file, may change,
     and whose entries the command line gives, as a running firewall has them, are in `persisting`, and so are those of
-    `recorded`: entries that came by records already. All three hold names of the rules text.
+    `recorded`: entries that came by records already. `entries` are those without `!`. All hold names of the rules text.
     """
 
     machine: Machine
@@ -37,6 +37,7 @@ class TableMaker:
     narrower: set[str] = field(default_factory=set)
     wider: set[str] = field(default_factory=set)
     persisting: set[str] = field(default_factory=set)
+    entries: dict[str, list[Network]] = field(default_factory=dict)
 
     def line(self, table: Table, name: str) -> str:
         """The definition, with every entry that is an address. Others are told, as files that are not there."""
@@ -55,6 +56,7 @@ class TableMaker:
         )
         if is_given or table.name in self.recorded:
             self.persisting.add(name)
+        self.entries[name] = [it for it, negated in entries.items() if not negated]
         words = ["table", f"<{name}>", *table.parts]
         if entries:
             words.append(f"{{ {', '.join(('!' if negated else '') + shown(it) for it, negated in entries.items())} }}")

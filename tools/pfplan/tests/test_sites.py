@@ -6,7 +6,8 @@ joined, lists kept together. It writes the combinations that a rule stands for. 
 the statement, or what it is made of must be told by the statement's line. So must each other part: a translation, a
 tag, an option of a state. An item may be no other combination, and may lack no part that makes it match less.
 
-The test says nothing of which parts a rules text can carry: it holds whether translation is carried or told.
+The test says nothing of which parts a rules text can carry: it holds whether translation is carried or told. Whether
+the older translation has the same effect, with tags of pfplan's own and states of its own, test_old_order.py says.
 """
 
 import contextlib
@@ -19,6 +20,7 @@ import re
 import subprocess
 import tempfile
 import unittest
+import unittest.mock
 from collections.abc import Iterable, Iterator, Sequence
 from dataclasses import dataclass, field, replace
 from pathlib import Path
@@ -27,6 +29,7 @@ from typing import TypeVar
 from pfplan.__main__ import main
 from pfplan.common.inputs import take_none
 from pfplan.common.repository import TOP, program
+from pfplan.pf import translations
 from pfplan.tests.support import Done
 
 FOLDER = TOP / "cases/pf_conf"
@@ -56,7 +59,13 @@ PARTS = (
 )  # fmt: skip
 ANSWERS = ("drop", "return")
 OLD = {"nat": "nat-to", "rdr": "rdr-to", "binat": "binat-to"}
+OLD_WAYS: dict[str, tuple[tuple[str, ...], ...]] = {"nat": (("out",),), "rdr": (("in",),), "binat": ()}
 NEVER_ITEMS = ("scrub", "altq", "queue")
+# words that a rules text has, or that are told by themselves where one address stands for a pool
+NEVER_IN_A_POOL = ("static-port", "sticky-address")
+PORTS = re.compile(r"\d+(:\d+|:\*)?")
+# tags that pfplan gives by itself, in place of the first match of the older translation
+OWN_TAGS = ("translated-out", "translated-in")
 OPTIMIZATIONS = {
     "normal": "tcp.first 120 tcp.opening 30 tcp.established 86400 tcp.closing 900 tcp.finwait 45 tcp.closed 90",
     "aggressive": "tcp.first 30 tcp.opening 5 tcp.established 18000 tcp.closing 60 tcp.finwait 30 tcp.closed 30",
@@ -91,6 +100,7 @@ class Told:
     line: int
     words: Words
     way: str
+    puts: str = ""  # the one address or port that stands for several
 
     @property
     def changes(self) -> bool:
@@ -290,6 +300,8 @@ class Rule:
 
 def read_rule(words: Words) -> Rule:
     """The rule that words write, of the text or of the rules that came of it; the older translations too."""
+    if words[0] == "no" and words[1] in OLD:
+        return Rule(("match",), (*OLD_WAYS[words[1]], *parts_of(words[2:])), is_old=True)
     if words[0] in OLD:
         return old_rule(words)
     more = 2 if words[0] == "block" and words[1:2] and words[1] in ANSWERS else 1
@@ -303,9 +315,9 @@ def old_rule(words: Words) -> Rule:
     behind = words.index("->")
     kind, *head = words[:behind]
     action = "pass" if head[:1] == ["pass"] else "match"
-    direction = {"nat": ("out",), "rdr": ("in",), "binat": ("out",)}[kind]
+    direction = OLD_WAYS[kind] or (("out",),)
     asked = tuple(head[1:] if action == "pass" else head)
-    return Rule((action,), (direction, *parts_of(asked), (OLD[kind], *words[behind + 1 :])), is_old=True)
+    return Rule((action,), (*direction, *parts_of(asked), (OLD[kind], *words[behind + 1 :])), is_old=True)
 
 
 @dataclass(frozen=True)
@@ -451,7 +463,12 @@ class Checker:
         if words[0] in NEVER_ITEMS:
             return [*found, "it makes rules"]
         if words[0] == "no" or words[0].endswith("-anchor"):
-            return found + ["it passes or blocks"] * any(it[0] in ("pass", "block") for it in answer.items)
+            found += ["it passes or blocks"] * any(it[0] in ("pass", "block") for it in answer.items)
+            items = [as_old(read_rule(it)) for it in answer.items]
+            wanted = self.reader.combinations(read_rule(words)) if words[0] == "no" else {}
+            count = sum(len(self.reader.combinations(it)) for it in items)
+            found += ["it asks the same twice"] * (count > len(wanted))
+            return found + list(self.compared(wanted, answer, items))
         return found + list(self.rule(statement, answer))
 
     def false_words(self, statement: Statement, answer: Answer) -> Iterator[str]:
@@ -540,6 +557,10 @@ class Checker:
         """What is lost of a rule or the head of an anchor, and what makes it wider."""
         rule = read_rule(statement.words)
         items = [read_rule(it) for it in answer.items]
+        if rule.is_old:
+            bases = [it for it in items if rule.action == ("match",) and is_base(it)]
+            items = [as_old(it) for it in items if it not in bases]
+            yield from self.old(rule, items, bases)
         actions = {rule.action, (*rule.action, statement.policy) if rule.action == ("block",) else rule.action}
         if rule.action == ("block",) and statement.policy == "drop":
             actions.add(("block",))
@@ -558,6 +579,16 @@ class Checker:
             if any(first & second for first, second in itertools.combinations(one, 2)):
                 yield "several rules that count apart"
 
+    def old(self, rule: Rule, items: list[Rule], bases: list[Rule]) -> Iterator[str]:
+        """What is wider or lost of the states that an older translation makes: by rules in front of it, or by a rule
+        that passes itself."""
+        asked = {it for item in items for it in self.reader.combinations(item)}
+        if not {it for base in bases for it in self.reader.combinations(base)} <= asked:
+            yield "wider: a state of other packets"
+        is_passing = rule.action == ("pass",) and all(it.action == ("pass",) for it in items)
+        if is_passing and any(not (it.part("flags") and it.part("keep") and it.word("quick")) for it in items):
+            yield "lost: it passes without the rules, with a state for all flags"
+
     def compared_both_ways(self, rule: Rule, answer: Answer, items: list[Rule]) -> Iterator[str]:
         """As `compared`. A rule with binat-to stands for packets out, and for those in to the address that it puts in;
         the first of them may be told apart."""
@@ -575,6 +606,8 @@ class Checker:
         yield from self.compared(wanted, answer, [it for it in items if it not in inward])
         if inward:
             yield from self.compared(turned, answer, inward)
+        elif any(it.part("nat-to") for it in items) and not answer.is_told(("binat-to",)):
+            yield "lost: packets in to its address"
 
     def part(self, part: Words, item: Rule, answer: Answer) -> Iterator[str]:
         """Whether an item lacks a part that is not told, or one without which it is wider."""
@@ -593,7 +626,9 @@ class Checker:
 
     def translation(self, part: Words, item: Rule, answer: Answer) -> Iterator[str]:
         """Whether an item translates as its rule does, or that is told."""
-        if answer.is_told(part):
+        wholes = (part, ("->", *part[1:]))
+        told = next((it for it in answer.told if any(has_words(it.words, whole) for whole in wholes)), None)
+        if told is not None and not told.puts:
             return
         kinds = ("binat-to", "nat-to", "rdr-to") if part[0] == "binat-to" else part[:1]
         families = {it[3] for it in self.reader.combinations(item)}
@@ -604,6 +639,12 @@ class Checker:
             yield f"lost: {' '.join(part)}"
             return
         hosts_there, others_there = self.reader.pool(there, family)
+        if told is not None:
+            hosts = {str(ipaddress.ip_network(told.puts))}
+            said = {it.words[-1] for it in answer.told if it is not told}
+            others = {it for it in others if it in NEVER_IN_A_POOL or PORTS.fullmatch(it)} - said
+            yield from (f"lost: {it} of {' '.join(part)}" for it in others - others_there)
+            others = set()
         if there[0] == part[0] and hosts_there != hosts:
             yield f"translated to other addresses: {' '.join(there)}"
         for it in others - others_there:
@@ -619,14 +660,25 @@ class Checker:
         for it in items:
             for part in it.others():
                 kind = kind_of(part)
-                is_state = kind in ("keep", "synproxy") and (has_state or given)
-                is_quick = kind == "quick" and rule.is_old and rule.action == ("pass",)
-                if not is_state and part not in rule.parts and kind not in TRANSLATIONS and not is_quick:
+                is_of_old = kind in ("quick", "flags", "keep") and rule.is_old and rule.action == ("pass",)
+                is_state = kind in ("keep", "synproxy") and bool(has_state or given) and not is_of_old
+                if not is_state and part not in rule.parts and kind not in TRANSLATIONS and not is_of_old:
                     yield f"more: {' '.join(part)}"
                 if is_state and not {*options_of(part)} <= given:
                     yield f"more: {' '.join(part)}"
             if not has_state and given and not {*statement.defaults} <= {*options_of(("keep", *it.part("keep")))}:
                 yield "lost: set state-defaults"
+
+
+def is_base(item: Rule) -> bool:
+    """Whether an item makes the state of an older translation behind it, where no filter rule decides."""
+    is_whole = ("flags", "any") in item.parts and ("keep", "state") in item.parts
+    return item.action == ("pass",) and is_whole and not item.word("quick", *TRANSLATIONS)
+
+
+def as_old(item: Rule) -> Rule:
+    """An item without the tags that are pfplan's own."""
+    return replace(item, parts=tuple(it for it in item.parts if it[-1] not in OWN_TAGS))
 
 
 def ways_of(words: Words) -> set[str]:
@@ -728,7 +780,9 @@ def told_of(line: str) -> Told:
     if found is None:
         raise AssertionError(f"a line of no form that is known: {line}")
     said = words_of(found[2])
-    return Told(int(found[1]), said[:-3] if said[-3:] == ("{", "..", "}") else said, found[3] or "")
+    puts = re.search(r" here all have (\S+)$", line)
+    words = said[:-3] if said[-3:] == ("{", "..", "}") else said
+    return Told(int(found[1]), words, found[3] or "", puts[1] if puts else "")
 
 
 def wrong_answers(answer: Answer, reader: Reader) -> Iterator[tuple[str, Answer]]:
@@ -739,7 +793,8 @@ def wrong_answers(answer: Answer, reader: Reader) -> Iterator[tuple[str, Answer]
     for at, one in enumerate(answer.told):
         yield f"not told: {' '.join(one.words)}", replace(answer, told=without(answer.told, at))
     for at, item in enumerate(answer.items):
-        yield f"no item: {' '.join(item)}", replace(answer, items=without(answer.items, at))
+        if not is_base(read_rule(item)):
+            yield f"no item: {' '.join(item)}", replace(answer, items=without(answer.items, at))
         for wrong in wrong_items(item):
             changed = (*answer.items[:at], wrong, *answer.items[at + 1 :])
             yield f"item: {' '.join(wrong)}", replace(answer, items=changed)
@@ -763,6 +818,8 @@ def wrong_items(item: Words) -> Iterator[Words]:
     yield ({"pass": "block", "block": "pass"}.get(item[0], "pass"), *item[1:])
     rule = read_rule(item)
     for part in rule.parts:
+        if part[-1] in OWN_TAGS:
+            continue
         kept = tuple(itertools.chain(*(it for it in rule.parts if it is not part)))
         if kind_of(part) not in ("all", "inet", "inet6") and part[1:] != ("any",):
             yield (*rule.action, *kept)
@@ -810,7 +867,8 @@ CARRIED = (
     ("rdr on fxp0 inet proto tcp from any to (fxp0) port 80 -> 10.2.0.80 port 8080",
      ("match in on fxp0 inet proto tcp from any to 192.0.2.2 port = 80 rdr-to 10.2.0.80 port 8080",), ()),
     ("rdr pass on fxp0 inet proto tcp from any to (fxp0) port 80 -> 10.2.0.80",
-     ("pass in quick on fxp0 inet proto tcp from any to 192.0.2.2 port = 80 rdr-to 10.2.0.80",), ()),
+     ("pass in quick on fxp0 inet proto tcp from any to 192.0.2.2 port = 80 flags any rdr-to 10.2.0.80 keep state",),
+     ()),
     ("rdr pass on fxp0 inet proto tcp from any to (fxp0) port 80 -> 10.2.0.80",
      ("match in on fxp0 inet proto tcp from any to 192.0.2.2 port = 80 rdr-to 10.2.0.80",), ("pass",)),
     ("no nat on fxp0 inet from 10.1.0.0/16 to 10.9.0.0/16",
@@ -840,6 +898,10 @@ NOT_CARRIED = (
     ("rdr pass on fxp0 inet proto tcp from any to (fxp0) port 80 -> 10.2.0.80",
      ("match in on fxp0 inet proto tcp from any to 192.0.2.2 port = 80 rdr-to 10.2.0.80",), ()),
     ("rdr pass on fxp0 inet proto tcp from any to (fxp0) port 80 -> 10.2.0.80", (), ()),
+    ("rdr pass on fxp0 inet proto tcp from any to (fxp0) port 80 -> 10.2.0.80",
+     ("pass in quick on fxp0 inet proto tcp from any to 192.0.2.2 port = 80 rdr-to 10.2.0.80",), ()),
+    ("rdr pass on fxp0 inet proto tcp from any to (fxp0) port 80 -> 10.2.0.80",
+     ("pass in on fxp0 inet proto tcp from any to 192.0.2.2 port = 80 flags any rdr-to 10.2.0.80 keep state",), ()),
     ("no nat on fxp0 inet from 10.1.0.0/16 to 10.9.0.0/16",
      ("pass out on fxp0 inet from 10.1.0.0/16 to 10.9.0.0/16",), ()),
 )  # fmt: skip
@@ -911,7 +973,10 @@ class Sites(unittest.TestCase):
                 *rest, count = done.err.splitlines()
                 told = [told_of(it) for it in rest if not it.startswith("note: ")]
                 items = json.loads(done.out)["items"]
-                self.assertEqual(items, sorted(items, key=lambda it: (it["line"] not in skips, it["line"])))
+                # the older translation stands in front, by sorts where that matters
+                old = {it.line for it, _ in answers(name, words)[1] if {*it.words[:2]} & {*OLD}}
+                ordered = [it for it in items if it["line"] not in old]
+                self.assertEqual(ordered, sorted(ordered, key=lambda it: (it["line"] not in skips, it["line"])))
                 self.assertLessEqual({*(it.line for it in told), *(it["line"] for it in items)}, {*lines})
                 changing = sum(it.changes for it in told)
                 counted = COUNT.fullmatch(count)
@@ -925,11 +990,15 @@ class Sites(unittest.TestCase):
             with self.subTest(name, words=words), tempfile.NamedTemporaryFile("w") as file:
                 made = json.loads(called(name, "--json", *words).out)
                 self.assertEqual(called(name, *words).out, made["rules"])
-                file.write(made["rules"])
+                file.write(self.readable(made["rules"]))
                 file.flush()
                 ended = subprocess.run([program(), "check", file.name], capture_output=True, text=True, check=False)
                 self.assertEqual((ended.returncode, ended.stderr), (0, ""))
                 self.assertRegex(ended.stdout, rf"^ok items={len(made['items'])} ")
+
+    def readable(self, rules: str) -> str:
+        """What pfsrc reads of the rules that are written."""
+        return rules
 
     def test_statuses(self) -> None:
         """A text that is read ends with 0; with --strict with 3, and nothing written, where something that can change
@@ -956,6 +1025,29 @@ class Sites(unittest.TestCase):
                 self.assertTrue(20 <= text.count("\n") <= 120)
                 self.assertTrue(words & {"max", "max-src-conn", "max-src-states", "max-src-conn-rate"})
                 self.assertTrue(words & {*TRANSLATIONS, *OLD})
+
+
+class SitesThatTranslate(Sites):
+    """The same, where the rules that come of a text translate addresses. What pfsrc does not read of them yet is taken
+    out before it is asked."""
+
+    def setUp(self) -> None:
+        called.cache_clear()
+        self.enterContext(unittest.mock.patch.object(translations, "TRANSLATES", True))
+        self.addCleanup(called.cache_clear)
+
+    def readable(self, rules: str) -> str:
+        """The rules without what they translate."""
+        return re.sub(r" nat-to \S+( static-port| port [0-9:]+)?| rdr-to \S+( port \d+)?", "", rules)
+
+    def test_tags_come_whole(self) -> None:
+        """Of rules with tags none is left out now for what it translates."""
+        for name in NAMES:
+            for statement, answer in answers(name, WITH)[1]:
+                words = {*statement.words}
+                if "match" in words and words & {"tag", "tagged"} and words & {*TRANSLATIONS}:
+                    with self.subTest(f"{name} {statement.line}"):
+                        self.assertTrue(answer.items)
 
 
 if __name__ == "__main__":
