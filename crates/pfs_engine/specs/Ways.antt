@@ -1,5 +1,5 @@
 -- The work of a record: that of its first event, and, where its packet goes on, that of the second behind it.
-use Rattle.std.specs.Prelude.{ℕ, ◌≡◌, ◌+◌, ◌-◌, ◌^◌, ◌⊎◌, min, max, Bool, Option, Some, None, Result, Ok, Err}
+use Rattle.std.specs.Prelude.{ℕ, ◌≡◌, ◌<◌, ◌+◌, ◌-◌, ◌^◌, ◌⊎◌, length, min, max, Bool, Option, Some, None, Result, Ok, Err}
 use Rattle.pfs_addr_values.specs.declared.memory.NoMemory.{NoMemory}
 use Rattle.pfs_conf_values.specs.Configs.{Conf}
 use Rattle.pfs_engine_machine.specs.Machine.{Machine, step}
@@ -9,6 +9,10 @@ use Rattle.pfs_engine_machine.specs.declared.events.Outcome.{Outcome}
 use Rattle.pfs_engine_machine.specs.declared.events.Way.{Way}
 use Rattle.pfs_engine.specs.Calls.{IsWorkOfEvent}
 use Rattle.pfs_engine.specs.declared.works.Work.{Work}
+
+-- there are routes: without one a packet is asked once, as it stands
+abbrev pub HasRoutes : Conf → Type 0
+HasRoutes conf = 0 < length conf.routes
 
 -- both amounts, as far as 64 bits count
 abbrev pub both_of : ℕ → ℕ → ℕ

@@ -12,13 +12,13 @@ ghost use Rattle.pfs_engine_machine.specs.Machine.{machine_at_moment, amounts_of
 ghost use Rattle.pfs_engine_machine.specs.Runs.{MayChange, MayCome, AreAllowed, IsInOrder, IsPacket, IsRefusedIn, IsStopped, NeedsMemory, packets_in, packets_of};
 ghost use Rattle.pfs_engine_machine.specs.Ways.{IsRefusedOnWay, events_of_record, way, way_on};
 ghost use Rattle.pfs_engine.specs.Calls.{CountsEvent, CountsPacket, IsAnsweredBy, IsAt, IsLimited, IsWorkBehind, IsWorkOfEvent, IsWorkOfPacket, IsWorkOfSeconds, Keeps, StaysWithin, answer_at_last, met_held};
-ghost use Rattle.pfs_engine.specs.Ways.{IsWorkBehindFirst, IsWorkOfWay};
+ghost use Rattle.pfs_engine.specs.Ways.{HasRoutes, IsWorkBehindFirst, IsWorkOfWay};
 
 use crate::guard::Guard;
 use crate::held::Held;
 use crate::packets::{Meters, answer_behind_guard};
 use crate::passing::pass_due;
-use crate::ways::{first_event, second_event};
+use crate::ways::{first_event, may_go_on, second_event};
 use crate::works::Work;
 use pfs_addr_values::{NoMemory, Packet, RUN_LIMIT};
 use pfs_conf_values::{Config, LimitName, TableNo};
@@ -209,8 +209,8 @@ impl<S: Store> Engine<S> {
         ensures limited { IsLimited result packet.now self.old self.new }
         ensures free { IsFree self.old.config (met_held self.old.config self.old.machine packet.now).world packet.now
             (answer_at_last self.old.config self.old.machine packet.now).0 → IsOk result }
-        ensures going { OnOk result (self.new.going ≡ Some (going_behind_guard self.old.config self.old.machine.guard self.old.machine.held packet.now
-            (moment_of self.old.machine.last))) }
+        ensures going { OnOk result (HasRoutes self.old.config →
+            self.new.going ≡ Some (going_behind_guard self.old.config self.old.machine.guard self.old.machine.held packet.now (moment_of self.old.machine.last))) }
         ensures work { IsWorkBehind purges (IsWorkOfPacket S.counts self.old.config self.old.machine packet.now
             (moment_of self.old.machine.last) result) self.new.work }
     {
@@ -360,7 +360,7 @@ impl<S: Store> Engine<S> {
         ensures keeps { IsAt event.now.time self.old self.new }
         ensures taken { CountsEvent result (packets_of event.now.what) self.old.taken self.new.taken }
         ensures work { IsWorkOfEvent S.counts self.old.config self.old.machine event.now result self.new.work }
-        ensures going { OnOk result (self.new.going ≡ sent_on self.old.config self.old.machine event.now) }
+        ensures going { OnOk result (HasRoutes self.old.config → self.new.going ≡ sent_on self.old.config self.old.machine event.now) }
     {
         self.advance(event.time);
         let purges = self.work();
@@ -392,10 +392,10 @@ impl<S: Store> Engine<S> {
         ensures few { self.new.taken ≤ self.old.taken + 2 }
         ensures work { IsWorkOfWay S.counts self.old.config self.old.machine row.now result self.new.work }
     {
-        if self.config().routes().is_empty() {
-            self.go_alone(row)
-        } else {
+        if may_go_on(self.config()) {
             self.go_through(row)
+        } else {
+            self.go_alone(row)
         }
     }
 
@@ -424,6 +424,7 @@ impl<S: Store> Engine<S> {
     /// Takes a record where there are routes: the event at which its packet is asked first, and the one at which it leaves.
     #[tactic(auto, unfolding(pfs_engine_machine::specs::Ways::way))]
     fn go_through(&mut self, row: &Event) -> Result<Way, NoMemory>
+        requires routes { HasRoutes self.old.config }
         requires order { ForSome self.old.machine.last (λ m. m ≤ row.now.time) }
         requires moment { row.now.time < 2 ^ 32 }
         requires room { self.old.taken + 1 < run_limit }

@@ -17,12 +17,14 @@ ghost use Rattle.pfs_engine_machine.specs.Kept.{IsKept};
 ghost use Rattle.pfs_engine_machine.specs.Looks.{AreLooks, AreLooksOfKill};
 ghost use Rattle.pfs_engine_machine.specs.Machine.{addition_of, answer_of_key, exceeded_of, going_from, outcome_of_held, tables_after_addition};
 ghost use Rattle.pfs_engine_machine.specs.Refusals.{IsFreeOf, is_tcp};
+ghost use Rattle.pfs_engine.specs.Ways.{HasRoutes};
 ghost use Rattle.pfs_engine.specs.Held.{Holds, IsAnswered, IsDone, IsReachedBy, tables_held};
 ghost use Rattle.pfs_engine.specs.Meters.{AreFurtherLooks, AreLooksOf};
 ghost use Rattle.pfs_engine.specs.Packets.{answer_of_touch};
 ghost use Rattle.pfs_engine.specs.Rooms.{HasRoomFor};
 
 use crate::held::Held;
+use crate::ways::may_go_on;
 use pfs_addr_values::{Addr, Dir, Meter, NoMemory, Packet, Proto};
 use pfs_conf_values::{Config, LimitName, Overload, Rate, RuleNo, Scope, StateOptions};
 use pfs_engine_machine::{Exceeded, Outcome};
@@ -32,7 +34,7 @@ use pfs_track::Score;
 
 /// What a packet does that has the key of a held state: the state is renewed, and where its handshake
 /// completes past a limit of its rule, its source is added to the rule's overload table and states are
-/// killed. `going` becomes the packet with the state's tag.
+/// killed. Where there are routes, `going` becomes the packet with the state's tag.
 ///
 /// Memory is taken for the overload table alone, for a TCP packet, before anything changes; `NoMemory`
 /// where it is refused, and then nothing has changed. (pf.conf(5), STATEFUL TRACKING OPTIONS,
@@ -50,14 +52,16 @@ pub(crate) fn take_packet_of_state<S: Store>(
     requires moment { now ≤ 2 ^ 63 }
     requires looks { looks.old ≤ 2 }
     ensures answered { (cookie : Bool) → IsAnswered result (answer_of_key held.old.config held.old.held packet.now cookie now) held.old held.new }
-    ensures going { OnOk result ((cookie : Bool) → going.new ≡ Some (going_from held.old.config held.old.held packet.now cookie)) }
+    ensures going { OnOk result (HasRoutes held.old.config → (cookie : Bool) → going.new ≡ Some (going_from held.old.config held.old.held packet.now cookie)) }
     ensures free { (s : State) → state_with (key_of packet.now) held.old.held.world ≡ Some s →
         IsFreeOf held.old.config packet.now s.rule → IsOk result }
     ensures looks { AreLooksOf S.counts held.old.config held.old.held.world packet.now result looks.old looks.new }
 {
     make_room(held, found.rule, packet)?;
     let touched = held.store.renew(found, packet, now, looks);
-    *going = Some(packet.with_tag(touched.tag));
+    if may_go_on(&held.config) {
+        *going = Some(packet.with_tag(touched.tag));
+    }
     Ok(complete_handshake(held, found, &touched, now, looks))
 }
 

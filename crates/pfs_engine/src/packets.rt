@@ -13,6 +13,7 @@ ghost use Rattle.pfs_engine_machine.specs.Kept.{IsKept};
 ghost use Rattle.pfs_engine_machine.specs.Looks.{AreLooks};
 ghost use Rattle.pfs_engine_machine.specs.Machine.{answer_of_rule, deciding_rule, going_behind_guard, going_from, going_of_state, held_for, outcome_of_new, outcome_of_pass, packet_ruled};
 ghost use Rattle.pfs_engine_machine.specs.Visits.{AreVisits};
+ghost use Rattle.pfs_engine.specs.Ways.{HasRoutes};
 ghost use Rattle.pfs_engine.specs.Held.{Holds, IsAnswered, IsAnsweredBehindGuard, IsAnsweredTo, IsReachedBy};
 ghost use Rattle.pfs_engine.specs.Meters.{AreFirstLooks, AreMetersBehindGuard, AreMetersOf};
 ghost use Rattle.pfs_engine.specs.Packets.{NeedsNone, NeedsNoneBehindGuard, NeedsNoneBy, NeedsNoneOf};
@@ -20,6 +21,7 @@ ghost use Rattle.pfs_engine.specs.Packets.{NeedsNone, NeedsNoneBehindGuard, Need
 use crate::guard::Guard;
 use crate::handshakes::take_packet_of_state;
 use crate::held::Held;
+use crate::ways::may_go_on;
 use pfs_addr_values::{Flags, FlowKey, Meter, NoMemory, Packet};
 use pfs_conf_values::{Action, Config, RuleNo};
 use pfs_engine_machine::Outcome;
@@ -47,7 +49,7 @@ impl Meters {
 }
 
 /// What a packet does: it gets a cookie, or it is one of a held state, or the rules decide on it, or on the SYN whose cookie it
-/// brings. `going` becomes the packet as it goes on, where it does. On an error what it meets is held, behind the guard that it meets.
+/// brings. `going` becomes the packet as it goes on, where it does, and there are routes. On an error what it meets is held, behind the guard that it meets.
 /// (pf.conf(5), STATEFUL FILTERING)
 pub(crate) fn answer_behind_guard<S: Store>(
     guard: &mut Guard,
@@ -62,7 +64,7 @@ pub(crate) fn answer_behind_guard<S: Store>(
     requires moment { now ≤ 2 ^ 63 }
     requires meters { meters.old ≡ record { visits = 0; looks = 0 } }
     ensures answered { IsAnsweredBehindGuard result guard.old packet.now now held.old held.new }
-    ensures going { OnOk result (going.new ≡ Some (going_behind_guard held.old.config guard.old held.old.held packet.now now)) }
+    ensures going { OnOk result (HasRoutes held.old.config → going.new ≡ Some (going_behind_guard held.old.config guard.old held.old.held packet.now now)) }
     ensures guard { OnOk result (guard.new ≡ guard_after_packet held.old.config guard.old held.old.held.world packet.now now) }
     ensures refused { OnErr result (guard.new ≡ guard_for held.old.config guard.old held.old.held.world packet.now now) }
     ensures free { NeedsNoneBehindGuard held.old.config guard.old held.old.held packet.now now → IsOk result }
@@ -70,7 +72,9 @@ pub(crate) fn answer_behind_guard<S: Store>(
         meters.new.visits meters.new.looks }
 {
     if guard.gets_cookie(held, packet) {
-        *going = Some(*packet);
+        if may_go_on(&held.config) {
+            *going = Some(*packet);
+        }
         return guard.give(&held.config, packet, now);
     }
     let cookie = guard.brings_cookie(held, packet);
@@ -95,7 +99,8 @@ fn answer<S: Store>(
     requires moment { now ≤ 2 ^ 63 }
     requires meters { meters.old ≡ record { visits = 0; looks = 0 } }
     ensures answered { IsAnsweredTo result packet.now cookie now held.old held.new }
-    ensures going { OnOk result (going.new ≡ Some (going_from held.old.config (held_for held.old.config held.old.held packet.now now) packet.now cookie)) }
+    ensures going { OnOk result (HasRoutes held.old.config →
+        going.new ≡ Some (going_from held.old.config (held_for held.old.config held.old.held packet.now now) packet.now cookie)) }
     ensures free { NeedsNoneOf held.old.config (held_for held.old.config held.old.held packet.now now) packet.now cookie → IsOk result }
     ensures meters { AreMetersOf S.counts held.old.config held.old.held (held_for held.old.config held.old.held packet.now now)
         packet.now cookie result meters.new.visits meters.new.looks }
@@ -159,13 +164,15 @@ fn by_rules<S: Store>(
     ensures answered { IsAnswered result (answer_of_rule held.old.config held.old.held packet.now
         (packet_ruled held.old.config held.old.held (asked packet.now cookie)) cookie now
         (deciding_rule held.old.config held.old.held (asked packet.now cookie))) held.old held.new }
-    ensures going { going.new ≡ Some (going_of_state held.old.config held.old.held packet.now cookie None) }
+    ensures going { HasRoutes held.old.config → going.new ≡ Some (going_of_state held.old.config held.old.held packet.now cookie None) }
     ensures visits { AreVisits held.old.config held.old.held packet.now cookie None visits.new }
     ensures free { NeedsNone held.old.config held.old.held packet.now cookie None → IsOk result }
     ensures no_looks { IfOk result (λ o. AreLooks held.old.config 0 o 0) }
 {
     let decision = held.decide(&asked(packet, cookie), visits);
-    *going = Some(decision.packet.with_flags(packet.flags()));
+    if may_go_on(&held.config) {
+        *going = Some(decision.packet.with_flags(packet.flags()));
+    }
     match decision.rule {
         Some(rule) => by_action(held, packet, &decision.packet, rule, cookie, now),
         None => Ok(passed(None, cookie)),

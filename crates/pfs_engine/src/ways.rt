@@ -1,14 +1,22 @@
 //! The events of a record: where its packet is asked first, and where it leaves.
 
-ghost use Rattle.std.specs.Prelude.{◌≡◌, IfSome, true};
+ghost use Rattle.std.specs.Prelude.{◌≡◌, ◌↔◌, IfSome, IsTrue, true};
 ghost use Rattle.pfs_engine_machine.specs.Guards.{asked};
 ghost use Rattle.pfs_engine_machine.specs.Runs.{IsPacket};
 ghost use Rattle.pfs_engine_machine.specs.Ways.{first_event, first_packet, onward, leaving, leaves_by, second_event};
+ghost use Rattle.pfs_engine.specs.Ways.{HasRoutes};
 
 use pfs_addr_values::{Addr, Dir, Flags, IfName, Packet};
 use pfs_conf_values::Config;
 use pfs_engine_machine::{Arrival, Event, Outcome};
 use pfs_eval::interface_to;
+
+/// Whether a packet may be asked at a second interface: where there are routes.
+pub(crate) fn may_go_on(config: &Config) -> bool
+    ensures { IsTrue result ↔ HasRoutes config.now }
+{
+    !config.routes().is_empty()
+}
 
 /// The event of a record at which its packet is asked first.
 pub(crate) fn first_event(config: &Config, row: &Event) -> Event
