@@ -1,3 +1,4 @@
+pub mod AskingLaws
 pub mod FilterLaws
 pub mod LimitLaws
 pub mod MomentLaws

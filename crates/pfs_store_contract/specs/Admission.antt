@@ -3,10 +3,12 @@
 use Rattle.std.specs.Prelude.{ℕ, ◌+◌, ◌&&◌, not, nat_le, Bool, true, false, if◌then◌else◌, Option, Some, None, List, [], ◌∷◌, ◌++◌, length}
 use Rattle.pfs_addr_values.specs.Packets.{PacketView}
 use Rattle.pfs_addr_values.specs.Keys.{key_of}
+use Rattle.pfs_addr_values.specs.Sameness.{same_key}
 use Rattle.pfs_addr_values.specs.declared.addresses.Addr.{Addr}
 use Rattle.pfs_addr_values.specs.declared.flag_sets.Flags.{Flags}
 use Rattle.pfs_addr_values.specs.declared.packets.Dir.{Dir}
-use Rattle.pfs_addr_values.specs.declared.packets.Dir.TheVariants.{In}
+use Rattle.pfs_addr_values.specs.declared.packets.Dir.TheVariants.{In, Out}
+use Rattle.pfs_addr_values.specs.declared.packets.FlowKey.{FlowKey}
 use Rattle.pfs_addr_values.specs.declared.protocols.Proto.{Proto}
 use Rattle.pfs_addr_values.specs.declared.protocols.Proto.TheVariants.{Tcp}
 use Rattle.pfs_conf_values.specs.Configs.{Conf, is_synproxy, limit_of, options_of, tracks_fully}
@@ -55,6 +57,28 @@ limit_met conf w rule source =
     ∷ (tracks scope (λ s. has_node s source w.nodes && reaches_maximum o.max_src_states (node_states conf s source w.states)), limit.MaxSrcStates)
     ∷ []) ++ (nat_le (limit_of conf limit_name.States) (length w.states), limit.States) ∷ [])
 
+-- ---- the two keys of a new state
+
+-- the key on the wire, where the first is that of a packet as it comes to pf, and the second as it goes on
+abbrev pub wire_side : Dir → FlowKey → FlowKey → FlowKey
+wire_side In came goes = came
+wire_side Out came goes = goes
+
+-- the key inside
+abbrev pub inner_side : Dir → FlowKey → FlowKey → FlowKey
+inner_side In came goes = goes
+inner_side Out came goes = came
+
+abbrev pub wire_key : PacketView → PacketView → FlowKey
+wire_key p going = wire_side p.dir (key_of p) (key_of going)
+
+abbrev pub key_inside : PacketView → PacketView → FlowKey
+key_inside p going = inner_side p.dir (key_of p) (key_of going)
+
+-- the inner key, where it is another than that on the wire
+abbrev pub apart : FlowKey → FlowKey → Option FlowKey
+apart wire inner = if same_key wire inner then None else Some inner
+
 -- ---- a new state
 
 -- a packet asks for a connection from outside: a SYN without ACK, of TCP, that comes in
@@ -77,7 +101,8 @@ new_phase conf rule p false =
 abbrev pub new_state : Conf → ℕ → PacketView → PacketView → ℕ → Bool → ℕ → State
 new_state conf number p going rule cookie now = record {
   number = number;
-  key = key_of p;
+  key = wire_key p going;
+  inner = apart (wire_key p going) (key_inside p going);
   dir = p.dir;
   source = p.source.addr;
   rule = record { 0 = rule };

@@ -1,8 +1,10 @@
 -- What the calls of a store answer and leave, by the definitions of the machine.
-use Rattle.std.specs.Prelude.{ℕ, ◌≡◌, ◌+◌, ◌-◌, ◌==◌, not, false, Bool, if◌then◌else◌, Option, Some, None, List, length, filter, take, Result, Ok, Err}
+use Rattle.std.specs.Prelude.{ℕ, ◌≡◌, ◌+◌, ◌-◌, ◌==◌, ⊤, not, false, Bool, if◌then◌else◌, Option, Some, None, List, length, filter, option_map, take, Result, Ok, Err}
 use Rattle.pfs_addr_values.specs.Packets.{PacketView}
 use Rattle.pfs_addr_values.specs.declared.addresses.Addr.{Addr}
 use Rattle.pfs_addr_values.specs.declared.packets.Dir.{Dir}
+use Rattle.pfs_addr_values.specs.declared.packets.Dir.TheVariants as dir
+use Rattle.pfs_addr_values.specs.declared.packets.FlowKey.{FlowKey}
 use Rattle.pfs_conf_values.specs.Configs.{Conf}
 use Rattle.pfs_conf_values.specs.declared.items.RuleNo.{RuleNo}
 use Rattle.pfs_conf_values.specs.declared.profiles.Profile.{Profile}
@@ -28,6 +30,11 @@ state_number s = record { 0 = s.number }
 abbrev pub state_rule : State → RuleNo
 state_rule s = s.rule
 
+-- the key with which its packets of this direction go on, where it is another than that with which they come
+abbrev pub onward_key : Dir → State → Option FlowKey
+onward_key dir.In s = s.inner
+onward_key dir.Out s = option_map (λ inner. s.key) s.inner
+
 -- ---- a new state
 
 -- the limit that a packet meets at a rule
@@ -43,12 +50,22 @@ abbrev pub world_at : Conf → World → PacketView → PacketView → ℕ → B
 world_at conf w p going rule cookie now None = world_after_admission conf w p going rule cookie now
 world_at conf w p going rule cookie now (Some l) = world_after_refusal conf w p.source.addr rule now l
 
+-- the world once a source has asked for a state, which is not made: where a limit is met, after the refusal
+abbrev pub world_asked : Conf → World → Addr → ℕ → ℕ → Option Limit → World
+world_asked conf w source rule now None = w
+world_asked conf w source rule now (Some l) = world_after_refusal conf w source rule now l
+
+-- to ask takes no memory, but for a node that a refusal leaves
+abbrev pub IsAskedFree : Conf → World → Addr → ℕ → Option Limit → Type 0
+IsAskedFree conf w source rule None = ⊤
+IsAskedFree conf w source rule (Some l) = leaves_node conf w source rule l ≡ false
+
 -- a refusal takes no memory, but for a node that it leaves
 abbrev pub IsFreeRefusal : Conf → World → PacketView → ℕ → Option Limit → Type 0
 IsFreeRefusal conf w p rule None = ⊥
 IsFreeRefusal conf w p rule (Some l) = leaves_node conf w p.source.addr rule l ≡ false
 
--- ---- a packet of the state that has its key
+-- ---- a packet of a state
 
 abbrev pub world_touched : Conf → World → PacketView → ℕ → Option State → World
 world_touched conf w p now None = w

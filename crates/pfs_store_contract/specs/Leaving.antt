@@ -13,7 +13,7 @@ use Rattle.pfs_conf_values.specs.declared.profiles.Profile.{Profile}
 use Rattle.pfs_conf_values.specs.declared.profiles.Profile.TheVariants as profile
 use Rattle.pfs_conf_values.specs.declared.timeouts.TimeoutName.TheVariants as timeout
 use Rattle.pfs_conf_values.specs.declared.items.RuleNo.{RuleNo}
-use Rattle.pfs_store_contract.specs.Worlds.{World, holds_number}
+use Rattle.pfs_store_contract.specs.Worlds.{World, holds_number, inner_key}
 use Rattle.pfs_store_contract.specs.Counts.{node_states, is_of_rule, is_of_source}
 use Rattle.pfs_store_contract.specs.declared.kills.FromTo.{FromTo}
 use Rattle.pfs_store_contract.specs.declared.records.Node.{Node}
@@ -69,7 +69,15 @@ abbrev pub is_covered : Option Network → Addr → Bool
 is_covered None a = true
 is_covered (Some p) a = covers p a
 
+-- the key of the packet that made a state, as it was sent
+abbrev pub sent_on_side : Dir → State → FlowKey
+sent_on_side dir.In s = s.key
+sent_on_side dir.Out s = inner_key s
+
+abbrev pub sent_key : State → FlowKey
+sent_key s = sent_on_side s.dir s
+
 -- the states that go from these hosts to those: by the source of the packet that made them, and by its destination, as it was sent
 -- (pfctl(8), "-k")
 abbrev pub is_from_to : FromTo → State → Bool
-is_from_to hosts s = covers hosts.from s.source && is_covered hosts.to (end_beyond s.dir s.key).addr
+is_from_to hosts s = covers hosts.from s.source && is_covered hosts.to (end_beyond s.dir (sent_key s)).addr

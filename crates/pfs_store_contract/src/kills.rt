@@ -22,7 +22,7 @@ impl FromTo {
         ensures { result ≡ is_from_to self.now state.now }
     {
         self.from.contains(state.source)
-            && is_covered(&self.to, end_beyond(state.dir, &state.key).addr)
+            && is_covered(&self.to, end_beyond(state.dir, &state.sent_key()).addr)
     }
 }
 

@@ -5,6 +5,7 @@ mod kills;
 mod proxies;
 mod records;
 mod store;
+mod two_keys;
 
 pub use kills::FromTo;
 pub use proxies::{asks_in, is_answered};
@@ -12,3 +13,4 @@ pub use records::{
     Found, Limit, Node, NodeScope, Slice, State, StateNo, Staying, Touched, Watched,
 };
 pub use store::Store;
+pub use two_keys::{inner_key, wire_key};

@@ -16,8 +16,10 @@ pub struct StateNo(pub u64);
 pub struct State {
     /// Its number.
     pub number: u64,
-    /// The key of its packets.
+    /// The key of its packets on the wire.
     pub key: FlowKey,
+    /// Their key on the other side, inside, where it is another one. (pf.conf(5), TRANSLATION)
+    pub inner: Option<FlowKey>,
     /// The direction of the packet that made it.
     pub dir: Dir,
     /// The source address of the packet that made it.

@@ -1,15 +1,16 @@
 //! What every kind of store does: the changes of the states and source nodes that it holds.
 
-ghost use Rattle.std.specs.Prelude.{◌≡◌, ◌+◌, ◌<◌, ◌≤◌, ◌^◌, [], Bool, false, true, None, Some, IfOk, IfSome, IsOk, IsSome, OnErr, length, option_map};
-ghost use Rattle.pfs_addr_values.specs.Keys.{key_of};
+ghost use Rattle.std.specs.Prelude.{◌≡◌, ◌+◌, ◌<◌, ◌≤◌, ◌^◌, [], Bool, false, true, None, Some, IfOk, IfSome, IsOk, IsSome, OnErr, OnOk, length, option_map};
+ghost use Rattle.std.specs.Option.{option_and_then};
 ghost use Rattle.pfs_addr_values.specs.Packets.{run_limit};
 ghost use Rattle.pfs_conf_values.specs.Configs.{Conf, options_at};
 ghost use Rattle.pfs_track.specs.StatePhases.{has_closed};
-ghost use Rattle.pfs_store_contract.specs.Calls.{IsFreeRefusal, answer_at, flushed_count, from_to_count, node_slice_of, packet_limit, renewal_of, source_states, state_number, state_rule, state_slice_of, touch_of, world_at, world_elsewhere, world_flushed, world_killed, world_touched};
+ghost use Rattle.pfs_store_contract.specs.Admission.{key_inside, limit_met, wire_key, world_after_admission};
+ghost use Rattle.pfs_store_contract.specs.Calls.{IsAskedFree, IsFreeRefusal, answer_at, flushed_count, from_to_count, node_slice_of, onward_key, packet_limit, renewal_of, source_states, state_number, state_rule, state_slice_of, touch_of, world_asked, world_at, world_elsewhere, world_flushed, world_killed, world_touched};
 ghost use Rattle.pfs_store_contract.specs.Counts.{half_open};
 ghost use Rattle.pfs_store_contract.specs.Purging.{node_slice, state_slice};
 ghost use Rattle.pfs_store_contract.specs.Quiet.{NodesStay, StatesStay, world_after_quiet};
-ghost use Rattle.pfs_store_contract.specs.Worlds.{IsUpToNow, World, holds_number, state_with};
+ghost use Rattle.pfs_store_contract.specs.Worlds.{IsUpToNow, World, holds_number, state_inside, state_numbered, state_with};
 ghost use Rattle.pfs_store_contract.specs.declared.records.Found.{Found};
 ghost use Rattle.pfs_store_contract.specs.declared.records.State.{State};
 
@@ -36,11 +37,23 @@ pub trait Store {
     // whether the state that was found is still reached by what was said of it
     ghost reaches: { Self → Found → Bool };
 
-    /// The state that has this key: its number, its rule, and by what it is reached. It looks at no record.
+    /// The state that has this key on the wire: its number, its rule, and by what it is reached. It looks at no record.
     fn find(&self, key: &FlowKey) -> Option<Found>
         ensures number { option_map (λ f. f.number) result ≡ option_map state_number (state_with key.now (world self.now)) }
         ensures rule { option_map (λ f. f.rule) result ≡ option_map state_rule (state_with key.now (world self.now)) }
         ensures reached { IfSome result (λ f. reaches self.now f ≡ true) };
+
+    /// The state that has this key inside. It looks at no record. (pf.conf(5), TRANSLATION)
+    fn find_inside(&self, key: &FlowKey) -> Option<Found>
+        ensures number { option_map (λ f. f.number) result ≡ option_map state_number (state_inside key.now (world self.now)) }
+        ensures rule { option_map (λ f. f.rule) result ≡ option_map state_rule (state_inside key.now (world self.now)) }
+        ensures reached { IfSome result (λ f. reaches self.now f ≡ true) };
+
+    /// The key with which packets of this direction go on, of the state that was found, where it is another than that with which they
+    /// come. It looks at no record. (pf.conf(5), TRANSLATION)
+    fn onward_key(&self, found: Found, dir: Dir) -> Option<FlowKey>
+        requires reached { reaches self.now found ≡ true }
+        ensures { result ≡ option_and_then (onward_key dir) (state_numbered found.number.0 (world self.now)) };
 
     /// Whether a state of this number is held. It looks at no record.
     fn holds(&self, number: StateNo) -> bool
@@ -63,21 +76,54 @@ pub trait Store {
     fn made(&self) -> u64
         ensures { result ≡ (world self.now).made };
 
-    /// Makes a state for a packet whose key no state has, at a rule that keeps state; the state keeps the tag with which the packet goes
-    /// on. Where the rule has `synproxy state`, and the packet
-    /// is a SYN without ACK of TCP that comes in, pf leads the handshakes of the state. Where the packet brings a `cookie` of pf, pf's
-    /// handshake with its maker is complete, and never counts. It makes a source node with it
-    /// where the rule tracks sources and the source has none in its scope. It returns the number of the state, or the
-    /// first limit that the state would meet: `max`; for a source without a node `max-src-nodes` and the limit of
-    /// source nodes; for one with a node `max-src-states`; the limit of states. Under the profile of OpenBSD 7.4 `max` is asked
-    /// behind those of the source.
+    /// Asks for a state of a source at a rule that keeps state, and makes none. It returns the first limit that the state would
+    /// meet: `max`; for a source without a node `max-src-nodes` and the limit of source nodes; for one with a node `max-src-states`; the
+    /// limit of states. Under the profile of OpenBSD 7.4 `max` is asked behind those of the source.
     ///
-    /// A refusal leaves what is held unchanged, but for one case: where `max` refuses under that profile, and the rule tracks
-    /// sources and the source has no node in its scope, a node is made and stays, which may leave from `now` on.
-    ///
-    /// `NoMemory` where memory for a state or a node was refused; then what is held is unchanged. Where a limit is met memory is
-    /// taken for that node alone. Fewer than 2,000,000,000 numbers were used before. It looks at no record.
+    /// What is held stays, but for one case: where `max` refuses under that profile, and the rule tracks sources and the source has no
+    /// node in its scope, a node is made and stays, which may leave from `now` on. Memory is taken for that node alone; `NoMemory` where
+    /// it was refused, and then nothing changes. Fewer than 2,000,000,000 numbers were used before. It looks at no record.
     /// (pf.conf(5), OPTIONS, "set limit", and STATEFUL TRACKING OPTIONS; the order of the limits is own, and likely OpenBSD's)
+    fn meet_limit(&mut self, source: Addr, rule: RuleNo, now: u64) -> Result<Option<Limit>, NoMemory>
+        requires keeps { IsSome (options_at (config self.old) rule.0) }
+        requires room { (world self.old).made < run_limit }
+        ensures answer { IfOk result (λ l. l ≡ limit_met (config self.old) (world self.old) rule.0 source) }
+        ensures ok { OnOk result (world self.new
+            ≡ world_asked (config self.old) (world self.old) source rule.0 now (limit_met (config self.old) (world self.old) rule.0 source)) }
+        ensures err { OnErr result (world self.new ≡ world self.old) }
+        ensures no_memory { IsAskedFree (config self.old) (world self.old) source rule.0
+            (limit_met (config self.old) (world self.old) rule.0 source) → IsOk result }
+        ensures config { config self.new ≡ config self.old };
+
+    /// Makes a state for a packet, which goes on as another, at a rule that keeps state, whatever limits it meets: no state has its key on
+    /// the wire, and none its key inside. The state keeps the tag with which the packet goes on. Where the rule has `synproxy state`, and
+    /// the packet is a SYN without ACK of TCP that comes in, pf leads the handshakes of the state. Where the packet brings a `cookie` of
+    /// pf, pf's handshake with its maker is complete, and never counts. It makes a source node with it where the rule tracks sources and
+    /// the source, which is that of the packet as it comes, has none in its scope. It returns the number of the state.
+    ///
+    /// `NoMemory` where memory for a state or a node was refused; then what is held is unchanged. Fewer than 2,000,000,000 numbers
+    /// were used before. It looks at no record. (pf.conf(5), STATEFUL FILTERING, STATEFUL TRACKING OPTIONS and TRANSLATION)
+    fn make(
+        &mut self,
+        packet: &Packet,
+        going: &Packet,
+        rule: RuleNo,
+        cookie: bool,
+        now: u64,
+    ) -> Result<StateNo, NoMemory>
+        requires fresh { state_with (wire_key packet.now going.now) (world self.old) ≡ None }
+        requires fresh_inside { state_inside (key_inside packet.now going.now) (world self.old) ≡ None }
+        requires keeps { IsSome (options_at (config self.old) rule.0) }
+        requires room { (world self.old).made < run_limit }
+        ensures number { IfOk result (λ n. n.0 ≡ (world self.old).made + 1) }
+        ensures ok { OnOk result (world self.new
+            ≡ world_after_admission (config self.old) (world self.old) packet.now going.now rule.0 cookie now) }
+        ensures err { OnErr result (world self.new ≡ world self.old) }
+        ensures config { config self.new ≡ config self.old };
+
+    /// Asks for a state for a packet as `meet_limit` does, and where no limit is met makes it as `make` does. It returns the number of the
+    /// state, or the limit. Where a limit is met memory is taken for the node alone that the refusal leaves.
+    #[tactic(auto, using(crate::proofs::AskingLaws::refused_free))]
     fn admit(
         &mut self,
         packet: &Packet,
@@ -86,7 +132,8 @@ pub trait Store {
         cookie: bool,
         now: u64,
     ) -> Result<Result<StateNo, Limit>, NoMemory>
-        requires fresh { state_with (key_of packet.now) (world self.old) ≡ None }
+        requires fresh { state_with (wire_key packet.now going.now) (world self.old) ≡ None }
+        requires fresh_inside { state_inside (key_inside packet.now going.now) (world self.old) ≡ None }
         requires keeps { IsSome (options_at (config self.old) rule.0) }
         requires room { (world self.old).made < run_limit }
         ensures answer { IfOk result (λ a.
@@ -97,21 +144,30 @@ pub trait Store {
         ensures err { OnErr result (world self.new ≡ world self.old) }
         ensures no_memory { IsFreeRefusal (config self.old) (world self.old) packet.now rule.0
             (packet_limit (config self.old) (world self.old) packet.now rule.0) → IsOk result }
-        ensures config { config self.new ≡ config self.old };
+        ensures config { config self.new ≡ config self.old }
+    {
+        match self.meet_limit(packet.src(), rule, now)? {
+            Some(limit) => Ok(Err(limit)),
+            None => match self.make(packet, going, rule, cookie, now) {
+                Ok(number) => Ok(Ok(number)),
+                Err(refused) => Err(refused),
+            },
+        }
+    }
 
-    /// Takes a packet of the state that was found by its key: the state's phase is renewed, and the moment of its last packet unless
+    /// Takes a packet of the state that was found: the state's phase is renewed, and the moment of its last packet unless
     /// pf takes this one itself; and where the handshake completes at a rule that tracks sources and has `max-src-conn-rate`, the score of its source's
     /// node. No handshake that a score counts came after `now`. It looks at one record, and the state is still reached.
     /// (pf.conf(5), STATEFUL TRACKING OPTIONS; the table of phases and the score are own to this profile)
     fn touch(&mut self, found: Found, packet: &Packet, now: u64, meter: &mut Meter) -> Touched
-        requires held { option_map state_number (state_with (key_of packet.now) (world self.old)) ≡ Some found.number }
+        requires held { holds_number (world self.old).states found.number.0 ≡ true }
         requires reached { reaches self.old found ≡ true }
         requires order { IsUpToNow now (world self.old) }
         requires meter { meter.old ≤ 2 ^ 63 }
         ensures answer { Some result
-            ≡ option_map (touch_of (config self.old) (world self.old) packet.now now) (state_with (key_of packet.now) (world self.old)) }
+            ≡ option_map (touch_of (config self.old) (world self.old) packet.now now) (state_numbered found.number.0 (world self.old)) }
         ensures world { world self.new
-            ≡ world_touched (config self.old) (world self.old) packet.now now (state_with (key_of packet.now) (world self.old)) }
+            ≡ world_touched (config self.old) (world self.old) packet.now now (state_numbered found.number.0 (world self.old)) }
         ensures reached { reaches self.new found ≡ true }
         ensures looks { counts ≡ true → meter.new ≡ meter.old + 1 }
         ensures uncounted { counts ≡ false → meter.new ≡ meter.old }
@@ -121,14 +177,14 @@ pub trait Store {
     /// Takes a packet as `touch` does. Where the handshake does not complete it need not look for the source's node: it tells no
     /// connections then, and the score 0 at moment 0. (own)
     fn renew(&mut self, found: Found, packet: &Packet, now: u64, meter: &mut Meter) -> Touched
-        requires held { option_map state_number (state_with (key_of packet.now) (world self.old)) ≡ Some found.number }
+        requires held { holds_number (world self.old).states found.number.0 ≡ true }
         requires reached { reaches self.old found ≡ true }
         requires order { IsUpToNow now (world self.old) }
         requires meter { meter.old ≤ 2 ^ 63 }
         ensures answer { Some result
-            ≡ option_map (renewal_of (config self.old) (world self.old) packet.now now) (state_with (key_of packet.now) (world self.old)) }
+            ≡ option_map (renewal_of (config self.old) (world self.old) packet.now now) (state_numbered found.number.0 (world self.old)) }
         ensures world { world self.new
-            ≡ world_touched (config self.old) (world self.old) packet.now now (state_with (key_of packet.now) (world self.old)) }
+            ≡ world_touched (config self.old) (world self.old) packet.now now (state_numbered found.number.0 (world self.old)) }
         ensures reached { reaches self.new found ≡ true }
         ensures looks { counts ≡ true → meter.new ≡ meter.old + 1 }
         ensures uncounted { counts ≡ false → meter.new ≡ meter.old }
@@ -139,11 +195,11 @@ pub trait Store {
     }
 
     /// Whether both peers of the state that was found have closed their connection, or it was reset. It looks at one record.
-    fn has_closed(&self, found: Found, key: &FlowKey, meter: &mut Meter) -> bool
-        requires held { option_map state_number (state_with key.now (world self.now)) ≡ Some found.number }
+    fn has_closed(&self, found: Found, meter: &mut Meter) -> bool
+        requires held { holds_number (world self.now).states found.number.0 ≡ true }
         requires reached { reaches self.now found ≡ true }
         requires meter { meter.old ≤ 2 ^ 63 }
-        ensures answer { Some result ≡ option_map (λ (s : State). has_closed s.phase) (state_with key.now (world self.now)) }
+        ensures answer { Some result ≡ option_map (λ (s : State). has_closed s.phase) (state_numbered found.number.0 (world self.now)) }
         ensures looks { counts ≡ true → meter.new ≡ meter.old + 1 }
         ensures uncounted { counts ≡ false → meter.new ≡ meter.old }
         ensures most { meter.new ≤ meter.old + run_limit };
