@@ -1,5 +1,5 @@
 -- The fields of a packet, and that its ports are 0 unless its protocol has ports.
-use Rattle.std.specs.Prelude.{ℕ, List, Option, Some, None, false, ◌≡◌}
+use Rattle.std.specs.Prelude.{ℕ, List, Option, Some, None, Bool, false, is_some, ◌≡◌}
 use Rattle.pfs_addr_values.specs.Protocols.{has_ports}
 use Rattle.pfs_addr_values.specs.declared.protocols.Proto.{Proto}
 use Rattle.pfs_addr_values.specs.declared.flag_sets.Flags.{Flags}
@@ -41,6 +41,14 @@ came_in_at Out ifname before = before
 
 abbrev pub came_in_on : PacketView → Option (List ℕ)
 came_in_on p = came_in_at p.dir p.ifname p.came_by
+
+-- it is known that a packet came in elsewhere: it goes out from inside
+abbrev pub is_outgoing_from : Dir → Option (List ℕ) → Bool
+is_outgoing_from In by = false
+is_outgoing_from Out by = is_some by
+
+abbrev pub is_from_inside : PacketView → Bool
+is_from_inside p = is_outgoing_from p.dir p.came_by
 
 -- a packet as it goes out at another interface than the one where it is
 abbrev pub through : PacketView → List ℕ → PacketView

@@ -2,8 +2,8 @@
 
 ghost use Rattle.std.specs.Prelude.{◌≡◌, None, Some, false};
 ghost use Rattle.std.specs.Str.{bytes_eq};
-ghost use Rattle.pfs_addr_values.specs.Keys.{key_of};
-ghost use Rattle.pfs_addr_values.specs.Packets.{came_in_on, through, with_tag};
+ghost use Rattle.pfs_addr_values.specs.Keys.{end_put, key_of, under};
+ghost use Rattle.pfs_addr_values.specs.Packets.{came_in_on, is_from_inside, through, with_tag};
 ghost use Rattle.pfs_addr_values.specs.Protocols.{has_ports};
 ghost use Rattle.pfs_addr_values.specs.declared.packets.Dir.TheVariants.{In, Out};
 
@@ -219,6 +219,33 @@ impl Packet {
         }
     }
 
+    /// Whether it is known that the packet came in elsewhere, so that it goes out from inside. It takes no memory.
+    pub fn is_from_inside(&self) -> bool
+        ensures { result ≡ is_from_inside self.now }
+    {
+        match self.dir {
+            Dir::In => false,
+            Dir::Out => self.came_by.is_some(),
+        }
+    }
+
+    /// The packet as it is under a key: with the addresses of the key, and with its ports where the protocol has ports. It takes no
+    /// memory. (pf.conf(5), TRANSLATION)
+    pub fn under(&self, key: &FlowKey) -> Packet
+        ensures { result ≡ under self.now key.now }
+    {
+        let (source, destination) = match self.dir {
+            Dir::In => (key.a, key.b),
+            Dir::Out => (key.b, key.a),
+        };
+        let ported = self.proto.has_ports();
+        Packet {
+            source: end_put(ported, self.source, source),
+            destination: end_put(ported, self.destination, destination),
+            ..*self
+        }
+    }
+
     /// The packet with a tag, or with none. It takes no memory.
     pub fn with_tag(&self, tag: Option<TagNo>) -> Packet
         ensures { result ≡ with_tag self.now tag }
@@ -259,5 +286,19 @@ impl Packet {
         ensures { result ≡ self.now.destination.port }
     {
         self.destination.port
+    }
+}
+
+/// An end in place of another: its port goes along only where the protocol has ports.
+fn end_put(ported: bool, old: Endpoint, new: Endpoint) -> Endpoint
+    ensures { result ≡ end_put ported old new }
+{
+    if ported {
+        new
+    } else {
+        Endpoint {
+            addr: new.addr,
+            port: old.port,
+        }
     }
 }

@@ -1,6 +1,5 @@
 -- What is held, as one value: what its callers see, what it keeps, and what a call makes of it.
 use Rattle.std.specs.Prelude.{ℕ, ◌≡◌, Bool, true, Some, List, length, option_map, Result, IfOk, OnErr}
-use Rattle.pfs_addr_values.specs.Keys.{key_of}
 use Rattle.pfs_addr_values.specs.Packets.{PacketView}
 use Rattle.pfs_eval.specs.Holdings.{Holdings}
 use Rattle.pfs_conf_values.specs.Configs.{Conf, limit_of}
@@ -8,10 +7,11 @@ use Rattle.pfs_conf_values.specs.Invariants.{IsConfig}
 use Rattle.pfs_conf_values.specs.declared.items.Item.{Item}
 use Rattle.pfs_conf_values.specs.declared.limits.LimitName.TheVariants as limit_name
 use Rattle.pfs_store_contract.specs.Calls.{state_number, state_rule}
-use Rattle.pfs_store_contract.specs.Worlds.{World, state_with}
+use Rattle.pfs_store_contract.specs.Worlds.{World}
 use Rattle.pfs_store_contract.specs.declared.records.Found.{Found}
 use Rattle.pfs_engine_machine.specs.Guards.{Guard}
 use Rattle.pfs_engine_machine.specs.Machine.{Held, answer_behind_guard, answer_to_packet, held_behind_guard, held_for, held_of}
+use Rattle.pfs_engine_machine.specs.Sides.{state_for}
 use Rattle.pfs_engine_machine.specs.declared.events.Outcome.{Outcome}
 
 -- the configuration, what is held under it, how many more entries fit into each table without memory, and the store
@@ -27,8 +27,8 @@ view_of conf store w tables = record { config = conf; held = held_of w tables.en
 
 -- this was found of the state that has a packet's key, and the store still reaches it
 pub record IsReachedBy {X : Type 0} (reaches : X → Found → Bool) (v : HeldView X) (p : PacketView) (found : Found) : Type 0 where
-  pub number : option_map state_number (state_with (key_of p) v.held.world) ≡ Some found.number
-  pub rule : option_map state_rule (state_with (key_of p) v.held.world) ≡ Some found.rule
+  pub number : option_map state_number (state_for v.held.world p) ≡ Some found.number
+  pub rule : option_map state_rule (state_for v.held.world p) ≡ Some found.rule
   pub reached : reaches v.store found ≡ true
 
 -- its tables, which are under the limit of the configuration

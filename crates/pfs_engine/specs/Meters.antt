@@ -1,14 +1,14 @@
 -- What meters show of a packet, and the work of purges, while they are done. (own)
 use Rattle.std.specs.Prelude.{ℕ, ◌≡◌, ◌≤◌, ◌-◌, Bool, true, false, List, Result, IfOk, OnErr}
-use Rattle.pfs_addr_values.specs.Keys.{key_of}
 use Rattle.pfs_addr_values.specs.Packets.{PacketView}
 use Rattle.pfs_conf_values.specs.Configs.{Conf}
-use Rattle.pfs_store_contract.specs.Worlds.{World, state_with}
+use Rattle.pfs_store_contract.specs.Worlds.{World}
 use Rattle.pfs_engine_machine.specs.Guards.{Guard}
 use Rattle.pfs_engine_machine.specs.Looks.{AreLooks, AreLooksBehind, first_looks, looks_before, states_beside}
 use Rattle.pfs_engine_machine.specs.Machine.{Held, held_behind_guard}
 use Rattle.pfs_engine_machine.specs.Shares.{most_nodes, most_states}
 use Rattle.pfs_engine_machine.specs.Visits.{AreVisits, AreVisitsBehindGuard}
+use Rattle.pfs_engine_machine.specs.Sides.{state_for}
 use Rattle.pfs_engine_machine.specs.declared.events.Outcome.{Outcome}
 use Rattle.pfs_engine.specs.declared.works.Work.{Work}
 
@@ -16,25 +16,25 @@ use Rattle.pfs_engine.specs.declared.works.Work.{Work}
 abbrev pub AreLooksBehindGuard : Conf → Guard → Held → PacketView → ℕ → ℕ → Outcome → Type 0
 AreLooksBehindGuard conf g h p now looks o =
     let met = held_behind_guard conf g h p now in
-    AreLooksBehind (looks_before conf g h.world p) (AreLooks conf (states_beside conf.profile met.world (state_with (key_of p) met.world)) o) looks
+    AreLooksBehind (looks_before conf g h.world p) (AreLooks conf (states_beside conf.profile met.world (state_for met.world p)) o) looks
 
 -- the looks of a packet behind the first ones, where the store counts them, by what came of it, and none where memory was refused
 pub record AreLooksOf {E : Type 0} (counts : Bool) (conf : Conf) (w : World) (p : PacketView) (answer : Result Outcome E) (first looks : ℕ)
     : Type 0 where
-  pub counted : counts ≡ true → IfOk answer (λ o. AreLooksBehind first (AreLooks conf (states_beside conf.profile w (state_with (key_of p) w)) o) looks)
+  pub counted : counts ≡ true → IfOk answer (λ o. AreLooksBehind first (AreLooks conf (states_beside conf.profile w (state_for w p)) o) looks)
   pub refused : counts ≡ true → OnErr answer (looks ≡ first)
   pub uncounted : counts ≡ false → looks ≡ first
 
 -- the first looks of a packet, where the store counts them
 pub record AreFirstLooks (counts : Bool) (conf : Conf) (w : World) (p : PacketView) (looks : ℕ) : Type 0 where
-  pub counted : counts ≡ true → looks ≡ first_looks conf p (state_with (key_of p) w)
+  pub counted : counts ≡ true → looks ≡ first_looks conf p (state_for w p)
   pub uncounted : counts ≡ false → looks ≡ 0
 
 -- what the meters show of a packet that finds this held and meets that, and brings a cookie, or not: the items that it is compared
 -- with, and the looks
 pub record AreMetersOf {E : Type 0} (counts : Bool) (conf : Conf) (h met : Held) (p : PacketView) (cookie : Bool) (answer : Result Outcome E) (compared looked : ℕ)
     : Type 0 where
-  pub visits : AreVisits conf met p cookie (state_with (key_of p) met.world) compared
+  pub visits : AreVisits conf met p cookie (state_for met.world p) compared
   pub first : ℕ
   pub first_looks : AreFirstLooks counts conf h.world p first
   pub looks : AreLooksOf counts conf met.world p answer first looked

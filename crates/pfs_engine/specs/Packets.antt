@@ -1,6 +1,5 @@
 -- What an engine makes of a packet, by what its store reports of it, and which packets need no memory before they are answered.
 use Rattle.std.specs.Prelude.{ℕ, Bool, true, false, if◌then◌else◌, Option, Some, None}
-use Rattle.pfs_addr_values.specs.Keys.{key_of}
 use Rattle.pfs_addr_values.specs.Packets.{PacketView}
 use Rattle.pfs_conf_values.specs.Configs.{Conf, options_of, rule_of}
 use Rattle.pfs_conf_values.specs.declared.actions.Action.{Action}
@@ -8,12 +7,12 @@ use Rattle.pfs_conf_values.specs.declared.actions.Action.TheVariants as action
 use Rattle.pfs_store_contract.specs.Calls.{IsFreeRefusal, packet_limit}
 use Rattle.pfs_store_contract.specs.Counts.{exceeds_maximum}
 use Rattle.pfs_store_contract.specs.Handshakes.{over_rate}
-use Rattle.pfs_store_contract.specs.Worlds.{state_with}
 use Rattle.pfs_store_contract.specs.declared.records.State.{State}
 use Rattle.pfs_store_contract.specs.declared.records.Touched.{Touched}
 use Rattle.pfs_engine_machine.specs.Guards.{Guard, asked, brings_cookie, gets_cookie}
-use Rattle.pfs_engine_machine.specs.Machine.{Held, answer_of_exceeded, deciding_rule, exceeded_of, held_for, outcome_of_held}
+use Rattle.pfs_engine_machine.specs.Machine.{Held, answer_of_exceeded, deciding_rule, exceeded_of, held_for, losing_rule, outcome_of_held}
 use Rattle.pfs_engine_machine.specs.Refusals.{IsFreeOf}
+use Rattle.pfs_engine_machine.specs.Sides.{state_for}
 use Rattle.pfs_engine_machine.specs.declared.events.Outcome.{Outcome}
 
 -- a packet touched the state of this number
@@ -34,14 +33,19 @@ abbrev pub NeedsNoneBy : Conf → Held → PacketView → Option ℕ → Type 0
 NeedsNoneBy conf h p None = Unit {0}
 NeedsNoneBy conf h p (Some rule) = NeedsNoneAt conf h p rule (rule_of conf rule).action
 
+-- a packet that is lost needs none
+abbrev pub NeedsNoneUnlessLost : Conf → Held → PacketView → Option ℕ → Option ℕ → Type 0
+NeedsNoneUnlessLost conf h p decides None = NeedsNoneBy conf h p decides
+NeedsNoneUnlessLost conf h p decides (Some rule) = Unit {0}
+
 -- a packet of this state needs none, or, where there is none, by the rule that decides
 abbrev pub NeedsNone : Conf → Held → PacketView → Bool → Option State → Type 0
-NeedsNone conf h p cookie None = NeedsNoneBy conf h p (deciding_rule conf h (asked p cookie))
+NeedsNone conf h p cookie None = NeedsNoneUnlessLost conf h p (deciding_rule conf h (asked p cookie)) (losing_rule conf h (asked p cookie))
 NeedsNone conf h p cookie (Some s) = IsFreeOf conf p s.rule
 
 -- a packet that meets this, and brings a cookie, or not, needs none
 abbrev pub NeedsNoneOf : Conf → Held → PacketView → Bool → Type 0
-NeedsNoneOf conf h p cookie = NeedsNone conf h p cookie (state_with (key_of p) h.world)
+NeedsNoneOf conf h p cookie = NeedsNone conf h p cookie (state_for h.world p)
 
 -- a packet needs none behind the guard, by whether it gets a cookie
 abbrev pub NeedsNoneUnless : Bool → Conf → Held → PacketView → Bool → Type 0

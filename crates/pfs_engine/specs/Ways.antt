@@ -1,9 +1,12 @@
 -- The work of a record: that of its first event, and, where its packet goes on, that of the second behind it.
-use Rattle.std.specs.Prelude.{ℕ, ◌≡◌, ◌<◌, ◌+◌, ◌-◌, ◌^◌, ◌⊎◌, length, min, max, Bool, Option, Some, None, Result, Ok, Err}
+use Rattle.std.specs.Prelude.{ℕ, ◌≡◌, ◌<◌, ◌+◌, ◌-◌, ◌^◌, ◌⊎◌, length, min, max, [], Bool, Option, Some, None, Result, Ok, Err}
+use Rattle.pfs_addr_values.specs.Packets.{PacketView}
 use Rattle.pfs_addr_values.specs.declared.memory.NoMemory.{NoMemory}
 use Rattle.pfs_conf_values.specs.Configs.{Conf}
 use Rattle.pfs_engine_machine.specs.Machine.{Machine, step}
 use Rattle.pfs_engine_machine.specs.Ways.{first_event, second_of_record}
+use Rattle.pfs_engine_machine.specs.declared.events.Arrival.{Arrival}
+use Rattle.pfs_engine_machine.specs.declared.events.Arrival.TheVariants as arrival
 use Rattle.pfs_engine_machine.specs.declared.events.Event.{Event}
 use Rattle.pfs_engine_machine.specs.declared.events.Outcome.{Outcome}
 use Rattle.pfs_engine_machine.specs.declared.events.Way.{Way}
@@ -13,6 +16,15 @@ use Rattle.pfs_engine.specs.declared.works.Work.{Work}
 -- there are routes: without one a packet is asked once, as it stands
 abbrev pub HasRoutes : Conf → Type 0
 HasRoutes conf = 0 < length conf.routes
+
+-- a record is no packet, or there are no routes
+abbrev pub GoesAlone : Conf → Arrival → Type 0
+GoesAlone conf (arrival.Packet p) = conf.routes ≡ []
+GoesAlone conf _ = Unit {0}
+
+-- the record of a packet at a moment
+abbrev pub packet_at : ℕ → PacketView → Event
+packet_at time p = record { time = time; what = arrival.Packet p }
 
 -- both amounts, as far as 64 bits count
 abbrev pub both_of : ℕ → ℕ → ℕ
@@ -51,10 +63,10 @@ IsWorkOn counts conf m e (Some f) answer work =
 
 abbrev pub IsWorkOfEvents : Bool → Conf → Machine → Event → Result Way NoMemory → Work → Type 0
 IsWorkOfEvents counts conf m r answer work =
-    IsWorkOn counts conf m (first_event conf r) (second_of_record conf m r) answer work
+    IsWorkOn counts conf m (first_event conf m r) (second_of_record conf m r) answer work
 
 -- the work of a record with this answer: of its events, or of the first alone where memory was refused to that
 abbrev pub IsWorkOfWay : Bool → Conf → Machine → Event → Result Way NoMemory → Work → Type 0
 IsWorkOfWay counts conf m r (Ok w) work = IsWorkOfEvents counts conf m r (Ok w) work
 IsWorkOfWay counts conf m r (Err refused) work =
-    IsWorkOfStep counts conf m (first_event conf r) (Err refused) work ⊎ IsWorkOfEvents counts conf m r (Err refused) work
+    IsWorkOfStep counts conf m (first_event conf m r) (Err refused) work ⊎ IsWorkOfEvents counts conf m r (Err refused) work

@@ -12,13 +12,13 @@ ghost use Rattle.pfs_engine_machine.specs.Machine.{machine_at_moment, amounts_of
 ghost use Rattle.pfs_engine_machine.specs.Runs.{MayChange, MayCome, AreAllowed, IsInOrder, IsPacket, IsRefusedIn, IsStopped, NeedsMemory, packets_in, packets_of};
 ghost use Rattle.pfs_engine_machine.specs.Ways.{IsRefusedOnWay, events_of_record, way, way_on};
 ghost use Rattle.pfs_engine.specs.Calls.{CountsEvent, CountsPacket, IsAnsweredBy, IsAt, IsLimited, IsWorkBehind, IsWorkOfEvent, IsWorkOfPacket, IsWorkOfSeconds, Keeps, StaysWithin, answer_at_last, met_held};
-ghost use Rattle.pfs_engine.specs.Ways.{HasRoutes, IsWorkBehindFirst, IsWorkOfWay};
+ghost use Rattle.pfs_engine.specs.Ways.{GoesAlone, HasRoutes, IsWorkBehindFirst, IsWorkOfWay, packet_at};
 
 use crate::guard::Guard;
 use crate::held::Held;
 use crate::packets::{Meters, answer_behind_guard};
 use crate::passing::pass_due;
-use crate::ways::{first_event, may_go_on, second_event};
+use crate::ways::{first_packet, may_go_on, second_packet};
 use crate::works::Work;
 use pfs_addr_values::{NoMemory, Packet, RUN_LIMIT};
 use pfs_conf_values::{Config, LimitName, TableNo};
@@ -392,17 +392,18 @@ impl<S: Store> Engine<S> {
         ensures few { self.new.taken ≤ self.old.taken + 2 }
         ensures work { IsWorkOfWay S.counts self.old.config self.old.machine row.now result self.new.work }
     {
-        if may_go_on(self.config()) {
-            self.go_through(row)
-        } else {
-            self.go_alone(row)
+        match &row.what {
+            Arrival::Packet(packet) if may_go_on(self.config()) => {
+                self.go_through(row.time, packet)
+            }
+            _ => self.go_alone(row),
         }
     }
 
-    /// Takes a record where there are no routes: as it stands.
+    /// Takes a record that is no packet, or where there are no routes: as it stands.
     #[tactic(auto, unfolding(pfs_engine_machine::specs::Ways::way))]
     fn go_alone(&mut self, row: &Event) -> Result<Way, NoMemory>
-        requires routes { self.old.config.routes ≡ [] }
+        requires alone { GoesAlone self.old.config row.now.what }
         requires order { ForSome self.old.machine.last (λ m. m ≤ row.now.time) }
         requires moment { row.now.time < 2 ^ 32 }
         requires room { self.old.taken + 1 < run_limit }
@@ -421,29 +422,37 @@ impl<S: Store> Engine<S> {
         })
     }
 
-    /// Takes a record where there are routes: the event at which its packet is asked first, and the one at which it leaves.
+    /// Takes the packet of a record at a moment, where there are routes: where it is asked first, and where it leaves.
     #[tactic(auto, unfolding(pfs_engine_machine::specs::Ways::way))]
-    fn go_through(&mut self, row: &Event) -> Result<Way, NoMemory>
+    fn go_through(&mut self, time: u64, packet: &Packet) -> Result<Way, NoMemory>
         requires routes { HasRoutes self.old.config }
-        requires order { ForSome self.old.machine.last (λ m. m ≤ row.now.time) }
-        requires moment { row.now.time < 2 ^ 32 }
+        requires order { ForSome self.old.machine.last (λ m. m ≤ time) }
+        requires moment { time < 2 ^ 32 }
         requires room { self.old.taken + 1 < run_limit }
-        requires table { MayCome self.old.config row.now.what }
-        ensures ok { IfOk result (λ w. (w, self.new.machine) ≡ way self.old.config self.old.machine row.now) }
-        ensures err { OnErr result (IsRefusedOnWay self.old.config self.old.machine row.now self.new.machine) }
-        ensures keeps { IsAt row.now.time self.old self.new }
-        ensures taken { OnOk result (self.new.taken ≡ self.old.taken + packets_in (events_of_record self.old.config self.old.machine row.now)) }
+        ensures ok { IfOk result (λ w. (w, self.new.machine) ≡ way self.old.config self.old.machine (packet_at time packet.now)) }
+        ensures err { OnErr result (IsRefusedOnWay self.old.config self.old.machine (packet_at time packet.now) self.new.machine) }
+        ensures keeps { IsAt time self.old self.new }
+        ensures taken { OnOk result (self.new.taken
+            ≡ self.old.taken + packets_in (events_of_record self.old.config self.old.machine (packet_at time packet.now))) }
         ensures few { self.new.taken ≤ self.old.taken + 2 }
-        ensures work { IsWorkOfWay S.counts self.old.config self.old.machine row.now result self.new.work }
+        ensures work { IsWorkOfWay S.counts self.old.config self.old.machine (packet_at time packet.now) result self.new.work }
     {
-        let event = first_event(self.config(), row);
-        let first = self.step(&event)?;
-        match second_event(self.config(), row, &first, self.going()) {
+        self.advance(time);
+        let purges = self.work();
+        let first = first_packet(&self.held, packet);
+        let outcome = self.take(&first, purges)?;
+        match second_packet(self.config(), packet, &first, &outcome, self.going()) {
             None => Ok(Way {
-                first,
+                first: outcome,
                 second: None,
             }),
-            Some(event) => self.go_on(first, &event),
+            Some(packet) => self.go_on(
+                outcome,
+                &Event {
+                    time,
+                    what: Arrival::Packet(packet),
+                },
+            ),
         }
     }
 

@@ -1,22 +1,21 @@
 //! A packet of a held state: what its handshake hits, the overload table, and the states that are killed.
 
-ghost use Rattle.std.specs.Prelude.{◌≡◌, ◌≤◌, ◌<◌, ◌^◌, Bool, true, false, None, Some, filter, length, IsOk, OnOk};
+ghost use Rattle.std.specs.Prelude.{◌≡◌, ◌+◌, ◌≤◌, ◌<◌, ◌^◌, Bool, true, false, None, Some, filter, length, IsOk, OnOk};
 ghost use Rattle.std.specs.Option.{ForSome, option_copied};
-ghost use Rattle.pfs_addr_values.specs.Keys.{key_of};
 ghost use Rattle.pfs_addr_values.specs.Packets.{run_limit};
 ghost use Rattle.pfs_conf_values.specs.Configs.{Conf, limit_of, options_at, options_of};
 ghost use Rattle.pfs_conf_values.specs.LoadRules.{AreOptions};
 ghost use Rattle.pfs_conf_values.specs.Bounds.{IsRate};
 ghost use Rattle.pfs_store_contract.specs.Counts.{exceeds_maximum};
-ghost use Rattle.pfs_store_contract.specs.Calls.{source_states};
+ghost use Rattle.pfs_store_contract.specs.Calls.{other_than, source_states};
 ghost use Rattle.pfs_store_contract.specs.Handshakes.{stays_at_kill, flush_of, goes_with, over_rate};
 ghost use Rattle.pfs_store_contract.specs.Leaving.{world_without};
-ghost use Rattle.pfs_store_contract.specs.Worlds.{state_with};
 ghost use Rattle.pfs_store_contract.specs.declared.records.State.{State};
 ghost use Rattle.pfs_engine_machine.specs.Kept.{IsKept};
 ghost use Rattle.pfs_engine_machine.specs.Looks.{AreLooks, AreLooksOfKill};
 ghost use Rattle.pfs_engine_machine.specs.Machine.{addition_of, answer_of_key, exceeded_of, going_from, outcome_of_held, tables_after_addition};
 ghost use Rattle.pfs_engine_machine.specs.Refusals.{IsFreeOf, is_tcp};
+ghost use Rattle.pfs_engine_machine.specs.Sides.{state_for};
 ghost use Rattle.pfs_engine.specs.Ways.{HasRoutes};
 ghost use Rattle.pfs_engine.specs.Held.{Holds, IsAnswered, IsDone, IsReachedBy, tables_held};
 ghost use Rattle.pfs_engine.specs.Meters.{AreFurtherLooks, AreLooksOf};
@@ -34,7 +33,7 @@ use pfs_track::Score;
 
 /// What a packet does that has the key of a held state: the state is renewed, and where its handshake
 /// completes past a limit of its rule, its source is added to the rule's overload table and states are
-/// killed. Where there are routes, `going` becomes the packet with the state's tag.
+/// killed. Where there are routes, `going` becomes the packet with the state's tag, under its other key.
 ///
 /// Memory is taken for the overload table alone, for a TCP packet, before anything changes; `NoMemory`
 /// where it is refused, and then nothing has changed. (pf.conf(5), STATEFUL TRACKING OPTIONS,
@@ -53,14 +52,14 @@ pub(crate) fn take_packet_of_state<S: Store>(
     requires looks { looks.old ≤ 2 }
     ensures answered { (cookie : Bool) → IsAnswered result (answer_of_key held.old.config held.old.held packet.now cookie now) held.old held.new }
     ensures going { OnOk result (HasRoutes held.old.config → (cookie : Bool) → going.new ≡ Some (going_from held.old.config held.old.held packet.now cookie)) }
-    ensures free { (s : State) → state_with (key_of packet.now) held.old.held.world ≡ Some s →
+    ensures free { (s : State) → state_for held.old.held.world packet.now ≡ Some s →
         IsFreeOf held.old.config packet.now s.rule → IsOk result }
     ensures looks { AreLooksOf S.counts held.old.config held.old.held.world packet.now result looks.old looks.new }
 {
     make_room(held, found.rule, packet)?;
     let touched = held.store.renew(found, packet, now, looks);
     if may_go_on(&held.config) {
-        *going = Some(packet.with_tag(touched.tag));
+        *going = Some(held.onward(found, &packet.with_tag(touched.tag)));
     }
     Ok(complete_handshake(held, found, &touched, now, looks))
 }
@@ -113,7 +112,8 @@ fn complete_handshake<S: Store>(
     requires room { touched.now.completed ≡ true → HasRoomFor (tables_held held.old) (options_of held.old.config touched.now.rule.0).overload }
     ensures told { IsDone result (answer_of_touch held.old.config held.old.held found.number.0 now touched.now) held.old held.new }
     ensures looks { AreFurtherLooks S.counts looks.old looks.new
-        (AreLooks held.old.config (source_states held.old.config.profile touched.now.dir touched.now.source held.old.held.world.states) result) }
+        (AreLooks held.old.config (1 + source_states held.old.config.profile touched.now.dir touched.now.source
+        (filter (other_than found.number.0) held.old.held.world.states)) result) }
 {
     let unhindered = passed(touched);
     if !touched.completed {
@@ -237,15 +237,16 @@ fn kill<S: Store>(store: &mut S, which: Killing, now: u64, looks: &mut Meter) ->
         ≡ world_without conf (S.world store.old) (stays_at_kill conf.profile which.flush which.found.number.0 which.dir which.rule which.source) now }
     ensures config { S.config store.new ≡ S.config store.old }
     ensures looks { AreFurtherLooks S.counts looks.old looks.new
-        (AreLooksOfKill which.flush result (source_states (S.config store.old).profile which.dir which.source (S.world store.old).states)) }
+        (AreLooksOfKill which.flush result (1 + source_states (S.config store.old).profile which.dir which.source
+        (filter (other_than which.found.number.0) (S.world store.old).states))) }
 {
-    match which.flush {
-        None => {
-            let before = store.state_count();
-            store.kill(which.found, now, looks);
-            before - store.state_count()
-        }
-        Some(Scope::Rule) => store.flush(which.dir, which.source, Some(which.rule), now, looks),
-        Some(Scope::Global) => store.flush(which.dir, which.source, None, now, looks),
-    }
+    let before = store.state_count();
+    store.kill(which.found, now, looks);
+    let rule = match which.flush {
+        None => return before - store.state_count(),
+        Some(Scope::Rule) => Some(which.rule),
+        Some(Scope::Global) => None,
+    };
+    let alone = before - store.state_count();
+    alone + store.flush(which.dir, which.source, rule, now, looks)
 }

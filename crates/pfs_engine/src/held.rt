@@ -1,27 +1,31 @@
 //! What is held under a configuration, as one value.
 
-ghost use Rattle.std.specs.Prelude.{◌≡◌, ◌<◌, ◌≤◌, ◌^◌, false, None, is_none, length, true, IfOk, IfSome, OnErr, option_map};
-ghost use Rattle.pfs_addr_values.specs.Keys.{key_of};
+ghost use Rattle.std.specs.Prelude.{◌≡◌, ◌<◌, ◌≤◌, ◌^◌, false, None, All, is_none, length, true, IfOk, IfSome, OnErr, option_map};
+ghost use Rattle.std.specs.Option.{option_and_then};
+ghost use Rattle.pfs_addr_values.specs.Keys.{key_of, under_key};
 ghost use Rattle.pfs_conf_values.specs.Configs.{limit_of};
 ghost use Rattle.pfs_conf_values.specs.Invariants.{IsConfig};
 ghost use Rattle.pfs_eval.specs.Tables.{entered_to, entry_count};
 ghost use Rattle.pfs_eval.specs.Verdict.{IsRuleAt};
-ghost use Rattle.pfs_store_contract.specs.Calls.{state_number, state_rule};
+ghost use Rattle.pfs_store_contract.specs.Calls.{onward_key, state_number, state_rule};
 ghost use Rattle.pfs_store_contract.specs.Counts.{half_open};
-ghost use Rattle.pfs_store_contract.specs.Worlds.{empty_world, state_with};
-ghost use Rattle.pfs_engine_machine.specs.Machine.{answer_to_command, answer_to_kill, deciding_rule, held_of, packet_ruled, start, world_after_purges};
+ghost use Rattle.pfs_store_contract.specs.Worlds.{empty_world, state_numbered, state_with};
+ghost use Rattle.pfs_engine_machine.specs.Kept.{IsPlain};
+ghost use Rattle.pfs_engine_machine.specs.Machine.{answer_to_command, answer_to_kill, deciding_rule, held_of, losing_rule, packet_ruled, start, world_after_purges};
 ghost use Rattle.pfs_engine_machine.specs.Shares.{seconds};
+ghost use Rattle.pfs_engine_machine.specs.Sides.{are_free, state_for};
 ghost use Rattle.pfs_engine_machine.specs.Visits.{AreVisits};
+ghost use Rattle.pfs_engine_machine.specs.Ways.{inside};
 ghost use Rattle.pfs_engine.specs.Held.{Holds, IsAnsweredAs, IsDone};
 ghost use Rattle.pfs_engine.specs.Meters.{IsWorkOfPurges};
 
 use crate::purges::purge_each;
 use crate::works::Work;
-use pfs_addr_values::{FlowKey, Meter, NoMemory, Packet};
+use pfs_addr_values::{Dir, FlowKey, Meter, NoMemory, Packet};
 use pfs_conf_values::{Config, LimitName, TableNo};
 use pfs_engine_machine::{Command, Entered, FromTo, Outcome, TableEntry};
-use pfs_eval::{Book, Decision, Tables};
-use pfs_store_contract::{Found, Store};
+use pfs_eval::{Book, Decision, Sides, Tables};
+use pfs_store_contract::{Found, Store, inner_key, wire_key};
 use std::alloc::Global;
 use std::marker::Model;
 
@@ -106,31 +110,80 @@ impl<S: Store> Held<S> {
         self.tables.entries()
     }
 
-    /// The state that has the key of a packet.
+    /// The state of a packet: of one that goes out from inside, that which has its key there; of others, that which has it on the wire.
     pub(crate) fn find(&self, packet: &Packet) -> Option<Found>
-        ensures number { option_map (λ f. f.number) result ≡ option_map state_number (state_with (key_of packet.now) self.now.held.world) }
-        ensures rule { option_map (λ f. f.rule) result ≡ option_map state_rule (state_with (key_of packet.now) self.now.held.world) }
+        ensures number { option_map (λ f. f.number) result ≡ option_map state_number (state_for self.now.held.world packet.now) }
+        ensures rule { option_map (λ f. f.rule) result ≡ option_map state_rule (state_for self.now.held.world packet.now) }
         ensures reached { IfSome result (λ f. S.reaches self.now.store f ≡ true) }
     {
-        self.store.find(&FlowKey::of(packet))
+        let key = FlowKey::of(packet);
+        if packet.is_from_inside() {
+            self.store.find_inside(&key)
+        } else {
+            self.store.find(&key)
+        }
     }
 
-    /// Whether no state has the key of a packet.
+    /// Whether no state has the key of a packet on the wire.
     pub(crate) fn is_new(&self, packet: &Packet) -> bool
         ensures { result ≡ is_none (state_with (key_of packet.now) self.now.held.world) }
     {
-        self.find(packet).is_none()
+        self.store.find(&FlowKey::of(packet)).is_none()
     }
 
-    /// The rule that decides on a packet whose key no state has, if one does, and the packet as the rules leave it. It takes no memory.
+    /// Whether no state has a key of the state that a packet would make, which goes on as another.
+    pub(crate) fn are_free(&self, packet: &Packet, going: &Packet) -> bool
+        ensures { result ≡ are_free self.now.held.world packet.now going.now }
+    {
+        self.store.find(&wire_key(packet, going)).is_none()
+            && self.store.find_inside(&inner_key(packet, going)).is_none()
+    }
+
+    /// A packet of the state that was found, as it goes on: under the state's other key, where it has two.
+    pub(crate) fn onward(&self, found: Found, packet: &Packet) -> Packet
+        requires reached { S.reaches self.now.store found ≡ true }
+        ensures { result ≡ under_key (option_and_then (onward_key packet.now.dir) (state_numbered found.number.0 self.now.held.world)) packet.now }
+    {
+        match self.store.onward_key(found, packet.dir()) {
+            Some(key) => packet.under(&key),
+            None => *packet,
+        }
+    }
+
+    /// A packet that was seen on its way out, as it is inside.
+    pub(crate) fn inside(&self, packet: &Packet) -> Packet
+        requires plain { All (IsPlain self.now.config) self.now.held.world.states }
+        ensures { result ≡ inside self.now.held.world packet.now }
+    {
+        if !self.config.translates() {
+            return *packet;
+        }
+        match self.inner_key(packet) {
+            Some(key) => packet.under(&key),
+            None => *packet,
+        }
+    }
+
+    /// The inner key of the state that has the key of a packet on the wire, where it is another one.
+    fn inner_key(&self, packet: &Packet) -> Option<FlowKey>
+        ensures { result ≡ option_and_then (λ s. s.inner) (state_with (key_of packet.now) self.now.held.world) }
+    {
+        let found = self.store.find(&FlowKey::of(packet))?;
+        self.store.onward_key(found, Dir::In)
+    }
+
+    /// The rule that decides on a packet of no state, if one does, the packet as the rules leave it, and the rule that loses it, if one
+    /// does. It takes no memory.
     pub(crate) fn decide(&self, packet: &Packet, visits: &mut Meter) -> Decision
         requires { visits.old ≡ 0 }
         ensures rule { option_map (λ r. r.0) result.rule ≡ deciding_rule self.now.config self.now.held packet.now }
+        ensures lost { option_map (λ r. r.0) result.lost ≡ losing_rule self.now.config self.now.held packet.now }
         ensures packet { result.packet ≡ packet_ruled self.now.config self.now.held packet.now }
         ensures known { IfSome result.rule (λ r. IsRuleAt self.now.config.items r.0) }
         ensures visits { AreVisits self.now.config self.now.held packet.now false None visits.new }
     {
-        self.book.decide(&self.tables, packet, visits)
+        let sides = KeysHeld { store: &self.store };
+        self.book.decide(&self.tables, &sides, packet, visits)
     }
 
     /// The purges of the seconds after one moment up to another, and the greatest slices. No memory is taken.
@@ -187,5 +240,24 @@ impl<S: Store> Held<S> {
     {
         let mut looks = Meter::new();
         self.store.kill_from_to(hosts, now, &mut looks)
+    }
+}
+
+/// The keys of the states that a store holds, as rules ask for them that translate.
+#[derive(Clone, Copy)]
+struct KeysHeld<'a, S: Store> {
+    store: &'a S,
+}
+
+impl<'a, S: Store> Sides for KeysHeld<'a, S> {
+    ghost use Rattle.pfs_engine_machine.specs.Sides.{is_taken_on};
+
+    ghost taken = { λ keys. is_taken_on (S.world keys.store.now) };
+
+    fn is_taken(&self, dir: Dir, key: &FlowKey) -> bool {
+        match dir {
+            Dir::In => self.store.find_inside(key).is_some(),
+            Dir::Out => self.store.find(key).is_some(),
+        }
     }
 }

@@ -1,17 +1,17 @@
 //! What one packet does.
 
-ghost use Rattle.std.specs.Prelude.{◌≡◌, ◌<◌, ◌≤◌, ◌^◌, ◌||◌, None, Some, true, false, if◌then◌else◌, IfOk, IfSome, IsOk, OnErr, OnOk, option_map};
-ghost use Rattle.pfs_addr_values.specs.Keys.{key_of};
+ghost use Rattle.std.specs.Prelude.{◌≡◌, ◌<◌, ◌≤◌, ◌^◌, ◌||◌, None, Some, true, false, if◌then◌else◌, IfOk, IfSome, IsOk, IsSome, OnErr, OnOk, option_map};
 ghost use Rattle.pfs_addr_values.specs.Packets.{run_limit};
 ghost use Rattle.pfs_eval.specs.Verdict.{IsRuleAt};
 ghost use Rattle.pfs_store_contract.specs.Admission.{is_answered};
-ghost use Rattle.pfs_store_contract.specs.Calls.{state_number, state_rule};
+ghost use Rattle.pfs_conf_values.specs.Configs.{options_at, translates};
+ghost use Rattle.pfs_store_contract.specs.Calls.{IsFreeRefusal, packet_limit, state_number, state_rule};
 ghost use Rattle.pfs_store_contract.specs.Touching.{may_reopen, reopens};
-ghost use Rattle.pfs_store_contract.specs.Worlds.{state_with};
 ghost use Rattle.pfs_engine_machine.specs.Guards.{asked, guard_after_packet, guard_for};
 ghost use Rattle.pfs_engine_machine.specs.Kept.{IsKept};
 ghost use Rattle.pfs_engine_machine.specs.Looks.{AreLooks};
-ghost use Rattle.pfs_engine_machine.specs.Machine.{answer_of_rule, deciding_rule, going_behind_guard, going_from, going_of_state, held_for, outcome_of_new, outcome_of_pass, packet_ruled};
+ghost use Rattle.pfs_engine_machine.specs.Machine.{answer_of_limits, answer_of_rule, answer_of_rules, deciding_rule, going_behind_guard, going_from, going_of_state, held_for, outcome_of_new, outcome_of_pass, packet_ruled};
+ghost use Rattle.pfs_engine_machine.specs.Sides.{are_free, state_for};
 ghost use Rattle.pfs_engine_machine.specs.Visits.{AreVisits};
 ghost use Rattle.pfs_engine.specs.Ways.{HasRoutes};
 ghost use Rattle.pfs_engine.specs.Held.{Holds, IsAnswered, IsAnsweredBehindGuard, IsAnsweredTo, IsReachedBy};
@@ -22,7 +22,7 @@ use crate::guard::Guard;
 use crate::handshakes::take_packet_of_state;
 use crate::held::Held;
 use crate::ways::may_go_on;
-use pfs_addr_values::{Flags, FlowKey, Meter, NoMemory, Packet};
+use pfs_addr_values::{Flags, Meter, NoMemory, Packet};
 use pfs_conf_values::{Action, Config, RuleNo};
 use pfs_engine_machine::Outcome;
 use pfs_store_contract::{Found, Store, is_answered};
@@ -111,14 +111,14 @@ fn answer<S: Store>(
     }
 }
 
-/// What has the key of a packet, once a state has left that the packet does not meet: one that has closed, of a SYN, under the
+/// The state of a packet, once one has left that the packet does not meet: one that has closed, of a SYN, under the
 /// profile of OpenBSD 7.4. It takes no memory. (pf of OpenBSD 7.4, as it is remembered)
 fn meet<S: Store>(held: &mut Held<S>, packet: &Packet, now: u64, looks: &mut Meter) -> Option<Found>
     requires moment { now ≤ 2 ^ 63 }
     requires looks { looks.old ≡ 0 }
     ensures held { Holds held.old held.new (held_for held.old.config held.old.held packet.now now) }
-    ensures number { option_map (λ f. f.number) result ≡ option_map state_number (state_with (key_of packet.now) held.new.held.world) }
-    ensures rule { option_map (λ f. f.rule) result ≡ option_map state_rule (state_with (key_of packet.now) held.new.held.world) }
+    ensures number { option_map (λ f. f.number) result ≡ option_map state_number (state_for held.new.held.world packet.now) }
+    ensures rule { option_map (λ f. f.rule) result ≡ option_map state_rule (state_for held.new.held.world packet.now) }
     ensures reached { IfSome result (λ f. S.reaches held.new.store f ≡ true) }
     ensures looks { AreFirstLooks S.counts held.old.config held.old.held.world packet.now looks.new }
 {
@@ -134,11 +134,11 @@ fn meet<S: Store>(held: &mut Held<S>, packet: &Packet, now: u64, looks: &mut Met
 fn reopens<S: Store>(held: &Held<S>, found: Found, packet: &Packet, looks: &mut Meter) -> bool
     requires found { IsReachedBy S.reaches held.now packet.now found }
     requires looks { looks.old ≡ 0 }
-    ensures answer { Some result ≡ option_map (reopens held.now.config packet.now) (state_with (key_of packet.now) held.now.held.world) }
+    ensures answer { Some result ≡ option_map (reopens held.now.config packet.now) (state_for held.now.held.world packet.now) }
     ensures looks { S.counts ≡ true → looks.new ≡ (if may_reopen held.now.config packet.now then 1 else 0) }
     ensures uncounted { S.counts ≡ false → looks.new ≡ 0 }
 {
-    may_reopen(&held.config, packet) && held.store.has_closed(found, &FlowKey::of(packet), looks)
+    may_reopen(&held.config, packet) && held.store.has_closed(found, looks)
 }
 
 /// Whether a packet may begin a connection anew: a SYN without ACK, under the profile of OpenBSD 7.4.
@@ -149,7 +149,7 @@ fn may_reopen(config: &Config, packet: &Packet) -> bool
     config.profile().is_openbsd() && flags.syn && !flags.ack
 }
 
-/// What the rules make of a packet that no held state has, or of the SYN whose cookie it brings.
+/// What the rules make of a packet of no held state, or of the SYN whose cookie it brings.
 fn by_rules<S: Store>(
     held: &mut Held<S>,
     packet: &Packet,
@@ -158,12 +158,11 @@ fn by_rules<S: Store>(
     going: &mut Option<Packet>,
     visits: &mut Meter,
 ) -> Result<Outcome, NoMemory>
-    requires fresh { state_with (key_of packet.now) held.old.held.world ≡ None }
+    requires fresh { state_for held.old.held.world packet.now ≡ None }
+    requires kept { IsKept held.old.config held.old.held now }
     requires room { held.old.held.world.made < run_limit }
     requires visits { visits.old ≡ 0 }
-    ensures answered { IsAnswered result (answer_of_rule held.old.config held.old.held packet.now
-        (packet_ruled held.old.config held.old.held (asked packet.now cookie)) cookie now
-        (deciding_rule held.old.config held.old.held (asked packet.now cookie))) held.old held.new }
+    ensures answered { IsAnswered result (answer_of_rules held.old.config held.old.held packet.now cookie now) held.old held.new }
     ensures going { HasRoutes held.old.config → going.new ≡ Some (going_of_state held.old.config held.old.held packet.now cookie None) }
     ensures visits { AreVisits held.old.config held.old.held packet.now cookie None visits.new }
     ensures free { NeedsNone held.old.config held.old.held packet.now cookie None → IsOk result }
@@ -173,9 +172,10 @@ fn by_rules<S: Store>(
     if may_go_on(&held.config) {
         *going = Some(decision.packet.with_flags(packet.flags()));
     }
-    match decision.rule {
-        Some(rule) => by_action(held, packet, &decision.packet, rule, cookie, now),
-        None => Ok(passed(None, cookie)),
+    match (decision.lost, decision.rule) {
+        (Some(rule), _) => Ok(Outcome::Lost(rule)),
+        (None, Some(rule)) => by_action(held, packet, &decision.packet, rule, cookie, now),
+        (None, None) => Ok(passed(None, cookie)),
     }
 }
 
@@ -201,7 +201,7 @@ fn by_action<S: Store>(
     cookie: bool,
     now: u64,
 ) -> Result<Outcome, NoMemory>
-    requires fresh { state_with (key_of packet.now) held.old.held.world ≡ None }
+    requires fresh { translates held.old.config ≡ false → are_free held.old.held.world packet.now going.now ≡ true }
     requires known { IsRuleAt held.old.config.items rule.0 }
     requires room { held.old.held.world.made < run_limit }
     ensures answered { IsAnswered result (answer_of_rule held.old.config held.old.held packet.now going.now cookie now (Some rule.0)) held.old held.new }
@@ -215,11 +215,37 @@ fn by_action<S: Store>(
         Action::Match => Ok(passed(None, cookie)),
         Action::Block => Ok(Outcome::Block(rule)),
         Action::Pass => Ok(passed(Some(rule), cookie)),
-        Action::Keep(_) => match held.store.admit(packet, going, rule, cookie, now)? {
-            Ok(_) => Ok(made(&held.config, rule, packet, cookie)),
-            Err(limit) => Ok(Outcome::Drop(rule, limit)),
-        },
+        Action::Keep(_) => by_limits(held, packet, going, rule, cookie, now),
     }
+}
+
+/// What comes of a packet that asks for a state of a rule: it makes one, unless a limit is met, or, where rules translate, another state
+/// has one of its keys.
+fn by_limits<S: Store>(
+    held: &mut Held<S>,
+    packet: &Packet,
+    going: &Packet,
+    rule: RuleNo,
+    cookie: bool,
+    now: u64,
+) -> Result<Outcome, NoMemory>
+    requires fresh { translates held.old.config ≡ false → are_free held.old.held.world packet.now going.now ≡ true }
+    requires keeps { IsSome (options_at held.old.config rule.0) }
+    requires room { held.old.held.world.made < run_limit }
+    ensures answered { IsAnswered result (answer_of_limits held.old.config held.old.held packet.now going.now cookie now rule.0
+        (packet_limit held.old.config held.old.held.world packet.now rule.0)) held.old held.new }
+    ensures free { IsFreeRefusal held.old.config held.old.held.world packet.now rule.0
+        (packet_limit held.old.config held.old.held.world packet.now rule.0) → IsOk result }
+    ensures no_looks { IfOk result (λ o. AreLooks held.old.config 0 o 0) }
+{
+    if let Some(limit) = held.store.meet_limit(packet.src(), rule, now)? {
+        return Ok(Outcome::Drop(rule, limit));
+    }
+    if held.config.translates() && !held.are_free(packet, going) {
+        return Ok(Outcome::Conflict(rule));
+    }
+    held.store.make(packet, going, rule, cookie, now)?;
+    Ok(made(&held.config, rule, packet, cookie))
 }
 
 /// What comes of a packet that no state is made for: it passes; with a cookie it has nowhere to go.

@@ -1,15 +1,17 @@
 //! The events of a record: where its packet is asked first, and where it leaves.
 
-ghost use Rattle.std.specs.Prelude.{◌≡◌, ◌↔◌, IfSome, IsTrue, true};
+ghost use Rattle.std.specs.Prelude.{◌≡◌, ◌↔◌, All, IsTrue, true};
 ghost use Rattle.pfs_engine_machine.specs.Guards.{asked};
-ghost use Rattle.pfs_engine_machine.specs.Runs.{IsPacket};
-ghost use Rattle.pfs_engine_machine.specs.Ways.{first_event, first_packet, onward, leaving, leaves_by, second_event};
+ghost use Rattle.pfs_engine_machine.specs.Kept.{IsPlain};
+ghost use Rattle.pfs_engine_machine.specs.Ways.{first_packet, onward, leaving, leaves_by, second_packet};
 ghost use Rattle.pfs_engine.specs.Ways.{HasRoutes};
 
+use crate::held::Held;
 use pfs_addr_values::{Addr, Dir, Flags, IfName, Packet};
 use pfs_conf_values::Config;
-use pfs_engine_machine::{Arrival, Event, Outcome};
+use pfs_engine_machine::{Arrival, Outcome};
 use pfs_eval::interface_to;
+use pfs_store_contract::Store;
 
 /// Whether a packet may be asked at a second interface: where there are routes.
 pub(crate) fn may_go_on(config: &Config) -> bool
@@ -18,67 +20,49 @@ pub(crate) fn may_go_on(config: &Config) -> bool
     !config.routes().is_empty()
 }
 
-/// The event of a record at which its packet is asked first.
-pub(crate) fn first_event(config: &Config, row: &Event) -> Event
-    ensures { result ≡ first_event config.now row.now }
-{
-    match &row.what {
-        Arrival::Packet(packet) => Event {
-            time: row.time,
-            what: Arrival::Packet(first_packet(config, packet)),
-        },
-        _ => *row,
-    }
-}
-
-/// The packet of a record, where it is asked first.
-fn first_packet(config: &Config, packet: &Packet) -> Packet
-    ensures { result ≡ first_packet config.now packet.now }
+/// The packet of a record, where it is asked first, by what is held at its moment.
+pub(crate) fn first_packet<S: Store>(held: &Held<S>, packet: &Packet) -> Packet
+    requires plain { All (IsPlain held.now.config) held.now.held.world.states }
+    ensures { result ≡ first_packet held.now.config held.now.held.world packet.now }
 {
     match packet.dir() {
         Dir::In => *packet,
-        Dir::Out => match leaves_by(config, packet.src()) {
-            Some(interface) => packet.in_by(interface),
-            None => *packet,
-        },
+        Dir::Out => {
+            let inside = held.inside(packet);
+            match leaves_by(&held.config, inside.src()) {
+                Some(interface) => inside.in_by(interface),
+                None => *packet,
+            }
+        }
     }
 }
 
-/// The event of a record at which its packet leaves, or pf's own SYN in its place, by what came of the first, and as it goes on from there;
-/// none where that was the end of its way, or where it is for the firewall itself.
-pub(crate) fn second_event(
+/// The packet of a record where it leaves, or pf's own SYN in its place, by what came of the first event, and as it goes on from there; none
+/// where that was the end of its way, or where it is for the firewall itself.
+pub(crate) fn second_packet(
     config: &Config,
-    row: &Event,
-    first: &Outcome,
+    packet: &Packet,
+    first: &Packet,
+    outcome: &Outcome,
     going: &Option<Packet>,
-) -> Option<Event>
-    ensures event { result ≡ second_event config.now row.now first.now going.now }
-    ensures packet { IfSome result (λ e. (e.time ≡ row.now.time) × IsPacket e.what) }
+) -> Option<Packet>
+    ensures { result ≡ second_packet config.now outcome.now going.now (Arrival.Packet packet.now) (Arrival.Packet first.now) }
 {
-    let Arrival::Packet(packet) = &row.what else {
-        return None;
-    };
-    let leaving = leaving(config, packet, going.as_ref()?)?;
-    let next = onward(first, &leaving)?;
-    Some(Event {
-        time: row.time,
-        what: Arrival::Packet(next),
-    })
+    let leaving = leaving(config, packet, first, going.as_ref()?)?;
+    onward(outcome, &leaving)
 }
 
-/// The packet of a record as it leaves, which goes on so from where it came in.
-fn leaving(config: &Config, packet: &Packet, going: &Packet) -> Option<Packet>
-    ensures { result ≡ leaving config.now packet.now going.now }
+/// The packet of a record as it leaves, which was asked first as another, and goes on so from there.
+fn leaving(config: &Config, packet: &Packet, first: &Packet, going: &Packet) -> Option<Packet>
+    ensures { result ≡ leaving config.now packet.now first.now going.now }
 {
-    match packet.dir() {
-        Dir::In => {
+    match (packet.dir(), first.dir()) {
+        (Dir::In, _) => {
             let interface = leaves_by(config, going.dst())?;
             Some(going.through(interface))
         }
-        Dir::Out => {
-            let _ = leaves_by(config, packet.src())?;
-            Some(going.through(packet.ifname()))
-        }
+        (Dir::Out, Dir::In) => Some(going.through(packet.ifname())),
+        (Dir::Out, Dir::Out) => None,
     }
 }
 

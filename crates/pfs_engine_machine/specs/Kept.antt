@@ -8,12 +8,13 @@ use Rattle.pfs_addr_values.specs.declared.addresses.Addr.{Addr}
 use Rattle.pfs_addr_values.specs.declared.protocols.Proto.{Proto}
 use Rattle.pfs_addr_values.specs.declared.protocols.Proto.TheVariants as proto
 use Rattle.pfs_eval.specs.Tables.{entry_count}
-use Rattle.pfs_conf_values.specs.Configs.{Conf, limit_of, options_of, scope_of}
+use Rattle.pfs_addr_values.specs.declared.packets.FlowKey.{FlowKey}
+use Rattle.pfs_conf_values.specs.Configs.{Conf, limit_of, options_of, scope_of, translates}
 use Rattle.pfs_conf_values.specs.declared.actions.Scope.TheVariants as scope
 use Rattle.pfs_conf_values.specs.declared.limits.LimitName.TheVariants as limit_name
 use Rattle.pfs_store_contract.specs.Counts.{has_node, node_connections, node_scope_of, node_states, rule_states, scope_nodes}
-use Rattle.pfs_store_contract.specs.Leaving.{end_on}
-use Rattle.pfs_store_contract.specs.Worlds.{IsUpToNow, World}
+use Rattle.pfs_store_contract.specs.Leaving.{end_on, sent_key}
+use Rattle.pfs_store_contract.specs.Worlds.{IsUpToNow, World, inner_key}
 use Rattle.pfs_store_contract.specs.declared.records.Node.{Node}
 use Rattle.pfs_store_contract.specs.declared.records.NodeScope.{NodeScope}
 use Rattle.pfs_store_contract.specs.declared.records.NodeScope.TheVariants as node_scope
@@ -68,25 +69,37 @@ IsPhaseOf _ (phase.FullTcp p) = ⊥
 IsPhaseOf _ (phase.Proxied p) = ⊥
 IsPhaseOf _ _ = Unit {0}
 
--- the source of a state is the end of its key on the side from which packets of its direction come
+-- the source of a state is the end of the key of the packet that made it, as it was sent, on the side from which packets of its direction
+-- come
 abbrev pub HasSource : State → Type 0
-HasSource s = (end_on s.dir s.key).addr ≡ s.source
+HasSource s = (end_on s.dir (sent_key s)).addr ≡ s.source
 
--- no two of these states have the same key
-abbrev pub KeysDiffer : List State → Type 0
-KeysDiffer [] = Unit {0}
-KeysDiffer (s ∷ ss) = AllByRecursion (λ (t : State). same_key s.key t.key ≡ false) ss × KeysDiffer ss
+-- no two of these states have the same key, of those on one side
+abbrev pub KeysDiffer : (State → FlowKey) → List State → Type 0
+KeysDiffer key_at [] = Unit {0}
+KeysDiffer key_at (s ∷ ss) = AllByRecursion (λ (t : State). same_key (key_at s) (key_at t) ≡ false) ss × KeysDiffer key_at ss
+
+-- the key on the wire
+abbrev pub outer_key : State → FlowKey
+outer_key s = s.key
+
+-- a state has one key where no rule translates
+abbrev pub IsPlain : Conf → State → Type 0
+IsPlain conf s = translates conf ≡ false → s.inner ≡ None
 
 -- the last moment, 0 before the first event
 abbrev pub moment_of : Option ℕ → ℕ
 moment_of last = unwrap_or last 0
 
--- the limits; numbers that rise; a key for one state alone; a node for each state of a rule that tracks sources; phases of the
--- state's protocol; the source in the key; the tables of the text; no handshake counted after this moment
+-- the limits; numbers that rise; a key for one state alone, on the wire and inside, and both are one where no rule translates; a node for
+-- each state of a rule that tracks sources; phases of the state's protocol; the source in the key; the tables of the text; no handshake
+-- counted after this moment
 pub record IsKept (conf : Conf) (h : Held) (now : ℕ) : Type 0 where
   pub limits : IsWithinLimits conf h
   pub numbers : Rise 0 h.world.states h.world.made
-  pub keys : KeysDiffer h.world.states
+  pub keys : KeysDiffer outer_key h.world.states
+  pub inner_keys : KeysDiffer inner_key h.world.states
+  pub plain : All (IsPlain conf) h.world.states
   pub noded : All (HasNode conf h.world.nodes) h.world.states
   pub phases : All (λ (s : State). IsPhaseOf s.key.proto s.phase) h.world.states
   pub sources : All HasSource h.world.states

@@ -10,6 +10,7 @@ pub mod Rates
 pub mod Refusals
 pub mod Runs
 pub mod Shares
+pub mod Sides
 pub mod Sources
 pub mod Staleness
 pub mod Visits

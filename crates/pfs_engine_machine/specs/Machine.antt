@@ -1,14 +1,14 @@
 -- The machine: what is held, what one event does to it, and a run of events. (pf.conf(5), STATEFUL FILTERING and STATEFUL TRACKING OPTIONS)
 use Rattle.std.specs.Prelude.{ℕ, ◌+◌, ◌-◌, ◌||◌, Bool, true, false, if◌then◌else◌, Option, Some, None, List, [], ◌∷◌, length, filter, unwrap_or}
 use Rattle.std.specs.List.{range_with_len}
-use Rattle.pfs_addr_values.specs.Keys.{key_of}
+use Rattle.pfs_addr_values.specs.Keys.{under_key}
 use Rattle.pfs_addr_values.specs.Packets.{PacketView, with_tag}
 use Rattle.pfs_addr_values.specs.declared.addresses.Addr.{Addr}
 use Rattle.pfs_addr_values.specs.declared.packets.Dir.{Dir}
 use Rattle.pfs_eval.specs.Entries.{Entry}
 use Rattle.pfs_eval.specs.Asking.{asking}
 use Rattle.pfs_eval.specs.Tables.{added_to, config_entries, deleted_count, entered_to, entries_after, entries_entered, entries_expired, entries_without, entry_count, expired_count}
-use Rattle.pfs_eval.specs.Verdict.{Asking, packet_behind, verdict}
+use Rattle.pfs_eval.specs.Verdict.{Asking, lost_by, packet_behind, verdict}
 use Rattle.pfs_eval.specs.declared.tables.Added.{Added}
 use Rattle.pfs_conf_values.specs.Configs.{Conf, limit_of, options_of, rule_of}
 use Rattle.pfs_conf_values.specs.declared.actions.Action.{Action}
@@ -17,16 +17,17 @@ use Rattle.pfs_conf_values.specs.declared.actions.Overload.{Overload}
 use Rattle.pfs_conf_values.specs.declared.items.RuleNo.{RuleNo}
 use Rattle.pfs_conf_values.specs.declared.limits.LimitName.TheVariants as limit_name
 use Rattle.pfs_store_contract.specs.Admission.{is_answered, limit_met, world_after_admission, world_after_refusal}
-use Rattle.pfs_store_contract.specs.Calls.{from_to_count, world_elsewhere, world_reopened}
+use Rattle.pfs_store_contract.specs.Calls.{from_to_count, onward_key, world_elsewhere, world_reopened}
 use Rattle.pfs_store_contract.specs.Handshakes.{flush_of, goes_with, hits_connections, hits_rate, stays_at_kill}
 use Rattle.pfs_store_contract.specs.Leaving.{world_without}
 use Rattle.pfs_store_contract.specs.Purging.{purge}
 use Rattle.pfs_store_contract.specs.Touching.{completes_at, is_asking, is_taken, world_after_touch}
-use Rattle.pfs_store_contract.specs.Worlds.{World, empty_world, state_with}
+use Rattle.pfs_store_contract.specs.Worlds.{World, empty_world}
 use Rattle.pfs_store_contract.specs.declared.kills.FromTo.{FromTo}
 use Rattle.pfs_store_contract.specs.declared.records.Limit.{Limit}
 use Rattle.pfs_store_contract.specs.declared.records.State.{State}
 use Rattle.pfs_engine_machine.specs.Guards.{Guard, asked, brings_cookie, gets_cookie, guard_after_packet, guard_after_seconds, no_guard}
+use Rattle.pfs_engine_machine.specs.Sides.{are_free, is_taken_on, state_for}
 use Rattle.pfs_engine_machine.specs.declared.events.Amounts.{Amounts}
 use Rattle.pfs_engine_machine.specs.declared.events.Command.{Command}
 use Rattle.pfs_engine_machine.specs.declared.events.Command.TheVariants as command
@@ -144,10 +145,15 @@ held_refused conf h p now rule l = held_of (world_after_refusal conf h.world p.s
 abbrev pub outcome_of_new : RuleNo → Bool → Outcome
 outcome_of_new rule answered = if answered then outcome.Answered rule else outcome.New rule
 
+-- it makes its state, whose keys are free; or another state has one of them, and nothing changes (pf of OpenBSD calls that `state-insert`)
+abbrev pub answer_of_keys : Conf → Held → PacketView → PacketView → Bool → ℕ → ℕ → Bool → Outcome × Held
+answer_of_keys conf h p going cookie now rule true =
+    (outcome_of_new (record { 0 = rule }) (cookie || is_answered conf rule p), held_of (world_after_admission conf h.world p going rule cookie now) h.tables)
+answer_of_keys conf h p going cookie now rule false = (outcome.Conflict (record { 0 = rule }), h)
+
 -- the state that it would make meets a limit, or none
 abbrev pub answer_of_limits : Conf → Held → PacketView → PacketView → Bool → ℕ → ℕ → Option Limit → Outcome × Held
-answer_of_limits conf h p going cookie now rule None =
-    (outcome_of_new (record { 0 = rule }) (cookie || is_answered conf rule p), held_of (world_after_admission conf h.world p going rule cookie now) h.tables)
+answer_of_limits conf h p going cookie now rule None = answer_of_keys conf h p going cookie now rule (are_free h.world p going)
 answer_of_limits conf h p going cookie now rule (Some l) = (outcome.Drop (record { 0 = rule }) l, held_refused conf h p now rule l)
 
 -- a packet that no state is made for passes, by this rule or by none; with a cookie it has nowhere to go
@@ -166,9 +172,14 @@ abbrev pub answer_of_rule : Conf → Held → PacketView → PacketView → Bool
 answer_of_rule conf h p going cookie now None = (outcome_of_pass None cookie, h)
 answer_of_rule conf h p going cookie now (Some rule) = answer_of_action conf h p going cookie now rule (rule_of conf rule).action
 
+-- a rule loses the packet, since its `nat-to` finds no port, before any limit is asked; or none does (pf.conf(5), TRANSLATION)
+abbrev pub answer_of_loss : Conf → Held → PacketView → PacketView → Bool → ℕ → Option ℕ → Option ℕ → Outcome × Held
+answer_of_loss conf h p going cookie now decides None = answer_of_rule conf h p going cookie now decides
+answer_of_loss conf h p going cookie now decides (Some rule) = (outcome.Lost (record { 0 = rule }), h)
+
 -- what the rules ask of packets, and make of them
 abbrev pub asking_of : Conf → Held → Asking
-asking_of conf h = asking conf.items h.tables
+asking_of conf h = asking conf.items h.tables (is_taken_on h.world)
 
 -- the rule that decides
 abbrev pub deciding_rule : Conf → Held → PacketView → Option ℕ
@@ -178,32 +189,41 @@ deciding_rule conf h p = verdict (asking_of conf h) p conf.items
 abbrev pub packet_ruled : Conf → Held → PacketView → PacketView
 packet_ruled conf h p = packet_behind (asking_of conf h) p conf.items
 
--- a held state has its key, or none
+-- the rule that loses it, if one does
+abbrev pub losing_rule : Conf → Held → PacketView → Option ℕ
+losing_rule conf h p = lost_by (asking_of conf h) p conf.items
+
+-- what the rules make of a packet, or of the SYN whose cookie it brings
+abbrev pub answer_of_rules : Conf → Held → PacketView → Bool → ℕ → Outcome × Held
+answer_of_rules conf h p cookie now =
+    answer_of_loss conf h p (packet_ruled conf h (asked p cookie)) cookie now (deciding_rule conf h (asked p cookie)) (losing_rule conf h (asked p cookie))
+
+-- it is one of a held state, or of none
 abbrev pub answer_of_state : Conf → Held → PacketView → Bool → ℕ → Option State → Outcome × Held
 answer_of_state conf h p cookie now (Some s) =
     answer_of_handshake conf (held_of (world_after_touch conf h.world s p now) h.tables) s now (outcome_of_held s.rule (is_taken p s) (is_asking p s))
     (completes_at p s)
-answer_of_state conf h p cookie now None = answer_of_rule conf h p (packet_ruled conf h (asked p cookie)) cookie now (deciding_rule conf h (asked p cookie))
+answer_of_state conf h p cookie now None = answer_of_rules conf h p cookie now
 
 -- what a packet meets: where it is a SYN for a connection that has closed, its state has left before
 abbrev pub held_for : Conf → Held → PacketView → ℕ → Held
-held_for conf h p now = held_of (world_reopened conf h.world p now (state_with (key_of p) h.world)) h.tables
+held_for conf h p now = held_of (world_reopened conf h.world p now (state_for h.world p)) h.tables
 
 -- what a packet does to what it meets at a moment
 abbrev pub answer_of_key : Conf → Held → PacketView → Bool → ℕ → Outcome × Held
-answer_of_key conf h p cookie now = answer_of_state conf h p cookie now (state_with (key_of p) h.world)
+answer_of_key conf h p cookie now = answer_of_state conf h p cookie now (state_for h.world p)
 
 -- what a packet does at a moment
 abbrev pub answer_to_packet : Conf → Held → PacketView → Bool → ℕ → Outcome × Held
 answer_to_packet conf h p cookie now = answer_of_key conf (held_for conf h p now) p cookie now
 
--- a packet as it goes on from what it meets, with its flags: with the tag of its state, or as the rules leave it
+-- a packet as it goes on from what it meets, with its flags: with the tag of its state, under the other key of that; or as the rules leave it
 abbrev pub going_of_state : Conf → Held → PacketView → Bool → Option State → PacketView
-going_of_state conf h p cookie (Some s) = with_tag p s.tag
+going_of_state conf h p cookie (Some s) = under_key (onward_key p.dir s) (with_tag p s.tag)
 going_of_state conf h p cookie None = record (packet_ruled conf h (asked p cookie)) { flags = p.flags }
 
 abbrev pub going_from : Conf → Held → PacketView → Bool → PacketView
-going_from conf h p cookie = going_of_state conf h p cookie (state_with (key_of p) h.world)
+going_from conf h p cookie = going_of_state conf h p cookie (state_for h.world p)
 
 -- ---- a packet, behind the guard
 

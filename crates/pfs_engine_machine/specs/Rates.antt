@@ -1,13 +1,12 @@
 -- The rate of a source by the whole history of its handshakes, in which no source node occurs. (pf.conf(5), STATEFUL TRACKING
 -- OPTIONS, "max-src-conn-rate"; the score is own)
 use Rattle.std.specs.Prelude.{ℕ, ◌==◌, ◌&&◌, Bool, if◌then◌else◌, Option, Some, None, List, [], ◌∷◌, filter, map}
-use Rattle.pfs_addr_values.specs.Keys.{key_of}
 use Rattle.pfs_addr_values.specs.Packets.{PacketView}
 use Rattle.pfs_addr_values.specs.Sameness.{same_addr}
 use Rattle.pfs_addr_values.specs.declared.addresses.Addr.{Addr}
 use Rattle.pfs_conf_values.specs.Configs.{Conf, options_of, rate_seconds}
 use Rattle.pfs_store_contract.specs.Touching.{completes_at}
-use Rattle.pfs_store_contract.specs.Worlds.{World, state_with}
+use Rattle.pfs_store_contract.specs.Worlds.{World}
 use Rattle.pfs_store_contract.specs.declared.records.State.{State}
 use Rattle.pfs_track.specs.Scores.{score_after, zero_score}
 use Rattle.pfs_track.specs.declared.scores.Score.{Score}
@@ -15,6 +14,7 @@ use Rattle.pfs_engine_machine.specs.declared.events.Event.{Event}
 use Rattle.pfs_engine_machine.specs.declared.events.Arrival.{Arrival}
 use Rattle.pfs_engine_machine.specs.declared.events.Arrival.TheVariants as arrival
 use Rattle.pfs_engine_machine.specs.Machine.{Machine, machine_at_moment, start, step}
+use Rattle.pfs_engine_machine.specs.Sides.{state_for}
 
 -- a handshake of a state: its rule, its source, and when it completed
 pub record Handshake : Type 0 where
@@ -29,7 +29,7 @@ completed_state p (Some s) = if completes_at p s then Some s else None
 
 abbrev pub handshaking_state : World → Arrival → Option State
 handshaking_state w arrival.Skip = None
-handshaking_state w (arrival.Packet p) = completed_state p (state_with (key_of p) w)
+handshaking_state w (arrival.Packet p) = completed_state p (state_for w p)
 handshaking_state w (arrival.Table table done) = None
 handshaking_state w (arrival.Kill hosts) = None
 handshaking_state w arrival.Held = None

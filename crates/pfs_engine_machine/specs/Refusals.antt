@@ -1,6 +1,5 @@
 -- When a new state is refused, and which packets need no memory.
 use Rattle.std.specs.Prelude.{ℕ, ◌≡◌, ◌⊎◌, Bool, true, false, Some, None, IsSome}
-use Rattle.pfs_addr_values.specs.Keys.{key_of}
 use Rattle.pfs_addr_values.specs.Packets.{PacketView}
 use Rattle.pfs_addr_values.specs.declared.protocols.Proto.{Proto}
 use Rattle.pfs_addr_values.specs.declared.protocols.Proto.TheVariants as proto
@@ -8,10 +7,11 @@ use Rattle.pfs_conf_values.specs.Configs.{Conf, options_at, options_of}
 use Rattle.pfs_conf_values.specs.declared.items.RuleNo.{RuleNo}
 use Rattle.pfs_store_contract.specs.Admission.{leaves_node}
 use Rattle.pfs_store_contract.specs.Calls.{packet_limit}
-use Rattle.pfs_store_contract.specs.Worlds.{World, state_with}
+use Rattle.pfs_store_contract.specs.Worlds.{World}
 use Rattle.pfs_store_contract.specs.declared.records.Limit.{Limit}
 use Rattle.pfs_engine_machine.specs.Guards.{Guard, asked, brings_cookie, gets_cookie}
-use Rattle.pfs_engine_machine.specs.Machine.{Held, deciding_rule, held_for}
+use Rattle.pfs_engine_machine.specs.Machine.{Held, deciding_rule, held_for, losing_rule}
+use Rattle.pfs_engine_machine.specs.Sides.{state_for}
 use Rattle.pfs_engine_machine.specs.declared.events.Outcome.{Outcome}
 use Rattle.pfs_engine_machine.specs.declared.events.Outcome.TheVariants as outcome
 
@@ -21,10 +21,11 @@ is_tcp proto.Tcp = true
 is_tcp proto.Udp = false
 is_tcp (proto.Other n) = false
 
--- no held state has the packet's key, this rule decides on it, or on the SYN whose cookie it brings, and keeps state, and this is
--- the first limit that the state meets
+-- the packet is one of no held state, no rule loses it, or the SYN whose cookie it brings, this rule decides on it and keeps state, and this
+-- is the first limit that the state meets
 pub record IsDropped (conf : Conf) (h : Held) (p : PacketView) (cookie : Bool) (rule : ℕ) (limit : Limit) : Type 0 where
-  pub fresh : state_with (key_of p) h.world ≡ None
+  pub fresh : state_for h.world p ≡ None
+  pub passes : losing_rule conf h (asked p cookie) ≡ None
   pub rule_is : deciding_rule conf h (asked p cookie) ≡ Some rule
   pub keeps : IsSome (options_at conf rule)
   pub met : packet_limit conf h.world p rule ≡ Some limit

@@ -3,7 +3,6 @@ use Rattle.std.specs.Prelude.{◌≡◌, ℕ, ◌*◌, Bool, true, false, ◌==�
 use Rattle.std.specs.List.{All, Contains, list_any}
 use Rattle.pfs_addr_values.specs.Keys.{key_of}
 use Rattle.pfs_addr_values.specs.Sameness.{same_key}
-use Rattle.pfs_addr_values.specs.declared.packets.FlowKey.{FlowKey}
 use Rattle.pfs_conf_values.specs.Configs.{Conf, timeout_of}
 use Rattle.pfs_conf_values.specs.declared.timeouts.TimeoutName.TheVariants as timeout
 use Rattle.pfs_store_contract.specs.Purging.{has_expired, is_over, state_slice}
@@ -12,6 +11,7 @@ use Rattle.pfs_store_contract.specs.declared.records.Node.{Node}
 use Rattle.pfs_store_contract.specs.declared.records.State.{State}
 use Rattle.pfs_engine_machine.specs.declared.events.Event.{Event}
 use Rattle.pfs_engine_machine.specs.Acts.{RunAct, Arrive, Change, Kill, Purge, acts_of, after, purges}
+use Rattle.pfs_engine_machine.specs.Sides.{met_key}
 
 -- these acts come one after another in the run of these events, the second part with twice as many purges as `interval` has seconds
 pub record AreTwoRounds (conf : Conf) (events : List Event) (earlier meanwhile later : List RunAct) : Type 0 where
@@ -23,20 +23,20 @@ abbrev pub AtEachPurge : Conf → List RunAct → List RunAct → (World → ℕ
 AtEachPurge conf earlier meanwhile Holds =
     (before rest : List RunAct) (now : ℕ) → meanwhile ≡ before ++ Purge now ∷ rest → Holds (after conf (earlier ++ before)).world now
 
--- a packet with this key arrives
-abbrev pub brings : FlowKey → RunAct → Bool
-brings key (Purge s) = false
-brings key (Arrive now p cookie) = same_key key (key_of p)
-brings key (Change first now table done) = false
-brings key (Kill now hosts) = false
+-- a packet of a state arrives, by the key of it that it meets
+abbrev pub brings : State → RunAct → Bool
+brings s (Purge second) = false
+brings s (Arrive now p cookie) = same_key (met_key p s) (key_of p)
+brings s (Change first now table done) = false
+brings s (Kill now hosts) = false
 
--- A state that is held before 2 * interval purges in a row, of whose key no packet arrives meanwhile, and that is expired at
+-- A state that is held before 2 * interval purges in a row, of which no packet arrives meanwhile, and that is expired at
 -- each of these purges at which it is still held, is not held after the last of them.
 abbrev pub StatesGo : Conf → List Event → Type 0
 StatesGo conf events =
     (earlier meanwhile later : List RunAct) (s : State) → AreTwoRounds conf events earlier meanwhile later →
     Contains (after conf earlier).world.states s →
-    All (λ (a : RunAct). brings s.key a ≡ false) meanwhile →
+    All (λ (a : RunAct). brings s a ≡ false) meanwhile →
     AtEachPurge conf earlier meanwhile (λ w now. holds_number w.states s.number ≡ true → has_expired conf w.states now s ≡ true) →
     holds_number (after conf (earlier ++ meanwhile)).world.states s.number ≡ false
 

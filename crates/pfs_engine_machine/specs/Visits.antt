@@ -1,15 +1,14 @@
 -- How many items a packet is compared with. (own)
 use Rattle.std.specs.Prelude.{ℕ, ◌≡◌, ◌≤◌, Bool, true, false, Option, Some, None}
-use Rattle.pfs_addr_values.specs.Keys.{key_of}
 use Rattle.pfs_addr_values.specs.Packets.{PacketView}
 use Rattle.pfs_eval.specs.Visits.{visit_bound, visit_floor}
 use Rattle.pfs_conf_values.specs.Configs.{Conf}
-use Rattle.pfs_store_contract.specs.Worlds.{state_with}
 use Rattle.pfs_store_contract.specs.declared.records.State.{State}
 use Rattle.pfs_engine_machine.specs.Guards.{Guard, asked, brings_cookie, gets_cookie}
 use Rattle.pfs_engine_machine.specs.Machine.{Held, asking_of, held_for}
+use Rattle.pfs_engine_machine.specs.Sides.{state_for}
 
--- with none where a held state has its key; else, as the packet that rules are asked for, between the floor and the bound
+-- with none where it is one of a held state; else, as the packet that rules are asked for, between the floor and the bound
 abbrev pub AreVisits : Conf → Held → PacketView → Bool → Option State → ℕ → Type 0
 AreVisits conf h p cookie (Some s) visits = visits ≡ 0
 AreVisits conf h p cookie None visits =
@@ -18,7 +17,7 @@ AreVisits conf h p cookie None visits =
 -- with none where it gets a cookie, by whether it does; else by what it meets
 abbrev pub AreVisitsUnless : Bool → Conf → Held → PacketView → Bool → ℕ → Type 0
 AreVisitsUnless true conf met p cookie visits = visits ≡ 0
-AreVisitsUnless false conf met p cookie visits = AreVisits conf met p cookie (state_with (key_of p) met.world) visits
+AreVisitsUnless false conf met p cookie visits = AreVisits conf met p cookie (state_for met.world p) visits
 
 -- behind the guard
 abbrev pub AreVisitsBehindGuard : Conf → Guard → Held → PacketView → ℕ → ℕ → Type 0

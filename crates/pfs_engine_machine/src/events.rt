@@ -81,8 +81,13 @@ pub enum Outcome {
     Stateless(Option<RuleNo>),
     /// The rule blocked the packet.
     Block(RuleNo),
+    /// The rule's `nat-to` found no port whose key is free, so that the packet was dropped. (pf.conf(5), TRANSLATION)
+    Lost(RuleNo),
     /// The rule passed the packet, and its state was refused for this limit.
     Drop(RuleNo, Limit),
+    /// The rule passed the packet, and no limit was met, but another state has a key of its state, on the wire or inside.
+    /// (pf of OpenBSD counts it as "state-insert")
+    Conflict(RuleNo),
     /// The packet completed a handshake past a limit of the rule, and states were killed.
     Kill {
         /// The rule of the state.

@@ -1,6 +1,6 @@
 -- What a completed handshake hits, and which states are killed then. (pf.conf(5), STATEFUL TRACKING OPTIONS, "max-src-conn",
 -- "max-src-conn-rate" and "overload"; that the state itself is killed in any case is own)
-use Rattle.std.specs.Prelude.{ℕ, ◌*◌, ◌==◌, not, nat_lt, Bool, false, Option, Some, None}
+use Rattle.std.specs.Prelude.{ℕ, ◌*◌, ◌==◌, ◌||◌, not, nat_lt, Bool, false, Option, Some, None}
 use Rattle.pfs_addr_values.specs.declared.addresses.Addr.{Addr}
 use Rattle.pfs_addr_values.specs.declared.packets.Dir.{Dir}
 use Rattle.pfs_conf_values.specs.Configs.{Conf, options_of}
@@ -34,12 +34,16 @@ abbrev pub flush_of : Option Overload → Option Scope
 flush_of None = None
 flush_of (Some o) = o.flush
 
--- a state is killed with that of this number, direction, rule and source: that one itself; with `flush` those of its source and rule;
--- with `flush global` those of its source (itself is one of them)
+-- what a rule flushes is flushed with a state of this direction, rule and source: with `flush` the states of its source and rule; with
+-- `flush global` those of its source
+abbrev pub goes_beside : Profile → Option Scope → Dir → RuleNo → Addr → State → Bool
+goes_beside profile None dir rule source s = false
+goes_beside profile (Some scope.Rule) dir rule source s = is_flushed profile dir source (Some rule) s
+goes_beside profile (Some scope.Global) dir rule source s = is_flushed profile dir source None s
+
+-- a state is killed with that of this number, direction, rule and source: that one itself, and what is flushed with it
 abbrev pub goes_with : Profile → Option Scope → ℕ → Dir → RuleNo → Addr → State → Bool
-goes_with profile None number dir rule source s = s.number == number
-goes_with profile (Some scope.Rule) number dir rule source s = is_flushed profile dir source (Some rule) s
-goes_with profile (Some scope.Global) number dir rule source s = is_flushed profile dir source None s
+goes_with profile flush number dir rule source s = (s.number == number) || goes_beside profile flush dir rule source s
 
 abbrev pub stays_at_kill : Profile → Option Scope → ℕ → Dir → RuleNo → Addr → State → Bool
 stays_at_kill profile flush number dir rule source s = not (goes_with profile flush number dir rule source s)
