@@ -59,6 +59,8 @@ outcome_text (outcome.Pass r) = codes "pass " ++ mark_text r
 outcome_text outcome.Cookie = codes "cookie -"
 outcome_text (outcome.Stateless r) = codes "drop:cookie " ++ mark_text r
 outcome_text (outcome.Block r) = codes "block " ++ mark_text (Some r)
+outcome_text (outcome.Lost r) = codes "drop:translate " ++ mark_text (Some r)
+outcome_text (outcome.Conflict r) = codes "drop:state-insert " ++ mark_text (Some r)
 outcome_text (outcome.Drop r l) = limit_word l ++ (codes " " ++ mark_text (Some r))
 outcome_text (outcome.Kill r limits overload killed) =
     kill_word limits ++ (codes " " ++ (mark_text (Some r) ++ (codes " overload=" ++ (overload_word overload ++ (codes " killed=" ++ decimal killed)))))

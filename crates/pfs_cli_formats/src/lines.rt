@@ -147,7 +147,9 @@ fn rule(outcome: &Outcome) -> Option<RuleNo>
         | Outcome::Taken(rule)
         | Outcome::Asking(rule)
         | Outcome::Block(rule)
+        | Outcome::Lost(rule)
         | Outcome::Drop(rule, _)
+        | Outcome::Conflict(rule)
         | Outcome::Kill { rule, .. } => Some(rule),
         Outcome::Pass(rule) | Outcome::Stateless(rule) => rule,
         Outcome::Cookie
@@ -174,11 +176,13 @@ fn lead(outcome: &Outcome) -> &'static str
         Outcome::Stateless(Some(_)) => " drop:cookie @",
         Outcome::Stateless(None) => " drop:cookie -",
         Outcome::Block(_) => " block @",
+        Outcome::Lost(_) => " drop:translate @",
         Outcome::Drop(_, Limit::Max) => " drop:max @",
         Outcome::Drop(_, Limit::MaxSrcNodes) => " drop:max-src-nodes @",
         Outcome::Drop(_, Limit::SrcNodes) => " drop:src-nodes @",
         Outcome::Drop(_, Limit::MaxSrcStates) => " drop:max-src-states @",
         Outcome::Drop(_, Limit::States) => " drop:states @",
+        Outcome::Conflict(_) => " drop:state-insert @",
         Outcome::Kill {
             exceeded: Exceeded::Connections,
             ..

@@ -1,5 +1,6 @@
 pub mod AskingLaws
 pub mod FilterLaws
+pub mod LeavingLaws
 pub mod LimitLaws
 pub mod MomentLaws
 pub mod ScopeLaws

@@ -28,6 +28,8 @@ fn read(words: &str) -> Option<Outcome> {
         "proxy:asks" => Some(Outcome::Asking(rule(rest)?)),
         "proxy:new" => Some(Outcome::Answered(rule(rest)?)),
         "block" => Some(Outcome::Block(rule(rest)?)),
+        "drop:translate" => Some(Outcome::Lost(rule(rest)?)),
+        "drop:state-insert" => Some(Outcome::Conflict(rule(rest)?)),
         _ => match word.strip_prefix("drop:") {
             Some(word) => Some(Outcome::Drop(rule(rest)?, limit(word)?)),
             None => kill(word, rest),
