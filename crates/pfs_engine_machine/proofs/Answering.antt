@@ -2,7 +2,6 @@
 use Rattle.std.proofs.Common.{◌≡◌, ◌||◌, ℕ, Bool, true, false, if◌then◌else◌, Option, None, Some, IsSome, Result, Ok, Err, IfOk, ap, refl, sym, ◌∙◌, unwrap_or}
 use Rattle.std.proofs.lemmas.Bool.{false≢true}
 use Rattle.std.specs.Option.{option_and_then}
-use Rattle.pfs_addr_values.specs.Keys.{key_of}
 use Rattle.pfs_addr_values.specs.Packets.{PacketView}
 use Rattle.pfs_conf_values.specs.Configs.{Conf, no_rule, options_at, options_in, rule_at, rule_of, scope_of}
 use Rattle.pfs_conf_values.specs.Invariants.{IsConfig}
@@ -16,61 +15,86 @@ use Rattle.pfs_store_contract.specs.Admission.{is_answered, world_after_admissio
 use Rattle.pfs_store_contract.specs.Calls.{packet_limit}
 use Rattle.pfs_store_contract.specs.Handshakes.{hits_connections, hits_rate}
 use Rattle.pfs_store_contract.specs.Touching.{completes_at, is_asking, is_taken, world_after_touch}
-use Rattle.pfs_store_contract.specs.Worlds.{state_with}
 use Rattle.pfs_store_contract.specs.declared.records.Limit.{Limit}
 use Rattle.pfs_store_contract.specs.declared.records.State.{State}
 use Rattle.pfs_engine_machine.specs.Kept.{IsKept, IsWithinShared}
 use Rattle.pfs_engine_machine.specs.Guards.{Guard, asked, brings_cookie, gets_cookie}
-use Rattle.pfs_engine_machine.specs.Machine.{Held, answer_behind_guard, answer_to_packet, answer_of_action, answer_of_exceeded, answer_of_key, answer_of_limits, answer_of_rule, answer_of_state, answer_of_handshake, deciding_rule, exceeded_of, held_behind_guard, held_for, held_of, held_refused, outcome_of_held, outcome_of_new, outcome_of_pass, packet_ruled}
+use Rattle.pfs_engine_machine.specs.Machine.{Held, answer_behind_guard, answer_to_packet, answer_of_action, answer_of_exceeded, answer_of_key, answer_of_limits, answer_of_rule, answer_of_state, answer_of_handshake, deciding_rule, exceeded_of, held_behind_guard, held_for, held_of, held_refused, outcome_of_held, outcome_of_new, outcome_of_pass, packet_ruled, answer_of_keys, answer_of_loss, losing_rule}
 use Rattle.pfs_engine_machine.specs.Refusals.{IsDropped, IsDroppedBehindGuard}
 use Rattle.pfs_engine_machine.specs.declared.events.Exceeded.{Exceeded}
 use Rattle.pfs_engine_machine.specs.declared.events.Outcome.{Outcome}
 use Rattle.pfs_engine_machine.specs.declared.events.Outcome.TheVariants as outcome
-use Rattle.pfs_engine_machine.proofs.KeptAdmission.{shared_admitted}
+use Rattle.pfs_engine_machine.specs.Sides.{state_for, are_free}
+use Rattle.pfs_engine_machine.proofs.KeptAdmission.{shared_admitted, IsLedOn}
 use Rattle.pfs_engine_machine.proofs.Reopening.{kept_met}
+use Rattle.pfs_engine_machine.proofs.Leading.{led_on}
 
 -- what holds of each answer holds of a packet's, which meets this
 pub record Answers (conf : Conf) (m : Held) (p : PacketView) (cookie : Bool) (now : ℕ) (Q : Outcome × Held → Type 0) : Type 0 where
-  pub held : (s : State) → state_with (key_of p) m.world ≡ Some s → Q (answer_of_state conf m p cookie now (Some s))
+  pub held : (s : State) → state_for m.world p ≡ Some s → Q (answer_of_state conf m p cookie now (Some s))
   pub passes : Q (outcome_of_pass None cookie, m)
   pub passed : (rule : ℕ) → Q (outcome_of_pass (Some (record { 0 = rule })) cookie, m)
   pub blocked : (rule : ℕ) → Q (outcome.Block (record { 0 = rule }), m)
+  pub lost : (rule : ℕ) → Q (outcome.Lost (record { 0 = rule }), m)
   pub refused : (rule : ℕ) (limit : Limit) → IsDropped conf m p cookie rule limit → Q (outcome.Drop (record { 0 = rule }) limit, held_refused conf m p now rule limit)
-  pub made : (rule : ℕ) (going : PacketView) → packet_limit conf m.world p rule ≡ None
+  pub conflicts : (rule : ℕ) → Q (outcome.Conflict (record { 0 = rule }), m)
+  pub made : (rule : ℕ) (going : PacketView) → packet_limit conf m.world p rule ≡ None → IsLedOn conf p going → are_free m.world p going ≡ true
       → Q (outcome_of_new (record { 0 = rule }) (cookie || is_answered conf rule p), held_of (world_after_admission conf m.world p going rule cookie now) m.tables)
+
+-- it is one of no held state, no rule loses it, and this one decides
+record IsAsked (conf : Conf) (m : Held) (p : PacketView) (cookie : Bool) (rule : ℕ) : Type 0 where
+  fresh : state_for m.world p ≡ None
+  passes : losing_rule conf m (asked p cookie) ≡ None
+  rule_is : deciding_rule conf m (asked p cookie) ≡ Some rule
 
 keeps_state : (found : Option Rule) (o : StateOptions) → (unwrap_or found no_rule).action ≡ action.Keep o
     → IsSome (option_and_then (λ (r : Rule). options_in r.action) found)
 keeps_state None o e = cc
 keeps_state (Some r) o e = rw e refl
 
+key_answers : (conf : Conf) (m : Held) (p going : PacketView) (cookie : Bool) (now rule : ℕ) (Q : Outcome × Held → Type 0) → Answers conf m p cookie now Q
+    → packet_limit conf m.world p rule ≡ None → IsLedOn conf p going
+    → (free : Bool) → are_free m.world p going ≡ free → Q (answer_of_keys conf m p going cookie now rule free)
+key_answers conf m p going cookie now rule Q a none led true e = a.made rule going none led e
+key_answers conf m p going cookie now rule Q a none led false e = a.conflicts rule
+
 limit_answers : (conf : Conf) (m : Held) (p going : PacketView) (cookie : Bool) (now rule : ℕ) (Q : Outcome × Held → Type 0) → Answers conf m p cookie now Q
-    → state_with (key_of p) m.world ≡ None → deciding_rule conf m (asked p cookie) ≡ Some rule → IsSome (options_at conf rule)
+    → IsAsked conf m p cookie rule → IsLedOn conf p going → IsSome (options_at conf rule)
     → (limit : Option Limit) → packet_limit conf m.world p rule ≡ limit → Q (answer_of_limits conf m p going cookie now rule limit)
-limit_answers conf m p going cookie now rule Q a fresh at keeps None e = a.made rule going e
-limit_answers conf m p going cookie now rule Q a fresh at keeps (Some l) e = a.refused rule l (record { fresh = fresh; rule_is = at; keeps = keeps; met = e })
+limit_answers conf m p going cookie now rule Q a is led keeps None e = key_answers conf m p going cookie now rule Q a e led (are_free m.world p going) refl
+limit_answers conf m p going cookie now rule Q a is led keeps (Some l) e =
+    a.refused rule l (record { fresh = is.fresh; passes = is.passes; rule_is = is.rule_is; keeps = keeps; met = e })
 
 action_answers : (conf : Conf) (m : Held) (p going : PacketView) (cookie : Bool) (now rule : ℕ) (Q : Outcome × Held → Type 0) → Answers conf m p cookie now Q
-    → state_with (key_of p) m.world ≡ None → deciding_rule conf m (asked p cookie) ≡ Some rule
+    → IsAsked conf m p cookie rule → IsLedOn conf p going
     → (what : Action) → (rule_of conf rule).action ≡ what → Q (answer_of_action conf m p going cookie now rule what)
-action_answers conf m p going cookie now rule Q a fresh at action.Match e = a.passes
-action_answers conf m p going cookie now rule Q a fresh at action.Block e = a.blocked rule
-action_answers conf m p going cookie now rule Q a fresh at action.Pass e = a.passed rule
-action_answers conf m p going cookie now rule Q a fresh at (action.Keep o) e =
-    limit_answers conf m p going cookie now rule Q a fresh at (keeps_state (rule_at conf rule) o e) (packet_limit conf m.world p rule) refl
+action_answers conf m p going cookie now rule Q a is led action.Match e = a.passes
+action_answers conf m p going cookie now rule Q a is led action.Block e = a.blocked rule
+action_answers conf m p going cookie now rule Q a is led action.Pass e = a.passed rule
+action_answers conf m p going cookie now rule Q a is led (action.Keep o) e =
+    limit_answers conf m p going cookie now rule Q a is led (keeps_state (rule_at conf rule) o e) (packet_limit conf m.world p rule) refl
 
 rule_answers : (conf : Conf) (m : Held) (p going : PacketView) (cookie : Bool) (now : ℕ) (Q : Outcome × Held → Type 0) → Answers conf m p cookie now Q
-    → state_with (key_of p) m.world ≡ None → (rule : Option ℕ) → deciding_rule conf m (asked p cookie) ≡ rule → Q (answer_of_rule conf m p going cookie now rule)
-rule_answers conf m p going cookie now Q a fresh None e = a.passes
-rule_answers conf m p going cookie now Q a fresh (Some rule) e = action_answers conf m p going cookie now rule Q a fresh e (rule_of conf rule).action refl
+    → state_for m.world p ≡ None → losing_rule conf m (asked p cookie) ≡ None → IsLedOn conf p going
+    → (rule : Option ℕ) → deciding_rule conf m (asked p cookie) ≡ rule → Q (answer_of_rule conf m p going cookie now rule)
+rule_answers conf m p going cookie now Q a fresh passes led None e = a.passes
+rule_answers conf m p going cookie now Q a fresh passes led (Some rule) e =
+    action_answers conf m p going cookie now rule Q a (record { fresh = fresh; passes = passes; rule_is = e }) led (rule_of conf rule).action refl
+
+loss_answers : (conf : Conf) (m : Held) (p : PacketView) (cookie : Bool) (now : ℕ) (Q : Outcome × Held → Type 0) → Answers conf m p cookie now Q
+    → state_for m.world p ≡ None → (loses : Option ℕ) → losing_rule conf m (asked p cookie) ≡ loses
+    → Q (answer_of_loss conf m p (packet_ruled conf m (asked p cookie)) cookie now (deciding_rule conf m (asked p cookie)) loses)
+loss_answers conf m p cookie now Q a fresh (Some rule) e = a.lost rule
+loss_answers conf m p cookie now Q a fresh None e =
+    rule_answers conf m p (packet_ruled conf m (asked p cookie)) cookie now Q a fresh e (led_on conf m p cookie) (deciding_rule conf m (asked p cookie)) refl
 
 state_answers : (conf : Conf) (m : Held) (p : PacketView) (cookie : Bool) (now : ℕ) (Q : Outcome × Held → Type 0) → Answers conf m p cookie now Q
-    → (found : Option State) → state_with (key_of p) m.world ≡ found → Q (answer_of_state conf m p cookie now found)
-state_answers conf m p cookie now Q a None e = rule_answers conf m p (packet_ruled conf m (asked p cookie)) cookie now Q a e (deciding_rule conf m (asked p cookie)) refl
+    → (found : Option State) → state_for m.world p ≡ found → Q (answer_of_state conf m p cookie now found)
+state_answers conf m p cookie now Q a None e = loss_answers conf m p cookie now Q a e (losing_rule conf m (asked p cookie)) refl
 state_answers conf m p cookie now Q a (Some s) e = a.held s e
 
 pub answered_has : (conf : Conf) (m : Held) (p : PacketView) (cookie : Bool) (now : ℕ) (Q : Outcome × Held → Type 0) → Answers conf m p cookie now Q → Q (answer_of_key conf m p cookie now)
-answered_has conf m p cookie now Q a = state_answers conf m p cookie now Q a (state_with (key_of p) m.world) refl
+answered_has conf m p cookie now Q a = state_answers conf m p cookie now Q a (state_for m.world p) refl
 
 -- ---- a packet of a held state is not refused, and makes no state
 
@@ -84,7 +108,9 @@ is_of_held (outcome.Pass r) = false
 is_of_held outcome.Cookie = false
 is_of_held (outcome.Stateless r) = false
 is_of_held (outcome.Block r) = false
+is_of_held (outcome.Lost r) = false
 is_of_held (outcome.Drop r l) = false
+is_of_held (outcome.Conflict r) = false
 is_of_held (outcome.Kill r e o k) = true
 is_of_held outcome.Skip = false
 is_of_held (outcome.Expire n) = false
@@ -134,12 +160,14 @@ refused_only conf m p cookie now = answered_has conf m p cookie now (RefusedOnly
   passes = λ rule limit e. refuse-pass None cookie rule limit e;
   passed = λ r rule limit e. refuse-pass (Some (numbered r)) cookie rule limit e;
   blocked = λ r rule limit e. cc;
+  lost = λ r rule limit e. cc;
+  conflicts = λ r rule limit e. cc;
   refused = λ r l is rule limit e.
       let rules : numbered r ≡ rule = cc in
       let limits : l ≡ limit = cc in
       let number : r ≡ rule.0 = ap (λ (x : RuleNo). x.0) rules in
       (rw (sym number, sym limits) is, ap (λ (n : ℕ). held_refused conf m p now n l) number ∙ ap (λ (x : Limit). held_refused conf m p now rule.0 x) limits);
-  made = λ r going none rule limit e. refuse-new (numbered r) (cookie || is_answered conf r p) rule limit e;
+  made = λ r going none led free rule limit e. refuse-new (numbered r) (cookie || is_answered conf r p) rule limit e;
 })
 
 -- ---- none gets a cookie by rules; and one for which no rule keeps state leaves all as it is
@@ -166,8 +194,10 @@ no_cookie_by_rules conf m p cookie now = answered_has conf m p cookie now (λ (a
   passes = pass-given None cookie;
   passed = λ r. pass-given (Some (numbered r)) cookie;
   blocked = λ r e. cc;
+  lost = λ r e. cc;
   refused = λ r l is e. cc;
-  made = λ r going none. new-given (numbered r) (cookie || is_answered conf r p);
+  conflicts = λ r e. cc;
+  made = λ r going none led free. new-given (numbered r) (cookie || is_answered conf r p);
 })
 
 abbrev pub LeavesAll : Held → Bool → Outcome × Held → Type 0
@@ -179,8 +209,10 @@ stateless_leaves_all conf m p cookie now = answered_has conf m p cookie now (Lea
   passes = λ rule e. (pass-brought None cookie rule e, refl);
   passed = λ r rule e. (pass-brought (Some (numbered r)) cookie rule e, refl);
   blocked = λ r rule e. cc;
+  lost = λ r rule e. cc;
   refused = λ r l is rule e. cc;
-  made = λ r going none rule e. absurd (new-brought (numbered r) (cookie || is_answered conf r p) rule e);
+  conflicts = λ r rule e. cc;
+  made = λ r going none led free rule e. absurd (new-brought (numbered r) (cookie || is_answered conf r p) rule e);
 })
 
 abbrev pub MadeShared : Conf → Held → PacketView → Outcome × Held → Type 0
@@ -211,7 +243,9 @@ not-held (outcome.Pass r) rule h e = false≢true h
 not-held outcome.Cookie rule h e = false≢true h
 not-held (outcome.Stateless r) rule h e = false≢true h
 not-held (outcome.Block r) rule h e = false≢true h
+not-held (outcome.Lost r) rule h e = false≢true h
 not-held (outcome.Drop r l) rule h e = false≢true h
+not-held (outcome.Conflict r) rule h e = false≢true h
 not-held (outcome.Kill r x o k) rule h e = cc
 not-held outcome.Skip rule h e = false≢true h
 not-held (outcome.Expire n) rule h e = false≢true h
@@ -230,8 +264,10 @@ made_shared conf m p cookie now config kept = answered_has conf m p cookie now (
   passes = λ rule answered e. absurd (let no = sym (maker-pass None cookie) ∙ made-by _ rule answered e in cc);
   passed = λ r rule answered e. absurd (let no = sym (maker-pass (Some (numbered r)) cookie) ∙ made-by _ rule answered e in cc);
   blocked = λ r rule answered e. absurd (let no = made-by _ rule answered e in cc);
+  lost = λ r rule answered e. absurd (let no = made-by _ rule answered e in cc);
   refused = λ r l is rule answered e. absurd (let no = made-by _ rule answered e in cc);
-  made = λ r going none rule answered e global.
+  conflicts = λ r rule answered e. absurd (let no = made-by _ rule answered e in cc);
+  made = λ r going none led free rule answered e global.
       let some : Some (numbered r) ≡ Some rule = sym (maker-new (numbered r) (cookie || is_answered conf r p)) ∙ made-by _ rule answered e in
       let same : numbered r ≡ rule = cc in
       let number : r ≡ rule.0 = ap (λ (x : RuleNo). x.0) same in

@@ -1,25 +1,21 @@
 -- The connections of a source after a packet of one of its states, and after states are killed for it.
-use Rattle.std.proofs.Common.{◌≡◌, ◌≤◌, ◌==◌, ◌&&◌, ◌⊎◌, inl, inr, not, ℕ, Bool, true, false, if◌then◌else◌, Option, None, Some, List, All, filter, map, refl, ap, sym, ◌∙◌, arith, subst, eq-eqb}
-use Rattle.std.proofs.lemmas.Bool.{and_from, and_parts, and_right, eqb-true, false≢true, ltb-false}
+use Rattle.std.proofs.Common.{◌≡◌, ◌≤◌, ◌==◌, ◌&&◌, ◌||◌, ◌⊎◌, inl, inr, not, ℕ, Bool, true, false, if◌then◌else◌, Option, None, Some, List, All, filter, map, refl, ap, sym, ◌∙◌, arith, subst, eq-eqb}
+use Rattle.std.proofs.lemmas.Bool.{and_parts, and_right, eqb-true, false≢true, ltb-false}
 use Rattle.std.proofs.lemmas.List.Elements.{All-weaker}
-use Rattle.pfs_addr_values.proofs.SameLaws.{same_addr_self, same_addr_true}
+use Rattle.pfs_addr_values.proofs.SameLaws.{same_addr_true}
 use Rattle.pfs_addr_values.specs.Packets.{PacketView}
 use Rattle.pfs_addr_values.specs.Sameness.{same_addr}
 use Rattle.pfs_addr_values.specs.declared.addresses.Addr.{Addr}
 use Rattle.pfs_conf_values.specs.Configs.{Conf, options_of, scope_of}
 use Rattle.pfs_conf_values.specs.declared.actions.Scope.{Scope}
-use Rattle.pfs_conf_values.specs.declared.actions.Scope.TheVariants as scope
-use Rattle.pfs_conf_values.specs.declared.profiles.Profile.{Profile}
-use Rattle.pfs_conf_values.specs.declared.profiles.Profile.TheVariants as profile
 use Rattle.pfs_store_contract.specs.Counts.{node_scope_of, exceeds_maximum, is_connection, is_of_node, node_connections, node_scope_under}
-use Rattle.pfs_store_contract.specs.Handshakes.{goes_with, hits_connections, stays_at_kill}
-use Rattle.pfs_store_contract.specs.Leaving.{is_beside}
+use Rattle.pfs_store_contract.specs.Handshakes.{goes_beside, goes_with, hits_connections, stays_at_kill}
 use Rattle.pfs_store_contract.specs.Touching.{completes_at, connections_in, goes_forward, numbered_state_after, state_after_packet, world_after_touch}
 use Rattle.pfs_store_contract.specs.Worlds.{World}
 use Rattle.pfs_store_contract.specs.declared.records.NodeScope.{NodeScope}
 use Rattle.pfs_store_contract.specs.declared.records.State.{State}
 use Rattle.pfs_track.specs.StatePhases.{is_done, phase_after}
-use Rattle.pfs_engine_machine.specs.Kept.{HasSource, IsWithin, TracksAlone, own_scope}
+use Rattle.pfs_engine_machine.specs.Kept.{IsWithin, TracksAlone, own_scope}
 use Rattle.pfs_engine_machine.proofs.Changes.{count-map_at, count-stay_le}
 use Rattle.pfs_engine_machine.proofs.Renewals.{is_done-same}
 
@@ -89,25 +85,18 @@ connections-within conf w p now s rule source alone own few =
 
 -- ---- states are killed
 
--- it is one of those that a flush takes for those of its source
-stepped-beside : (by : Profile) (p : PacketView) (now : ℕ) (s : State) → HasSource s → is_beside by s.dir s.source (state_after_packet p now s) ≡ true
-stepped-beside profile.Own p now s h = same_addr_self s.source
-stepped-beside profile.OpenBsd74 p now s h = ap (λ (a : Addr). same_addr a s.source) h ∙ same_addr_self s.source
-
--- so the state of the packet is killed in any case
-stepped-goes : (conf : Conf) (p : PacketView) (now : ℕ) (s : State) (flush : Option Scope) → HasSource s
+-- the state of the packet is killed in any case
+stepped-goes : (conf : Conf) (p : PacketView) (now : ℕ) (s : State) (flush : Option Scope)
     → goes_with conf.profile flush s.number s.dir s.rule s.source (state_after_packet p now s) ≡ true
-stepped-goes conf p now s None h = eq-eqb s.number s.number refl
-stepped-goes conf p now s (Some scope.Rule) h =
-    and_from (s.rule.0 == s.rule.0) (is_beside conf.profile s.dir s.source (state_after_packet p now s)) (eq-eqb s.rule.0 s.rule.0 refl) (stepped-beside conf.profile p now s h)
-stepped-goes conf p now s (Some scope.Global) h = stepped-beside conf.profile p now s h
+stepped-goes conf p now s flush =
+    ap (λ b. b || goes_beside conf.profile flush s.dir s.rule s.source (state_after_packet p now s)) (eq-eqb s.number s.number refl)
 
 -- so those that stay are as before, and no node has more connections
 pub connections-killed : (conf : Conf) (w : World) (p : PacketView) (now : ℕ) (s : State) (flush : Option Scope) (sc : NodeScope) (source : Addr)
-    → IsAlone s w.states → HasSource s
+    → IsAlone s w.states
     → node_connections conf sc source (filter (stays_at_kill conf.profile flush s.number s.dir s.rule s.source) (map (numbered_state_after s.number p now) w.states))
     ≤ node_connections conf sc source w.states
-connections-killed conf w p now s flush sc source alone own =
+connections-killed conf w p now s flush sc source alone =
     count-stay_le (is_connection conf sc source) stays (numbered_state_after s.number p now) w.states
     (All-weaker (λ (t : State). t.number ≡ s.number → t ≡ s) (λ (t : State). stays (numbered_state_after s.number p now t) ≡ true → numbered_state_after s.number p now t ≡ t)
     (renewed-cases s p now (λ t u. stays u ≡ true → u ≡ t) (λ k. absurd (false≢true (sym gone ∙ k))) (λ t k. refl))
@@ -117,4 +106,4 @@ connections-killed conf w p now s flush sc source alone own =
     stays = stays_at_kill conf.profile flush s.number s.dir s.rule s.source
 
     gone : stays (state_after_packet p now s) ≡ false
-    gone = ap not (stepped-goes conf p now s flush own)
+    gone = ap not (stepped-goes conf p now s flush)

@@ -22,7 +22,7 @@ use Rattle.pfs_conf_values.specs.declared.timeouts.TimeoutName.TheVariants as ti
 use Rattle.pfs_store_contract.specs.Counts.{has_node, is_node, is_of_node, node_scope_under, node_scope_of, node_states, same_scope}
 use Rattle.pfs_store_contract.specs.Leaving.{node_retention}
 use Rattle.pfs_store_contract.specs.Touching.{node_score, nodes_scored, numbered_state_after, node_after_handshake, state_after_packet}
-use Rattle.pfs_store_contract.specs.Worlds.{World, state_with}
+use Rattle.pfs_store_contract.specs.Worlds.{World}
 use Rattle.pfs_store_contract.specs.declared.records.Node.{Node}
 use Rattle.pfs_store_contract.specs.declared.records.NodeScope.{NodeScope}
 use Rattle.pfs_store_contract.specs.declared.records.NodeScope.TheVariants as node_scope
@@ -31,6 +31,7 @@ use Rattle.pfs_track.specs.Scores.{score_after}
 use Rattle.pfs_track.specs.declared.scores.Score.{Score}
 use Rattle.pfs_engine_machine.proofs.Counts.{any-map, count-map}
 use Rattle.pfs_engine_machine.specs.Kept.{TracksAlone, own_scope}
+use Rattle.pfs_engine_machine.specs.Sides.{state_for}
 use Rattle.pfs_engine_machine.proofs.Lists.{both, count-found, each-map}
 use Rattle.pfs_store_contract.proofs.ScopeLaws.{same_scope_true}
 use Rattle.pfs_engine_machine.proofs.Remembering.{IsKnown, Knows, Remembers}
@@ -171,7 +172,7 @@ states-touched conf scope source number p now ss = count-map (is_of_node conf sc
     one s false = refl
 
 -- a state that is found is counted
-pub found-count : (conf : Conf) (rule : ℕ) (source : Addr) (p : PacketView) (w : World) (s : State) → state_with (key_of p) w ≡ Some s → is_of rule source s ≡ true
+pub found-count : (conf : Conf) (rule : ℕ) (source : Addr) (p : PacketView) (w : World) (s : State) → state_for w p ≡ Some s → is_of rule source s ≡ true
     → 0 < node_states conf (own_scope rule) source w.states
 found-count conf rule source p w s e f = count-found (λ (t : State). same_key t.key (key_of p)) (is_of_node conf (own_scope rule) source) s w.states e f
 

@@ -6,7 +6,6 @@ use Rattle.std.specs.Prelude.{length, option_map, slice_get}
 use Rattle.std.proofs.lemmas.Bool.{false≢true}
 use Rattle.std.proofs.lemmas.Bool.Decides.{nat_tests}
 use Rattle.pfs_addr_values.proofs.SameLaws.{same_addr_self, same_addr_true}
-use Rattle.pfs_addr_values.specs.Keys.{key_of}
 use Rattle.pfs_addr_values.specs.Packets.{PacketView}
 use Rattle.pfs_addr_values.specs.Sameness.{same_addr}
 use Rattle.pfs_addr_values.specs.declared.addresses.Addr.{Addr}
@@ -20,7 +19,7 @@ use Rattle.pfs_store_contract.specs.Handshakes.{hits_connections, hits_rate, ove
 use Rattle.pfs_store_contract.specs.Leaving.{world_without}
 use Rattle.pfs_store_contract.specs.Purging.{node_round, node_share, purge, state_round, state_share, state_slice, stays}
 use Rattle.pfs_store_contract.specs.Touching.{completes_at, is_asking, is_taken, may_reopen, node_score, nodes_scored, nodes_touched, score_in, world_after_touch}
-use Rattle.pfs_store_contract.specs.Worlds.{World, state_with}
+use Rattle.pfs_store_contract.specs.Worlds.{World}
 use Rattle.pfs_store_contract.specs.declared.records.Limit.{Limit}
 use Rattle.pfs_store_contract.specs.declared.records.Node.{Node}
 use Rattle.pfs_store_contract.specs.declared.records.NodeScope.{NodeScope}
@@ -47,6 +46,7 @@ use Rattle.pfs_engine_machine.proofs.Lists.{both, each-of, each-push}
 use Rattle.pfs_engine_machine.proofs.Remembering.{IsKnown, Knows, Remembers, remembers-later, remembers-left, remembers-purged}
 use Rattle.pfs_store_contract.proofs.ScopeLaws.{same_scope_true}
 use Rattle.pfs_engine_machine.specs.RateMemory.{IsHandshake, RateIsRemembered, ScoreIsRemembered, rate_hit, score_compared}
+use Rattle.pfs_engine_machine.specs.Sides.{state_for}
 
 -- ---- a new state
 
@@ -145,7 +145,7 @@ with-count rule source seconds now history count count' nodes e r = subst (λ (c
 
 -- the history after a packet of a state that is found
 touched-in : (conf : Conf) (rule : ℕ) (source : Addr) (x : Rate) (now : ℕ) (history : Score) (w : World) (p : PacketView) (s : State) → IsRated conf rule x
-    → state_with (key_of p) w ≡ Some s → RemembersIn conf rule source x.seconds now history w
+    → state_for w p ≡ Some s → RemembersIn conf rule source x.seconds now history w
     → RemembersIn conf rule source x.seconds now (heard rule source x.seconds history now (completed_state p (Some s))) (world_after_touch conf w s p now)
 touched-in conf rule source x now history w p s i found r =
     with-count rule source x.seconds now (heard rule source x.seconds history now (completed_state p (Some s))) (node_states conf (own_scope rule) source w.states)
@@ -158,14 +158,14 @@ touched-in conf rule source x now history w p s i found r =
 
 packet-in : (conf : Conf) (rule : ℕ) (source : Addr) (x : Rate) (now : ℕ) (history : Score) (w : World) (p : PacketView) (cookie : Bool) → IsRated conf rule x
     → RemembersIn conf rule source x.seconds now history w
-    → Changes conf w p cookie now (RemembersIn conf rule source x.seconds now (heard rule source x.seconds history now (completed_state p (state_with (key_of p) w))))
+    → Changes conf w p cookie now (RemembersIn conf rule source x.seconds now (heard rule source x.seconds history now (completed_state p (state_for w p))))
 packet-in conf rule source x now history w p cookie i r = record {
-  passes = λ fresh. given (state_with (key_of p) w) None w fresh r;
-  admits = λ other going fresh none. given (state_with (key_of p) w) None (world_after_admission conf w p going other cookie now) fresh (admitted-in conf rule source x now history w p going cookie other now i r);
-  touches = λ s found. given (state_with (key_of p) w) (Some s) (world_after_touch conf w s p now) found (touched-in conf rule source x now history w p s i found r);
-  refuses = λ other limit fresh met. given (state_with (key_of p) w) None (world_after_refusal conf w p.source.addr other now limit) fresh
+  passes = λ fresh. given (state_for w p) None w fresh r;
+  admits = λ other going fresh none led free. given (state_for w p) None (world_after_admission conf w p going other cookie now) fresh (admitted-in conf rule source x now history w p going cookie other now i r);
+  touches = λ s found. given (state_for w p) (Some s) (world_after_touch conf w s p now) found (touched-in conf rule source x now history w p s i found r);
+  refuses = λ other limit fresh met. given (state_for w p) None (world_after_refusal conf w p.source.addr other now limit) fresh
       (refused-in conf rule source x.seconds now history w p other now limit r);
-  kills = λ v stay k. without-in conf rule source x now (heard rule source x.seconds history now (completed_state p (state_with (key_of p) w))) v stay i k;
+  kills = λ v stay k. without-in conf rule source x now (heard rule source x.seconds history now (completed_state p (state_for w p))) v stay i k;
 }
   where
     given : (o o' : Option State) (v : World) → o ≡ o' → RemembersIn conf rule source x.seconds now (heard rule source x.seconds history now (completed_state p o')) v
@@ -209,16 +209,16 @@ due-in conf rule source x history i w (Some last) now h r =
 
 -- a packet that may begin a connection anew completes no handshake, whichever state it meets
 completed_when_met : (conf : Conf) (h : Held) (p : PacketView) (now : ℕ)
-    → completed_state p (state_with (key_of p) (held_for conf h p now).world) ≡ completed_state p (state_with (key_of p) h.world)
+    → completed_state p (state_for (held_for conf h p now).world p) ≡ completed_state p (state_for h.world p)
 completed_when_met conf h p now = by (may_reopen conf p) refl
   where
     none : may_reopen conf p ≡ true → (found : Option State) → completed_state p found ≡ None
     none anew None = refl
     none anew (Some s) = ap (λ (b : Bool). cond b (Some s) None) (anew-completes conf p s anew)
 
-    by : (b : Bool) → may_reopen conf p ≡ b → completed_state p (state_with (key_of p) (held_for conf h p now).world) ≡ completed_state p (state_with (key_of p) h.world)
-    by true e = none e (state_with (key_of p) (held_for conf h p now).world) ∙ sym (none e (state_with (key_of p) h.world))
-    by false e = ap (λ (m : Held). completed_state p (state_with (key_of p) m.world)) (met_same conf h p now e)
+    by : (b : Bool) → may_reopen conf p ≡ b → completed_state p (state_for (held_for conf h p now).world p) ≡ completed_state p (state_for h.world p)
+    by true e = none e (state_for (held_for conf h p now).world p) ∙ sym (none e (state_for h.world p))
+    by false e = ap (λ (m : Held). completed_state p (state_for m.world p)) (met_same conf h p now e)
 
 -- nor does one that gets a cookie
 none_completed : (conf : Conf) (g : Guard) (w : World) (p : PacketView) (found : Option State) → gets_cookie conf g w p ≡ true → completed_state p found ≡ None
@@ -227,26 +227,26 @@ none_completed conf g w p (Some s) gets = ap (λ (b : Bool). cond b (Some s) Non
 
 answered-in : (conf : Conf) (rule : ℕ) (source : Addr) (x : Rate) (now : ℕ) (history : Score) (h : Held) (p : PacketView) (cookie : Bool) → IsRated conf rule x
     → RemembersIn conf rule source x.seconds now history h.world
-    → RemembersIn conf rule source x.seconds now (heard rule source x.seconds history now (completed_state p (state_with (key_of p) h.world))) (answer_to_packet conf h p cookie now).1.world
+    → RemembersIn conf rule source x.seconds now (heard rule source x.seconds history now (completed_state p (state_for h.world p))) (answer_to_packet conf h p cookie now).1.world
 answered-in conf rule source x now history h p cookie i r =
     let met : Held = held_for conf h p now in
-    let same : completed_state p (state_with (key_of p) met.world) ≡ completed_state p (state_with (key_of p) h.world) = completed_when_met conf h p now in
+    let same : completed_state p (state_for met.world p) ≡ completed_state p (state_for h.world p) = completed_when_met conf h p now in
     subst (λ (o : Option State). RemembersIn conf rule source x.seconds now (heard rule source x.seconds history now o) (answer_of_key conf met p cookie now).1.world) same
-    (key_has conf met p cookie now (RemembersIn conf rule source x.seconds now (heard rule source x.seconds history now (completed_state p (state_with (key_of p) met.world))))
+    (key_has conf met p cookie now (RemembersIn conf rule source x.seconds now (heard rule source x.seconds history now (completed_state p (state_for met.world p))))
     (packet-in conf rule source x now history met.world p cookie i
     (met_has conf h p now (RemembersIn conf rule source x.seconds now history) r (λ stay. without-in conf rule source x now history h.world stay i r))))
 
 guarded-in : (conf : Conf) (rule : ℕ) (source : Addr) (x : Rate) (now : ℕ) (history : Score) (g : Guard) (h : Held) (p : PacketView) → IsRated conf rule x
     → RemembersIn conf rule source x.seconds now history h.world
-    → RemembersIn conf rule source x.seconds now (heard rule source x.seconds history now (completed_state p (state_with (key_of p) h.world))) (answer_behind_guard conf g h p now).1.world
+    → RemembersIn conf rule source x.seconds now (heard rule source x.seconds history now (completed_state p (state_for h.world p))) (answer_behind_guard conf g h p now).1.world
 guarded-in conf rule source x now history g h p i r = by (gets_cookie conf g h.world p) refl
   where
     after : Option State → World → Type 0
     after o w = RemembersIn conf rule source x.seconds now (heard rule source x.seconds history now o) w
 
     by : (b : Bool) → gets_cookie conf g h.world p ≡ b
-        → after (completed_state p (state_with (key_of p) h.world)) (cond b (outcome.Cookie, h) (answer_to_packet conf h p (brings_cookie g h.world p) now)).1.world
-    by true e = subst (λ (o : Option State). after o h.world) (sym (none_completed conf g h.world p (state_with (key_of p) h.world) e)) r
+        → after (completed_state p (state_for h.world p)) (cond b (outcome.Cookie, h) (answer_to_packet conf h p (brings_cookie g h.world p) now)).1.world
+    by true e = subst (λ (o : Option State). after o h.world) (sym (none_completed conf g h.world p (state_for h.world p) e)) r
     by false e = answered-in conf rule source x now history h p (brings_cookie g h.world p) i r
 
 acted-in : (conf : Conf) (rule : ℕ) (source : Addr) (x : Rate) (first now : ℕ) (history : Score) (g : Guard) (h : Held) → IsRated conf rule x → (what : Arrival)
@@ -335,7 +335,7 @@ own-handshake s = rw (one s.rule.0, same_addr_self s.source) refl
     one a = grind (arith, nat_tests)
 
 -- the score that is compared with the limit
-score-in : (conf : Conf) (x : Rate) (now : ℕ) (history : Score) (w : World) (p : PacketView) (s : State) → IsRated conf s.rule.0 x → state_with (key_of p) w ≡ Some s
+score-in : (conf : Conf) (x : Rate) (now : ℕ) (history : Score) (w : World) (p : PacketView) (s : State) → IsRated conf s.rule.0 x → state_for w p ≡ Some s
     → completes_at p s ≡ true → RemembersIn conf s.rule.0 s.source x.seconds now history w → score_in s.source (world_after_touch conf w s p now).nodes (node_scope_of conf s.rule.0) ≡ score_after x.seconds history now
 score-in conf x now history w p s i found act_done r =
     let some : 0 < node_states conf (own_scope s.rule.0) s.source w.states = found-count conf s.rule.0 s.source p w s found (own-handshake s) in
@@ -354,10 +354,10 @@ rate-hit conf h s now true true false false = refl
 rate-hit conf h s now true false false false = refl
 rate-hit conf h s now false asks false false = refl
 
-hit-in : (conf : Conf) (x : Rate) (now : ℕ) (h : Held) (p : PacketView) (cookie : Bool) (s : State) → IsRated conf s.rule.0 x → completed_state p (state_with (key_of p) h.world) ≡ Some s
+hit-in : (conf : Conf) (x : Rate) (now : ℕ) (h : Held) (p : PacketView) (cookie : Bool) (s : State) → IsRated conf s.rule.0 x → completed_state p (state_for h.world p) ≡ Some s
     → rate_hit (answer_to_packet conf h p cookie now).0 ≡ nat_lt (1000 * x.limit) (score_in s.source (world_after_touch conf h.world s p now).nodes (node_scope_of conf s.rule.0)).value
 hit-in conf x now h p cookie s i e =
-    let q = completed-is p (state_with (key_of p) h.world) s e in
+    let q = completed-is p (state_for h.world p) s e in
     let v : Held = held_of (world_after_touch conf h.world s p now) h.tables in
     let score : Score = score_in s.source v.world.nodes (node_scope_of conf s.rule.0) in
     ap (λ (m : Held). rate_hit (answer_of_key conf m p cookie now).0) (completing_meets conf h p now s q.1)
@@ -367,14 +367,14 @@ hit-in conf x now h p cookie s i e =
     ∙ ap (λ (r : Option Rate). over_rate r score.value) i.is
 
 -- a packet that completes a handshake gets no cookie
-guarded-hit : (conf : Conf) (x : Rate) (now : ℕ) (g : Guard) (h : Held) (p : PacketView) (s : State) → IsRated conf s.rule.0 x → completed_state p (state_with (key_of p) h.world) ≡ Some s
+guarded-hit : (conf : Conf) (x : Rate) (now : ℕ) (g : Guard) (h : Held) (p : PacketView) (s : State) → IsRated conf s.rule.0 x → completed_state p (state_for h.world p) ≡ Some s
     → rate_hit (answer_behind_guard conf g h p now).0 ≡ nat_lt (1000 * x.limit) (score_in s.source (world_after_touch conf h.world s p now).nodes (node_scope_of conf s.rule.0)).value
 guarded-hit conf x now g h p s i e = by (gets_cookie conf g h.world p) refl
   where
     by : (b : Bool) → gets_cookie conf g h.world p ≡ b
         → rate_hit (cond b (outcome.Cookie, h) (answer_to_packet conf h p (brings_cookie g h.world p) now)).0
         ≡ nat_lt (1000 * x.limit) (score_in s.source (world_after_touch conf h.world s p now).nodes (node_scope_of conf s.rule.0)).value
-    by true f = absurd (let no = sym (none_completed conf g h.world p (state_with (key_of p) h.world) f) ∙ e in cc)
+    by true f = absurd (let no = sym (none_completed conf g h.world p (state_for h.world p) f) ∙ e in cc)
     by false f = hit-in conf x now h p (brings_cookie g h.world p) s i e
 
 score-at : (conf : Conf) (x : Rate) (now : ℕ) (history : Score) (w : World) (what : Arrival) (s : State) → IsRated conf s.rule.0 x → handshaking_state w what ≡ Some s
@@ -384,7 +384,7 @@ score-at conf x now history w (arrival.Table table done) s i e r = cc
 score-at conf x now history w (arrival.Kill hosts) s i e r = cc
 score-at conf x now history w arrival.Held s i e r = cc
 score-at conf x now history w (arrival.Packet p) s i e r =
-    let q = completed-is p (state_with (key_of p) w) s e in score-in conf x now history w p s i q.0 q.1 r
+    let q = completed-is p (state_for w p) s e in score-in conf x now history w p s i q.0 q.1 r
 
 hit-at : (conf : Conf) (x : Rate) (first now : ℕ) (g : Guard) (h : Held) (what : Arrival) (s : State) → IsRated conf s.rule.0 x → handshaking_state h.world what ≡ Some s
     → rate_hit (answer_to_arrival conf g h first now what).0 ≡ nat_lt (1000 * x.limit) (score_compared conf h.world now what s).value

@@ -2,10 +2,10 @@
 use Rattle.std.proofs.Common.{◌≡◌, ◌∙◌, ◌+◌, ◌≤◌, ◌==◌, ◌&&◌, ℕ, Bool, true, false, Option, Some, None, IfSome, List, [], ◌∷◌, ◌++◌, All, length-append, if◌then◌else◌, refl, ap, sym, subst, arith}
 use Rattle.std.proofs.lemmas.Bool.Decides.{nat_tests}
 use Rattle.std.proofs.lemmas.List.Elements.{All-push, All-weaker}
-use Rattle.pfs_addr_values.proofs.SameLaws.{same_addr_self, same_addr_true}
-use Rattle.pfs_addr_values.specs.Keys.{first_end, key_of, second_end}
+use Rattle.pfs_addr_values.proofs.SameLaws.{same_addr_self, same_addr_true, same_key_self, same_key_true}
+use Rattle.pfs_addr_values.specs.Keys.{first_end, second_end, key_of}
 use Rattle.pfs_addr_values.specs.Packets.{PacketView}
-use Rattle.pfs_addr_values.specs.Sameness.{same_addr}
+use Rattle.pfs_addr_values.specs.Sameness.{same_addr, same_key}
 use Rattle.pfs_addr_values.specs.declared.addresses.Addr.{Addr}
 use Rattle.pfs_addr_values.specs.declared.packets.Dir.{Dir}
 use Rattle.pfs_addr_values.specs.declared.flag_sets.Flags.{Flags}
@@ -13,18 +13,18 @@ use Rattle.pfs_addr_values.specs.declared.packets.Dir.TheVariants as dir
 use Rattle.pfs_addr_values.specs.declared.protocols.Proto.{Proto}
 use Rattle.pfs_addr_values.specs.declared.protocols.Proto.TheVariants as proto
 use Rattle.pfs_conf_values.proofs.RuleLaws.{options_of-AreOptions}
-use Rattle.pfs_conf_values.specs.Configs.{Conf, is_synproxy, options_of, scope_of, tracks_fully}
+use Rattle.pfs_conf_values.specs.Configs.{Conf, is_synproxy, options_of, scope_of, tracks_fully, translates}
 use Rattle.pfs_conf_values.specs.Invariants.{IsConfig}
 use Rattle.pfs_conf_values.specs.LoadRules.{IsCount}
 use Rattle.pfs_conf_values.specs.declared.actions.Scope.{Scope}
 use Rattle.pfs_conf_values.specs.declared.actions.Scope.TheVariants as scope
 use Rattle.pfs_store_contract.proofs.MomentLaws.{world_at-up_to_now}
-use Rattle.pfs_store_contract.specs.Admission.{asks_in, is_answered, world_after_admission, new_node, new_phase, new_state, nodes_with}
+use Rattle.pfs_store_contract.specs.Admission.{asks_in, is_answered, world_after_admission, new_node, new_phase, new_state, nodes_with, apart, inner_side, key_inside, wire_key, wire_side}
 use Rattle.pfs_store_contract.specs.Calls.{packet_limit}
-use Rattle.pfs_store_contract.specs.Leaving.{end_on}
+use Rattle.pfs_store_contract.specs.Leaving.{end_on, sent_on_side}
 use Rattle.pfs_store_contract.specs.SourceLimits.{source_limit}
 use Rattle.pfs_store_contract.specs.Counts.{has_node, is_connection, is_node, is_of_node, is_of_rule, node_connections, node_scope_under, node_scope_of, node_states, rule_states, same_scope, scope_nodes}
-use Rattle.pfs_store_contract.specs.Worlds.{World, state_with}
+use Rattle.pfs_store_contract.specs.Worlds.{World, inner_key, state_inside, state_with}
 use Rattle.pfs_store_contract.specs.declared.records.Limit.{Limit}
 use Rattle.pfs_store_contract.specs.declared.records.Node.{Node}
 use Rattle.pfs_store_contract.specs.declared.records.NodeScope.{NodeScope}
@@ -37,10 +37,15 @@ use Rattle.pfs_engine_machine.proofs.Keys.{keys-push}
 use Rattle.pfs_engine_machine.proofs.Limits.{MeetsNone, held_free, meets_none, new_free, nodes_room, not_reached, refused_has, world_with_stray}
 use Rattle.pfs_engine_machine.proofs.Numbers.{Rise-more, Rise-push}
 use Rattle.pfs_engine_machine.proofs.Scopes.{IsScopeOf, global-IsScopeOf, none_without_node, own_scope-IsScopeOf, scope-alone, scope-shared}
-use Rattle.pfs_engine_machine.specs.Kept.{HasNode, HasSource, IsKept, IsPhaseOf, IsWithinShared, TracksAlone, own_scope}
+use Rattle.pfs_engine_machine.specs.Kept.{HasNode, HasSource, IsKept, IsPhaseOf, IsWithinShared, TracksAlone, own_scope, IsPlain, outer_key}
 use Rattle.std.proofs.lemmas.Bool.{and_parts, and_right, false≢true}
 use Rattle.pfs_store_contract.proofs.ScopeLaws.{same_scope_self, same_scope_true}
 use Rattle.pfs_engine_machine.specs.Machine.{Held, held_of, held_refused}
+use Rattle.pfs_engine_machine.specs.Sides.{are_free}
+use Rattle.pfs_addr_values.specs.declared.packets.FlowKey.{FlowKey}
+use Rattle.std.specs.List.{find}
+use Rattle.std.specs.Prelude.{is_none, unwrap_or}
+use Rattle.pfs_engine_machine.proofs.OptionLaws.{none-is}
 
 -- ---- the source's states
 
@@ -220,22 +225,74 @@ phase_new conf rule p false tcp = by (is_answered conf rule p) refl
     by true e = answered_tcp conf rule p.dir p.proto p.flags e
     by false e = phase_first (tracks_fully conf rule) p.proto
 
--- the source of a packet is in its key
+-- its inner key is that of the packet inside
+inner_apart : (wire inner : FlowKey) → unwrap_or (apart wire inner) wire ≡ inner
+inner_apart wire inner = by (same_key wire inner) refl
+  where
+    by : (b : Bool) → same_key wire inner ≡ b → unwrap_or (if b then None else Some inner) wire ≡ inner
+    by true e = same_key_true wire inner e
+    by false e = refl
+
+pub inner_new : (conf : Conf) (number rule now : ℕ) (p going : PacketView) (cookie : Bool)
+    → inner_key (new_state conf number p going rule cookie now) ≡ key_inside p going
+inner_new conf number rule now p going cookie = inner_apart (wire_key p going) (key_inside p going)
+
+-- the source of a packet is in its key as it was sent
 source_first : (conf : Conf) (number rule now : ℕ) (p going : PacketView) (cookie : Bool) → HasSource (new_state conf number p going rule cookie now)
 source_first conf number rule now p going cookie = by p.dir
   where
-    by : (d : Dir) → (end_on d (record { proto = p.proto; a = first_end d p; b = second_end d p })).addr ≡ p.source.addr
+    key : Dir → FlowKey
+    key d = record { proto = p.proto; a = first_end d p; b = second_end d p }
+
+    by : (d : Dir) → (end_on d (sent_on_side d (record (new_state conf number p going rule cookie now) {
+      key = wire_side d (key d) (key_of going);
+      inner = apart (wire_side d (key d) (key_of going)) (inner_side d (key d) (key_of going));
+    }))).addr ≡ p.source.addr
     by dir.In = refl
-    by dir.Out = refl
+    by dir.Out = ap (λ (k : FlowKey). k.b.addr) (inner_apart (key_of going) (key dir.Out))
+
+-- a packet goes on from the rules in its own direction and protocol, and where none translates under its own key
+pub record IsLedOn (conf : Conf) (p going : PacketView) : Type 0 where
+  pub proto : going.proto ≡ p.proto
+  pub key : translates conf ≡ false → key_of going ≡ key_of p
+
+proto_new : (conf : Conf) (p going : PacketView) → IsLedOn conf p going → (wire_key p going).proto ≡ p.proto
+proto_new conf p going led = by p.dir
+  where
+    by : (d : Dir) → (wire_side d (key_of p) (key_of going)).proto ≡ p.proto
+    by dir.In = refl
+    by dir.Out = led.proto
+
+plain_new : (conf : Conf) (number rule now : ℕ) (p going : PacketView) (cookie : Bool) → IsLedOn conf p going → IsPlain conf (new_state conf number p going rule cookie now)
+plain_new conf number rule now p going cookie led none = by p.dir
+  where
+    at : (d : Dir) → FlowKey → Option FlowKey
+    at d goes = apart (wire_side d (key_of p) goes) (inner_side d (key_of p) goes)
+
+    alike : (k : FlowKey) → apart k k ≡ None
+    alike k = ap (λ b. if b then None else Some k) (same_key_self k)
+
+    by : (d : Dir) → at d (key_of going) ≡ None
+    by dir.In = ap (at dir.In) (led.key none) ∙ alike (key_of p)
+    by dir.Out = ap (at dir.Out) (led.key none) ∙ alike (key_of p)
+
+-- both its keys are free
+free_outside : (w : World) (p going : PacketView) → are_free w p going ≡ true → state_with (wire_key p going) w ≡ None
+free_outside w p going e = none-is (state_with (wire_key p going) w) (and_parts (is_none (state_with (wire_key p going) w)) (is_none (state_inside (key_inside p going) w)) e).0
+
+free_inside : (w : World) (p going : PacketView) → are_free w p going ≡ true → state_inside (key_inside p going) w ≡ None
+free_inside w p going e = none-is (state_inside (key_inside p going) w) (and_parts (is_none (state_with (wire_key p going) w)) (is_none (state_inside (key_inside p going) w)) e).1
 
 -- ---- what is kept
 
-pub kept_admitted : (conf : Conf) (m : Held) (p going : PacketView) (cookie : Bool) (rule now : ℕ) → IsConfig conf → IsTcpWith cookie p.proto → state_with (key_of p) m.world ≡ None
+pub kept_admitted : (conf : Conf) (m : Held) (p going : PacketView) (cookie : Bool) (rule now : ℕ) → IsConfig conf → IsTcpWith cookie p.proto → IsLedOn conf p going → are_free m.world p going ≡ true
     → packet_limit conf m.world p rule ≡ None → IsKept conf m now
     → IsKept conf (held_of (world_after_admission conf m.world p going rule cookie now) m.tables) now
-kept_admitted conf m p going cookie rule now sound tcp fresh met k =
+kept_admitted conf m p going cookie rule now sound tcp led unheld met k =
     let w = m.world in
     let new = new_state conf (w.made + 1) p going rule cookie now in
+    let inside : find (λ (s : State). same_key (inner_key s) (inner_key new)) w.states ≡ None =
+    ap (λ (x : FlowKey). find (λ (s : State). same_key (inner_key s) x) w.states) (inner_new conf (w.made + 1) rule now p going cookie) ∙ free_inside w p going unheld in
     let free = meets_none conf w rule p.source.addr met in
     record {
       limits = record {
@@ -251,10 +308,13 @@ kept_admitted conf m p going cookie rule now sound tcp fresh met k =
             omega (arith, connections_with conf w p going cookie rule now (own_scope other) source, k.limits.source_connections other source alone n is);
       };
       numbers = Rise-push 0 w.made w.states new k.numbers (omega arith);
-      keys = keys-push w.states new fresh k.keys;
+      keys = keys-push outer_key w.states new (free_outside w p going unheld) k.keys;
+      inner_keys = keys-push inner_key w.states new inside k.inner_keys;
+      plain = All-push (IsPlain conf) w.states new k.plain (plain_new conf (w.made + 1) rule now p going cookie led);
       noded = noded_with conf w p going cookie rule now k.noded;
       sources = All-push HasSource w.states new k.sources (source_first conf (w.made + 1) rule now p going cookie);
-      phases = All-push (λ (s : State). IsPhaseOf s.key.proto s.phase) w.states new k.phases (phase_new conf rule p cookie tcp);
+      phases = All-push (λ (s : State). IsPhaseOf s.key.proto s.phase) w.states new k.phases
+          (subst (λ (q : Proto). IsPhaseOf q new.phase) (sym (proto_new conf p going led)) (phase_new conf rule p cookie tcp));
       tables = k.tables;
       moments = world_at-up_to_now conf w p going rule cookie now None k.moments;
     }
@@ -279,6 +339,8 @@ kept_stray conf m p rule now free k =
       };
       numbers = Rise-more 0 w.made w.states k.numbers;
       keys = k.keys;
+      inner_keys = k.inner_keys;
+      plain = k.plain;
       noded = All-weaker (HasNode conf w.nodes) (HasNode conf nodes)
           (λ s h found is. nodes_with-more w.nodes (w.made + 1) now p.source.addr (node_scope_of conf rule) found s.source (h found is)) w.states k.noded;
       phases = k.phases;

@@ -20,21 +20,22 @@ use Rattle.pfs_store_contract.specs.Counts.{has_node, is_of_node, is_of_rule, no
 use Rattle.pfs_store_contract.specs.Handshakes.{flush_of, hits_connections, hits_rate, stays_at_kill}
 use Rattle.pfs_store_contract.specs.Leaving.{world_without}
 use Rattle.pfs_store_contract.specs.Touching.{completes_at, is_asking, is_taken, goes_forward, nodes_touched, numbered_state_after, world_after_touch}
-use Rattle.pfs_store_contract.specs.Worlds.{IsUpToNow, World, state_with}
+use Rattle.pfs_store_contract.specs.Worlds.{IsUpToNow, World, inner_key}
 use Rattle.pfs_store_contract.specs.declared.records.Node.{Node}
 use Rattle.pfs_store_contract.specs.declared.records.NodeScope.{NodeScope}
 use Rattle.pfs_store_contract.specs.declared.records.State.{State}
-use Rattle.pfs_engine_machine.specs.Kept.{HasNode, HasSource, IsKept, IsPhaseOf, IsWithin, KeysDiffer, Rise, TracksAlone, own_scope}
+use Rattle.pfs_engine_machine.specs.Kept.{HasNode, HasSource, IsKept, IsPhaseOf, IsWithin, KeysDiffer, Rise, TracksAlone, own_scope, IsPlain, outer_key}
 use Rattle.pfs_engine_machine.specs.Machine.{Held, answer_of_exceeded, answer_of_state, exceeded_of, held_of, answer_of_kill, outcome_of_held, tables_after_addition}
 use Rattle.pfs_engine_machine.specs.Refusals.{is_tcp}
 use Rattle.pfs_engine_machine.specs.declared.events.Exceeded.{Exceeded}
 use Rattle.pfs_engine_machine.specs.declared.events.Exceeded.TheVariants as exceeded
+use Rattle.pfs_engine_machine.specs.Sides.{state_for, met_key}
 use Rattle.pfs_engine_machine.proofs.Additions.{entries_after-size, entries_after-within}
 use Rattle.pfs_engine_machine.proofs.Alike.{AreAlike, left_all-alike, nodes_touched-alike}
 use Rattle.pfs_engine_machine.proofs.Changes.{find-all, find-passes}
 use Rattle.pfs_engine_machine.proofs.Connections.{IsAlone, connections-killed, connections-same, connections-within}
 use Rattle.pfs_engine_machine.proofs.Counts.{count-filter_le, count-map, count_le}
-use Rattle.pfs_engine_machine.proofs.Keys.{keys-filter, keys-map}
+use Rattle.pfs_engine_machine.proofs.Keys.{keys-filter, keys-map, found-by}
 use Rattle.pfs_engine_machine.proofs.KeptTime.{within_less}
 use Rattle.pfs_engine_machine.proofs.Numbers.{Rise-alone, Rise-filter, Rise-map}
 use Rattle.pfs_engine_machine.proofs.Renewals.{is_tcp-completes, renewed-phase, renewed-same}
@@ -48,7 +49,9 @@ record IsKeptBut (conf : Conf) (m : Held) (now : ℕ) : Type 0 where
   source_nodes : (rule : ℕ) → TracksAlone conf rule → IsWithin (options_of conf rule).max_src_nodes (scope_nodes (own_scope rule) m.world.nodes)
   source_states : (rule : ℕ) (source : Addr) → TracksAlone conf rule → IsWithin (options_of conf rule).max_src_states (node_states conf (own_scope rule) source m.world.states)
   numbers : Rise 0 m.world.states m.world.made
-  keys : KeysDiffer m.world.states
+  keys : KeysDiffer outer_key m.world.states
+  inner_keys : KeysDiffer inner_key m.world.states
+  plain : All (IsPlain conf) m.world.states
   noded : All (HasNode conf m.world.nodes) m.world.states
   phases : All (λ (s : State). IsPhaseOf s.key.proto s.phase) m.world.states
   sources : All HasSource m.world.states
@@ -73,6 +76,8 @@ kept_whole conf m now k few = record {
   };
   numbers = k.numbers;
   keys = k.keys;
+  inner_keys = k.inner_keys;
+  plain = k.plain;
   noded = k.noded;
   phases = k.phases;
   sources = k.sources;
@@ -97,7 +102,10 @@ renewed-of_node : (conf : Conf) (scope : NodeScope) (source : Addr) (number : �
 renewed-of_node conf scope source number p now s = let same = renewed-same number p now s in rw (same.rule, same.source)
 
 renewed-source : (number : ℕ) (p : PacketView) (now : ℕ) (s : State) → HasSource s → HasSource (numbered_state_after number p now s)
-renewed-source number p now s h = let same = renewed-same number p now s in rw (same.dir, same.key, same.source) h
+renewed-source number p now s h = let same = renewed-same number p now s in rw (same.dir, same.key, same.inner, same.source) h
+
+renewed-inner : (number : ℕ) (p : PacketView) (now : ℕ) (s : State) → inner_key (numbered_state_after number p now s) ≡ inner_key s
+renewed-inner number p now s = let same = renewed-same number p now s in rw (same.inner, same.key) refl
 
 kept_but_touched : (conf : Conf) (m : Held) (p : PacketView) (now : ℕ) (s : State) → IsKept conf m now
     → IsKeptBut conf (held_of (world_after_touch conf m.world s p now) m.tables) now
@@ -116,7 +124,10 @@ kept_but_touched conf m p now s k =
       source_states = λ rule source tracks n is.
           omega (arith, count-map (is_of_node conf (own_scope rule) source) f (renewed-of_node conf (own_scope rule) source s.number p now) w.states, k.limits.source_states rule source tracks n is);
       numbers = Rise-map f (λ (t : State). (renewed-same s.number p now t).number) 0 w.made w.states k.numbers;
-      keys = keys-map f (λ (t : State). (renewed-same s.number p now t).key) w.states k.keys;
+      keys = keys-map outer_key f (λ (t : State). (renewed-same s.number p now t).key) w.states k.keys;
+      inner_keys = keys-map inner_key f (renewed-inner s.number p now) w.states k.inner_keys;
+      plain = All-map (IsPlain conf) f w.states
+          (All-weaker (IsPlain conf) (λ (t : State). IsPlain conf (f t)) (λ t h none. (renewed-same s.number p now t).inner ∙ h none) w.states k.plain);
       noded = All-map (HasNode conf nodes) f w.states
           (All-weaker (HasNode conf w.nodes) (λ (t : State). HasNode conf nodes (f t))
           (λ t h. renewed-noded conf nodes s.number p now t (HasNode-alike conf w.nodes nodes alike t h)) w.states k.noded);
@@ -129,14 +140,12 @@ kept_but_touched conf m p now s k =
     }
 
 -- the state alone has its number
-alone_of : (conf : Conf) (m : Held) (p : PacketView) (now : ℕ) (s : State) → state_with (key_of p) m.world ≡ Some s → IsKept conf m now → IsAlone s m.world.states
-alone_of conf m p now s found k = Rise-alone (λ (t : State). same_key t.key (key_of p)) s 0 m.world.made m.world.states k.numbers found
-
-source_of : (conf : Conf) (m : Held) (p : PacketView) (now : ℕ) (s : State) → state_with (key_of p) m.world ≡ Some s → IsKept conf m now → HasSource s
-source_of conf m p now s found k = find-all HasSource (λ (t : State). same_key t.key (key_of p)) m.world.states s k.sources found
+alone_of : (conf : Conf) (m : Held) (p : PacketView) (now : ℕ) (s : State) → state_for m.world p ≡ Some s → IsKept conf m now → IsAlone s m.world.states
+alone_of conf m p now s found k =
+    Rise-alone (λ (t : State). same_key (met_key p t) (key_of p)) s 0 m.world.made m.world.states k.numbers (sym (found-by m.world p) ∙ found)
 
 -- where the handshake does not complete, or hits no `max-src-conn`, no source has too many connections
-few_touched : (conf : Conf) (m : Held) (p : PacketView) (now : ℕ) (s : State) → state_with (key_of p) m.world ≡ Some s
+few_touched : (conf : Conf) (m : Held) (p : PacketView) (now : ℕ) (s : State) → state_for m.world p ≡ Some s
     → ((completes_at p s ≡ false) ⊎ (hits_connections conf (world_after_touch conf m.world s p now) s ≡ false))
     → IsKept conf m now → AreFew conf (world_after_touch conf m.world s p now).states
 few_touched conf m p now s found why k rule source tracks = go why (is_of_node conf (own_scope rule) source s) refl
@@ -156,7 +165,7 @@ few_touched conf m p now s found why k rule source tracks = go why (is_of_node c
     go (inr few) true e = connections-within conf m.world p now s rule source tracks e few
     go (inr few) false e = same (inr e)
 
-pub kept_touched : (conf : Conf) (m : Held) (p : PacketView) (now : ℕ) (s : State) → state_with (key_of p) m.world ≡ Some s
+pub kept_touched : (conf : Conf) (m : Held) (p : PacketView) (now : ℕ) (s : State) → state_for m.world p ≡ Some s
     → ((completes_at p s ≡ false) ⊎ (hits_connections conf (world_after_touch conf m.world s p now) s ≡ false))
     → IsKept conf m now → IsKept conf (held_of (world_after_touch conf m.world s p now) m.tables) now
 kept_touched conf m p now s found why k =
@@ -179,7 +188,9 @@ kept_but_without conf m stays at now k =
       source_states = λ rule source tracks.
           within_less (options_of conf rule).max_src_states _ _ (count-filter_le (is_of_node conf (own_scope rule) source) stays w.states) (k.source_states rule source tracks);
       numbers = Rise-filter stays 0 w.made w.states k.numbers;
-      keys = keys-filter stays w.states k.keys;
+      keys = keys-filter outer_key stays w.states k.keys;
+      inner_keys = keys-filter inner_key stays w.states k.inner_keys;
+      plain = All-filter stays (IsPlain conf) w.states k.plain;
       noded = All-filter stays (HasNode conf nodes) w.states (All-weaker (HasNode conf w.nodes) (HasNode conf nodes) (HasNode-alike conf w.nodes nodes alike) w.states k.noded);
       sources = All-filter stays HasSource w.states k.sources;
       phases = All-filter stays (λ (t : State). IsPhaseOf t.key.proto t.phase) w.states k.phases;
@@ -210,6 +221,8 @@ kept_but_added conf m source overload now k = record {
   source_states = k.source_states;
   numbers = k.numbers;
   keys = k.keys;
+  inner_keys = k.inner_keys;
+  plain = k.plain;
   noded = k.noded;
   phases = k.phases;
   sources = k.sources;
@@ -217,13 +230,13 @@ kept_but_added conf m source overload now k = record {
   moments = k.moments;
 }
 
-few_killed : (conf : Conf) (m : Held) (p : PacketView) (now : ℕ) (s : State) (flush : Option Scope) → state_with (key_of p) m.world ≡ Some s
+few_killed : (conf : Conf) (m : Held) (p : PacketView) (now : ℕ) (s : State) (flush : Option Scope) → state_for m.world p ≡ Some s
     → IsKept conf m now
     → AreFew conf (filter (stays_at_kill conf.profile flush s.number s.dir s.rule s.source) (world_after_touch conf m.world s p now).states)
 few_killed conf m p now s flush found k rule source tracks =
-    within_less (options_of conf rule).max_src_conn _ _ (connections-killed conf m.world p now s flush (own_scope rule) source (alone_of conf m p now s found k) (source_of conf m p now s found k)) (k.limits.source_connections rule source tracks)
+    within_less (options_of conf rule).max_src_conn _ _ (connections-killed conf m.world p now s flush (own_scope rule) source (alone_of conf m p now s found k)) (k.limits.source_connections rule source tracks)
 
-pub kept_killed : (conf : Conf) (m : Held) (p : PacketView) (now : ℕ) (s : State) (limits : Exceeded) → state_with (key_of p) m.world ≡ Some s
+pub kept_killed : (conf : Conf) (m : Held) (p : PacketView) (now : ℕ) (s : State) (limits : Exceeded) → state_for m.world p ≡ Some s
     → IsKept conf m now → IsKept conf (answer_of_kill conf (held_of (world_after_touch conf m.world s p now) m.tables) s.number s.dir s.rule s.source now limits).1 now
 kept_killed conf m p now s limits found k =
     let overload = (options_of conf s.rule.0).overload in
@@ -236,7 +249,7 @@ kept_killed conf m p now s limits found k =
 
 -- ---- together
 
-kept_by_handshake : (conf : Conf) (m : Held) (p : PacketView) (now : ℕ) (s : State) (conn rate : Bool) → state_with (key_of p) m.world ≡ Some s
+kept_by_handshake : (conf : Conf) (m : Held) (p : PacketView) (now : ℕ) (s : State) (conn rate : Bool) → state_for m.world p ≡ Some s
     → IsKept conf m now → conn ≡ hits_connections conf (world_after_touch conf m.world s p now) s
     → (completes : Bool) → completes_at p s ≡ completes
     → IsKept conf (answer_of_exceeded conf (held_of (world_after_touch conf m.world s p now) m.tables) s.number s.dir s.rule s.source now
@@ -247,7 +260,7 @@ kept_by_handshake conf m p now s true false found k is true done = kept_killed c
 kept_by_handshake conf m p now s false true found k is true done = kept_killed conf m p now s exceeded.Rate found k
 kept_by_handshake conf m p now s false false found k is true done = kept_touched conf m p now s found (inr (sym is)) k
 
-pub kept_held : (conf : Conf) (m : Held) (p : PacketView) (cookie : Bool) (now : ℕ) (s : State) → state_with (key_of p) m.world ≡ Some s
+pub kept_held : (conf : Conf) (m : Held) (p : PacketView) (cookie : Bool) (now : ℕ) (s : State) → state_for m.world p ≡ Some s
     → IsKept conf m now → IsKept conf (answer_of_state conf m p cookie now (Some s)).1 now
 kept_held conf m p cookie now s found k =
     let after = world_after_touch conf m.world s p now in
@@ -267,7 +280,7 @@ made_held conf m p cookie now s = by (if completes_at p s then exceeded_of (hits
 -- ---- of a state that is held
 
 -- only TCP completes
-pub proto_of_completed : (conf : Conf) (m : Held) (p : PacketView) (now : ℕ) (s : State) → IsKept conf m now → state_with (key_of p) m.world ≡ Some s
+pub proto_of_completed : (conf : Conf) (m : Held) (p : PacketView) (now : ℕ) (s : State) → IsKept conf m now → state_for m.world p ≡ Some s
     → completes_at p s ≡ true → is_tcp p.proto ≡ true
 proto_of_completed conf m p now s k found done =
     let key : s.key ≡ key_of p = same_key_true s.key (key_of p) (find-passes (λ (t : State). same_key t.key (key_of p)) m.world.states s found) in

@@ -20,7 +20,7 @@ use Rattle.pfs_store_contract.specs.Calls.{stays_elsewhere, world_elsewhere}
 use Rattle.pfs_store_contract.specs.Counts.{is_connection, is_node, is_of_node, is_of_rule, node_states, same_scope}
 use Rattle.pfs_store_contract.specs.Leaving.{node_after_leaving, world_with_stay}
 use Rattle.pfs_store_contract.specs.Purging.{is_among, node_round, node_share, node_slice, node_stays, purge, state_round, state_share, state_slice, stays}
-use Rattle.pfs_store_contract.specs.Worlds.{World}
+use Rattle.pfs_store_contract.specs.Worlds.{World, inner_key}
 use Rattle.pfs_store_contract.specs.declared.kills.FromTo.{FromTo}
 use Rattle.pfs_store_contract.specs.declared.records.Node.{Node}
 use Rattle.pfs_store_contract.specs.declared.records.NodeScope.{NodeScope}
@@ -30,7 +30,7 @@ use Rattle.pfs_engine_machine.proofs.Keys.{keys-filter}
 use Rattle.pfs_engine_machine.proofs.Numbers.{Rise-filter}
 use Rattle.pfs_engine_machine.proofs.Counts.{any-filter, any-map, count-at, count-filter_le, count-map, count_le}
 use Rattle.pfs_engine_machine.proofs.Scopes.{is_of_node-own}
-use Rattle.pfs_engine_machine.specs.Kept.{HasNode, HasSource, IsKept, IsPhaseOf, IsWithin, moment_of, own_scope}
+use Rattle.pfs_engine_machine.specs.Kept.{HasNode, HasSource, IsKept, IsPhaseOf, IsWithin, moment_of, own_scope, IsPlain, outer_key}
 use Rattle.std.proofs.lemmas.Bool.{and_parts}
 use Rattle.pfs_store_contract.proofs.ScopeLaws.{same_scope_true}
 use Rattle.pfs_engine_machine.specs.declared.events.Command.{Command}
@@ -52,6 +52,8 @@ kept_start conf sound = record {
   };
   numbers = omega arith;
   keys = tt;
+  inner_keys = tt;
+  plain = All-nil (IsPlain conf);
   noded = All-nil (HasNode conf []);
   phases = All-nil (λ (s : State). IsPhaseOf s.key.proto s.phase);
   sources = All-nil HasSource;
@@ -94,7 +96,9 @@ kept_left conf m p pending at now k =
             within_less (options_of conf rule).max_src_conn _ _ (count-filter_le (is_connection conf (own_scope rule) source) p w.states) (k.limits.source_connections rule source alone);
       };
       numbers = Rise-filter p 0 w.made w.states k.numbers;
-      keys = keys-filter p w.states k.keys;
+      keys = keys-filter outer_key p w.states k.keys;
+      inner_keys = keys-filter inner_key p w.states k.inner_keys;
+      plain = All-filter p (IsPlain conf) w.states k.plain;
       noded = All-weaker (HasNode conf w.nodes) (HasNode conf (map change w.nodes))
           (λ s h scope is. any-map (is_node scope s.source) change (left-is_node conf w.states (filter p w.states) at scope s.source) w.nodes ∙ h scope is)
           (filter p w.states) (All-filter p (HasNode conf w.nodes) w.states k.noded);
@@ -151,6 +155,8 @@ kept_node_slice conf m at now k =
       };
       numbers = k.numbers;
       keys = k.keys;
+      inner_keys = k.inner_keys;
+      plain = k.plain;
       noded = noded_slice conf w.nodes w.states at examined k.noded;
       phases = k.phases;
       sources = k.sources;
@@ -176,6 +182,8 @@ kept_later conf h last now later k = record {
   limits = k.limits;
   numbers = k.numbers;
   keys = k.keys;
+  inner_keys = k.inner_keys;
+  plain = k.plain;
   noded = k.noded;
   phases = k.phases;
   sources = k.sources;
@@ -208,6 +216,8 @@ kept_tables conf h tables now within size k = record {
   };
   numbers = k.numbers;
   keys = k.keys;
+  inner_keys = k.inner_keys;
+  plain = k.plain;
   noded = k.noded;
   phases = k.phases;
   sources = k.sources;

@@ -7,39 +7,45 @@ use Rattle.pfs_addr_values.specs.Sameness.{same_key}
 use Rattle.pfs_addr_values.specs.declared.packets.FlowKey.{FlowKey}
 use Rattle.pfs_store_contract.specs.Calls.{other_than}
 use Rattle.pfs_store_contract.specs.declared.records.State.{State}
-use Rattle.pfs_engine_machine.specs.Kept.{KeysDiffer}
+use Rattle.pfs_store_contract.specs.Worlds.{World, inner_key, state_inside, state_with}
+use Rattle.pfs_addr_values.specs.Keys.{key_of}
+use Rattle.pfs_addr_values.specs.Packets.{PacketView, is_from_inside}
+use Rattle.pfs_engine_machine.specs.Kept.{KeysDiffer, outer_key}
+use Rattle.pfs_engine_machine.specs.Sides.{met_key, state_for}
 use Rattle.pfs_engine_machine.proofs.Lists.{each-filter, each-map, each-of, each-push}
 
 -- ---- changes
 
-pub keys-filter : (p : State → Bool) (ss : List State) → KeysDiffer ss → KeysDiffer (filter p ss)
-keys-filter p [] h = h
-keys-filter p (s ∷ ss) h = go (p s) (keys-filter p ss h.1)
+pub keys-filter : (at : State → FlowKey) (p : State → Bool) (ss : List State) → KeysDiffer at ss → KeysDiffer at (filter p ss)
+keys-filter at p [] h = h
+keys-filter at p (s ∷ ss) h = go (p s) (keys-filter at p ss h.1)
   where
-    go : (b : Bool) → KeysDiffer (filter p ss) → KeysDiffer (if b then s ∷ filter p ss else filter p ss)
-    go true rest = (each-filter (λ (t : State). same_key s.key t.key ≡ false) p ss h.0, rest)
+    go : (b : Bool) → KeysDiffer at (filter p ss) → KeysDiffer at (if b then s ∷ filter p ss else filter p ss)
+    go true rest = (each-filter (λ (t : State). same_key (at s) (at t) ≡ false) p ss h.0, rest)
     go false rest = rest
 
-pub keys-map : (f : State → State) → ((s : State) → (f s).key ≡ s.key) → (ss : List State) → KeysDiffer ss → KeysDiffer (map f ss)
-keys-map f same [] h = h
-keys-map f same (s ∷ ss) h =
-    (each-map (λ (t : State). same_key s.key t.key ≡ false) (λ (t : State). same_key (f s).key t.key ≡ false) f (λ t k. rw (same s, same t) k) ss h.0, keys-map f same ss h.1)
+pub keys-map : (at : State → FlowKey) (f : State → State) → ((s : State) → at (f s) ≡ at s) → (ss : List State) → KeysDiffer at ss → KeysDiffer at (map f ss)
+keys-map at f same [] h = h
+keys-map at f same (s ∷ ss) h =
+    (each-map (λ (t : State). same_key (at s) (at t) ≡ false) (λ (t : State). same_key (at (f s)) (at t) ≡ false) f (λ t k. rw (same s, same t) k) ss h.0, keys-map at f same ss h.1)
 
 -- one more, whose key none had
-pub keys-push : (ss : List State) (new : State) → find (λ (s : State). same_key s.key new.key) ss ≡ None → KeysDiffer ss → KeysDiffer (ss ++ new ∷ [])
-keys-push [] new fresh h = (tt, tt)
-keys-push (s ∷ ss) new fresh h = go (same_key s.key new.key) refl fresh (λ k. keys-push ss new k h.1)
+pub keys-push : (at : State → FlowKey) (ss : List State) (new : State) → find (λ (s : State). same_key (at s) (at new)) ss ≡ None → KeysDiffer at ss
+    → KeysDiffer at (ss ++ new ∷ [])
+keys-push at [] new fresh h = (tt, tt)
+keys-push at (s ∷ ss) new fresh h = go (same_key (at s) (at new)) refl fresh (λ k. keys-push at ss new k h.1)
   where
-    go : (b : Bool) → same_key s.key new.key ≡ b → (if b then Some s else find (λ (t : State). same_key t.key new.key) ss) ≡ None
-        → (find (λ (t : State). same_key t.key new.key) ss ≡ None → KeysDiffer (ss ++ new ∷ [])) → KeysDiffer (s ∷ (ss ++ new ∷ []))
+    go : (b : Bool) → same_key (at s) (at new) ≡ b → (if b then Some s else find (λ (t : State). same_key (at t) (at new)) ss) ≡ None
+        → (find (λ (t : State). same_key (at t) (at new)) ss ≡ None → KeysDiffer at (ss ++ new ∷ [])) → KeysDiffer at (s ∷ (ss ++ new ∷ []))
     go true e k rest = absurd cc
-    go false e k rest = (each-push (λ (t : State). same_key s.key t.key ≡ false) ss new h.0 e, rest k)
+    go false e k rest = (each-push (λ (t : State). same_key (at s) (at t) ≡ false) ss new h.0 e, rest k)
 
 -- ---- the state of a key leaves
 
-none-found : (key : FlowKey) (ss : List State) → AllByRecursion (λ (t : State). same_key t.key key ≡ false) ss → find (λ (t : State). same_key t.key key) ss ≡ None
-none-found key [] h = refl
-none-found key (s ∷ ss) h = rw (h.0) (none-found key ss h.1)
+none-found : (at : State → FlowKey) (key : FlowKey) (ss : List State) → AllByRecursion (λ (t : State). same_key (at t) key ≡ false) ss
+    → find (λ (t : State). same_key (at t) key) ss ≡ None
+none-found at key [] h = refl
+none-found at key (s ∷ ss) h = rw (h.0) (none-found at key ss h.1)
 
 -- a key that is not that of a state is another than its key
 other-key : (x t key : FlowKey) → x ≡ key → same_key x t ≡ false → same_key t key ≡ false
@@ -49,29 +55,47 @@ other-key x t key e apart = go (same_key t key) refl
     go false f = refl
     go true f = absurd (false≢true (sym apart ∙ ap (same_key x) (same_key_true t key f) ∙ ap (same_key x) (sym e) ∙ same_key_self x))
 
-pub found-leaves : (key : FlowKey) (s : State) (ss : List State) → KeysDiffer ss → find (λ (t : State). same_key t.key key) ss ≡ Some s
-    → find (λ (t : State). same_key t.key key) (filter (other_than s.number) ss) ≡ None
-found-leaves key s [] h e = cc
-found-leaves key s (x ∷ ss) h e = go (same_key x.key key) refl e (λ k. found-leaves key s ss h.1 k)
+pub found-leaves : (at : State → FlowKey) (key : FlowKey) (s : State) (ss : List State) → KeysDiffer at ss → find (λ (t : State). same_key (at t) key) ss ≡ Some s
+    → find (λ (t : State). same_key (at t) key) (filter (other_than s.number) ss) ≡ None
+found-leaves at key s [] h e = cc
+found-leaves at key s (x ∷ ss) h e = go (same_key (at x) key) refl e (λ k. found-leaves at key s ss h.1 k)
   where
     has : State → Bool
-    has t = same_key t.key key
+    has t = same_key (at t) key
 
     rest : List State
     rest = filter (other_than s.number) ss
 
-    there : (b : Bool) → same_key x.key key ≡ false → find has rest ≡ None → find has (if b then x ∷ rest else rest) ≡ None
+    there : (b : Bool) → same_key (at x) key ≡ false → find has rest ≡ None → find has (if b then x ∷ rest else rest) ≡ None
     there true f none = rw f none
     there false f none = none
 
-    gone : x ≡ s → same_key x.key key ≡ true → find has (filter (other_than s.number) (x ∷ ss)) ≡ None
+    gone : x ≡ s → same_key (at x) key ≡ true → find has (filter (other_than s.number) (x ∷ ss)) ≡ None
     gone same f =
         let out : other_than s.number x ≡ false = ap (λ (t : State). other_than t.number x) (sym same) ∙ ap not (eq-eqb x.number x.number refl) in
-        let apart = each-of (λ (t : State). same_key x.key t.key ≡ false) (λ (t : State). same_key t.key key ≡ false)
-        (λ t k. other-key x.key t.key key (same_key_true x.key key f) k) ss h.0 in
-        rw out (none-found key rest (each-filter (λ (t : State). same_key t.key key ≡ false) (other_than s.number) ss apart))
+        let apart = each-of (λ (t : State). same_key (at x) (at t) ≡ false) (λ (t : State). same_key (at t) key ≡ false)
+        (λ t k. other-key (at x) (at t) key (same_key_true (at x) key f) k) ss h.0 in
+        rw out (none-found at key rest (each-filter (λ (t : State). same_key (at t) key ≡ false) (other_than s.number) ss apart))
 
-    go : (b : Bool) → same_key x.key key ≡ b → (if b then Some x else find has ss) ≡ Some s → (find has ss ≡ Some s → find has rest ≡ None)
+    go : (b : Bool) → same_key (at x) key ≡ b → (if b then Some x else find has ss) ≡ Some s → (find has ss ≡ Some s → find has rest ≡ None)
         → find has (filter (other_than s.number) (x ∷ ss)) ≡ None
     go true f k i = let same : x ≡ s = cc in gone same f
     go false f k i = there (other_than s.number x) f (i k)
+
+-- ---- the state of a packet is found by the key that the packet meets
+
+pub found-by : (w : World) (p : PacketView) → state_for w p ≡ find (λ (t : State). same_key (met_key p t) (key_of p)) w.states
+found-by w p = by (is_from_inside p)
+  where
+    by : (b : Bool) → (if b then state_inside (key_of p) w else state_with (key_of p) w)
+        ≡ find (λ (t : State). same_key (if b then inner_key t else t.key) (key_of p)) w.states
+    by true = refl
+    by false = refl
+
+-- and no two states have that key
+pub met-differ : (p : PacketView) (ss : List State) → KeysDiffer outer_key ss → KeysDiffer inner_key ss → KeysDiffer (met_key p) ss
+met-differ p ss outer inner = by (is_from_inside p)
+  where
+    by : (b : Bool) → KeysDiffer (λ (t : State). if b then inner_key t else t.key) ss
+    by true = inner
+    by false = outer

@@ -1,5 +1,5 @@
 -- What follows where an option is there.
-use Rattle.std.proofs.Common.{◌≡◌, ℕ, Option, None, Some, Ok, Err, IfSome, ap, refl, subst, unwrap_or}
+use Rattle.std.proofs.Common.{◌≡◌, ℕ, Option, None, Some, Ok, Err, IfSome, ap, refl, subst, unwrap_or, true, is_none}
 use Rattle.std.specs.Option.{ForSome}
 use Rattle.pfs_conf_values.specs.Configs.{Conf, no_options, options_at, options_of}
 use Rattle.pfs_conf_values.specs.declared.actions.StateOptions.{StateOptions}
@@ -25,3 +25,8 @@ refused_at w (Some m) l e = cc
 pub admitted_at : (w : World) (limit : Option Limit) (n : StateNo) → Ok n ≡ answer_at w limit → limit ≡ None
 admitted_at w None n e = refl
 admitted_at w (Some m) n e = cc
+
+-- where it is none
+pub none-is : {A : Type 0} (o : Option A) → is_none o ≡ true → o ≡ None
+none-is None e = refl
+none-is (Some x) e = cc

@@ -26,7 +26,7 @@ on-machine conf m e (Some f) = refl
 
 pub record-machine : (conf : Conf) (m : Machine) (e : Event) → (way conf m e).1 ≡ machine_after conf m (events_of_record conf m e)
 unfolding way
-record-machine conf m e = on-machine conf m (first_event conf e) (second_of_record conf m e)
+record-machine conf m e = on-machine conf m (first_event conf m e) (second_of_record conf m e)
 
 on-outcomes : (conf : Conf) (m : Machine) (e : Event) (then : Option Event)
     → outcomes_on (way_on conf (step conf m e) then).0 (way_on conf (step conf m e) then).0.second ≡ outcomes_of conf m (events_on e then)
@@ -36,7 +36,7 @@ on-outcomes conf m e (Some f) = refl
 
 record-outcomes : (conf : Conf) (m : Machine) (e : Event) → outcomes_on (way conf m e).0 (way conf m e).0.second ≡ outcomes_of conf m (events_of_record conf m e)
 unfolding way
-record-outcomes conf m e = on-outcomes conf m (first_event conf e) (second_of_record conf m e)
+record-outcomes conf m e = on-outcomes conf m (first_event conf m e) (second_of_record conf m e)
 
 -- and of all records
 pub machine-after-ways : (conf : Conf) (m : Machine) (es : List Event) → machine_after_ways conf m es ≡ machine_after conf m (events_of_records conf m es)
@@ -76,8 +76,8 @@ on-order last e (Some f) rest after small same order =
     some-is : {a b : ℕ} → Some a ≡ Some b → a ≡ b
     some-is {a} {b} e = ap (λ (o : Option ℕ). unwrap_or o 0) e
 
-second-moment : (conf : Conf) (e : Event) (o : Outcome) (going : Option PacketView) → IsAtMoment e.time (second_event conf e o going)
-second-moment conf e o going = by (second_packet conf o going e.what)
+second-moment : (conf : Conf) (e first : Event) (o : Outcome) (going : Option PacketView) → IsAtMoment e.time (second_event conf e first o going)
+second-moment conf e first o going = by (second_packet conf o going e.what first.what)
   where
     by : (p : Option PacketView) → IsAtMoment e.time (option_map (λ p. record e { what = arrival.Packet p }) p)
     by None = tt
@@ -87,7 +87,7 @@ pub order-of-ways : (conf : Conf) (m : Machine) (last : Option ℕ) (es : List E
 unfolding events_of_records
 order-of-ways conf m last [] order = tt
 order-of-ways conf m last (e ∷ es) (after, small, more) =
-    let o : Outcome = (step conf m (first_event conf e)).0 in
-    let going : Option PacketView = sent_on conf m (first_event conf e) in
-    on-order last (first_event conf e) (second_event conf e o going) (events_of_records conf (way conf m e).1 es) after small (second-moment conf e o going)
+    let o : Outcome = (step conf m (first_event conf m e)).0 in
+    let going : Option PacketView = sent_on conf m (first_event conf m e) in
+    on-order last (first_event conf m e) (second_event conf e (first_event conf m e) o going) (events_of_records conf (way conf m e).1 es) after small (second-moment conf e (first_event conf m e) o going)
     (order-of-ways conf (way conf m e).1 (Some e.time) es more)

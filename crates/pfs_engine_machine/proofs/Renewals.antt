@@ -75,6 +75,7 @@ is_tcp-completes (proto.Other n) (phase.Proxied p) forward flags h e = absurd h
 pub record IsSameState (before after : State) : Type 0 where
   pub number : after.number ≡ before.number
   pub key : after.key ≡ before.key
+  pub inner : after.inner ≡ before.inner
   pub dir : after.dir ≡ before.dir
   pub source : after.source ≡ before.source
   pub rule : after.rule ≡ before.rule
@@ -83,8 +84,8 @@ pub renewed-same : (number : ℕ) (p : PacketView) (now : ℕ) (s : State) → I
 renewed-same number p now s = go (s.number == number)
   where
     go : (b : Bool) → IsSameState s (if b then state_after_packet p now s else s)
-    go true = record { number = refl; key = refl; dir = refl; source = refl; rule = refl }
-    go false = record { number = refl; key = refl; dir = refl; source = refl; rule = refl }
+    go true = record { number = refl; key = refl; inner = refl; dir = refl; source = refl; rule = refl }
+    go false = record { number = refl; key = refl; inner = refl; dir = refl; source = refl; rule = refl }
 
 pub renewed-phase : (number : ℕ) (p : PacketView) (now : ℕ) (s : State) → IsPhaseOf s.key.proto s.phase
     → IsPhaseOf (numbered_state_after number p now s).key.proto (numbered_state_after number p now s).phase

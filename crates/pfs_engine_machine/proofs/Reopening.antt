@@ -9,7 +9,7 @@ use Rattle.pfs_conf_values.specs.Profiles.{is_openbsd}
 use Rattle.pfs_store_contract.specs.Calls.{other_than, world_killed, world_reopened}
 use Rattle.pfs_store_contract.specs.Leaving.{world_without}
 use Rattle.pfs_store_contract.specs.Touching.{completes_at, goes_forward, may_reopen, reopens}
-use Rattle.pfs_store_contract.specs.Worlds.{World, holds_number, state_with}
+use Rattle.pfs_store_contract.specs.Worlds.{World, holds_number}
 use Rattle.pfs_store_contract.specs.declared.records.State.{State}
 use Rattle.pfs_track.specs.StatePhases.{completes, has_closed}
 use Rattle.pfs_track.specs.TcpRanks.{ends, ends_after_ack, ends_after_packet, raised_rank}
@@ -19,13 +19,14 @@ use Rattle.pfs_track.specs.declared.tcp_ranks.TcpRank.{TcpRank}
 use Rattle.pfs_track.specs.declared.tcp_ranks.TcpRank.TheVariants.{Closing, SynSent, TimeWait}
 use Rattle.pfs_engine_machine.specs.Kept.{IsKept}
 use Rattle.pfs_engine_machine.specs.Machine.{Held, held_for}
-use Rattle.pfs_engine_machine.proofs.Keys.{found-leaves}
+use Rattle.pfs_engine_machine.specs.Sides.{state_for, met_key}
+use Rattle.pfs_engine_machine.proofs.Keys.{found-leaves, found-by, met-differ}
 use Rattle.pfs_engine_machine.proofs.KeptTime.{kept_left}
 
 -- a fact of it: of what is held, and of that without some states
 pub met_has : (conf : Conf) (h : Held) (p : PacketView) (now : ℕ) (Q : World → Type 0) → Q h.world
     → ((stays : State → Bool) → Q (world_without conf h.world stays now)) → Q (held_for conf h p now).world
-met_has conf h p now Q same left = by (state_with (key_of p) h.world)
+met_has conf h p now Q same left = by (state_for h.world p)
   where
     by : (found : Option State) → Q (world_reopened conf h.world p now found)
     by None = same
@@ -43,13 +44,14 @@ kept_met conf h p now k =
 pub made_met : (conf : Conf) (h : Held) (p : PacketView) (now : ℕ) → (held_for conf h p now).world.made ≡ h.world.made
 made_met conf h p now = met_has conf h p now (λ (w : World). w.made ≡ h.world.made) refl (λ stays. refl)
 
--- where it begins a connection anew, no state has its key
-pub reopened-fresh : (conf : Conf) (h : Held) (p : PacketView) (now : ℕ) (s : State) → IsKept conf h now → state_with (key_of p) h.world ≡ Some s
-    → reopens conf p s ≡ true → state_with (key_of p) (held_for conf h p now).world ≡ None
+-- where it begins a connection anew, it is one of no held state
+pub reopened-fresh : (conf : Conf) (h : Held) (p : PacketView) (now : ℕ) (s : State) → IsKept conf h now → state_for h.world p ≡ Some s
+    → reopens conf p s ≡ true → state_for (held_for conf h p now).world p ≡ None
 reopened-fresh conf h p now s k found anew =
-    ap (λ (o : Option State). state_with (key_of p) (world_reopened conf h.world p now o)) found
-    ∙ ap (λ (b : Bool). state_with (key_of p) (if b then world_killed conf h.world s.number now else h.world)) anew
-    ∙ found-leaves (key_of p) s h.world.states k.keys found
+    ap (λ (o : Option State). state_for (world_reopened conf h.world p now o) p) found
+    ∙ ap (λ (b : Bool). state_for (if b then world_killed conf h.world s.number now else h.world) p) anew
+    ∙ found-by (world_killed conf h.world s.number now) p
+    ∙ found-leaves (met_key p) (key_of p) s h.world.states (met-differ p h.world.states k.keys k.inner_keys) (sym (found-by h.world p) ∙ found)
 
 -- ---- a packet without ACK completes no handshake
 
@@ -101,7 +103,7 @@ unless_closed conf w p now (Some s) h =
     ap (λ b. if b && has_closed s.phase then world_without conf w (other_than s.number) now else w) h
 
 pub met_same : (conf : Conf) (h : Held) (p : PacketView) (now : ℕ) → may_reopen conf p ≡ false → held_for conf h p now ≡ h
-met_same conf h p now e = ap (λ (w : World). record { world = w; tables = h.tables }) (unless_closed conf h.world p now (state_with (key_of p) h.world) e)
+met_same conf h p now e = ap (λ (w : World). record { world = w; tables = h.tables }) (unless_closed conf h.world p now (state_for h.world p) e)
 
 -- a packet that completes a handshake meets what is held
 pub completing_meets : (conf : Conf) (h : Held) (p : PacketView) (now : ℕ) (s : State) → completes_at p s ≡ true → held_for conf h p now ≡ h

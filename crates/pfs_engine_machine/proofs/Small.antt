@@ -142,7 +142,7 @@ small-nodes conf w s k =
 pub small-done : (conf : Conf) (m : Held) (a : RunAct) → IsSmall conf m.world → IsSmall conf (act_done conf m a).world
 small-done conf m (Purge s) k = small-nodes conf (state_slice conf m.world s) s (small-states conf m.world s k)
 small-done conf m (Arrive now p cookie) k =
-    answered_keeps conf (IsSmall conf) (record { touches = small-touched conf; kills = small-without conf; admits = small-admitted conf; refuses = small-refused conf }) m p cookie now k
+    answered_keeps conf (IsSmall conf) (record { touches = small-touched conf; kills = small-without conf; admits = λ w q going with at moment none led free. small-admitted conf w q going with at moment none; refuses = small-refused conf }) m p cookie now k
 small-done conf m (Change first now table done) k = k
 small-done conf m (Kill now hosts) k = small-without conf m.world (stays_elsewhere hosts) now k
 

@@ -99,7 +99,7 @@ state-packets conf k n = record {
     fate = fate-same (state_share conf) (interval_of conf) k n _ _ w.pending_states (numbers-renewed s.number p now w.states) h.fate;
   };
   kills = λ w stays now h. record { made = h.made; fate = fate-kill (state_share conf) (interval_of conf) k n stays w.states w.pending_states h.fate };
-  admits = λ w p going cookie rule now none h. record {
+  admits = λ w p going cookie rule now none led free h. record {
     made = omega (arith, h.made);
     fate = fate-push (λ (s : State). s.number) (state_share conf) (interval_of conf) k n w.states (new_state conf (w.made + 1) p going rule cookie now) w.pending_states (omega (arith, h.made)) h.fate;
   };
@@ -191,7 +191,7 @@ node-packets conf k n = record {
     fate = fate-same (node_share conf) (interval_of conf) k n _ _ w.pending_nodes (numbers-touched conf w.nodes s now (completes_at p s)) h.fate;
   };
   kills = λ w stays now h. node-left conf k n w (filter stays w.states) (filter (holds_number (filter stays w.states)) w.pending_states) now h;
-  admits = λ w p going cookie rule now none h. record {
+  admits = λ w p going cookie rule now none led free h. record {
     made = omega (arith, h.made);
     fate = node-admitted conf k n w.made now w.nodes w.pending_nodes p.source.addr (node_scope_of conf rule) h.made h.fate;
   };

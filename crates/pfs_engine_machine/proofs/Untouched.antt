@@ -14,7 +14,7 @@ use Rattle.pfs_store_contract.specs.Calls.{stays_elsewhere}
 use Rattle.pfs_store_contract.specs.Leaving.{world_without}
 use Rattle.pfs_store_contract.specs.Purging.{has_expired, is_among, state_numbers, state_round, state_share, stays}
 use Rattle.pfs_store_contract.specs.Touching.{numbered_state_after, state_after_packet, world_after_touch}
-use Rattle.pfs_store_contract.specs.Worlds.{World, holds_number, state_with}
+use Rattle.pfs_store_contract.specs.Worlds.{World, holds_number}
 use Rattle.pfs_store_contract.specs.declared.records.State.{State}
 use Rattle.pfs_engine_machine.proofs.Numbers.{Rise-filter, Rise-map, Rise-more, Rise-push}
 use Rattle.pfs_engine_machine.proofs.Renewals.{renewed-same}
@@ -31,6 +31,8 @@ use Rattle.pfs_engine_machine.proofs.Small.{IsSmall, small-done_all, small-empty
 use Rattle.pfs_engine_machine.proofs.Staling.{IsExpiredThroughout, numbered-go}
 use Rattle.pfs_engine_machine.specs.Acts.{RunAct, Arrive, Change, Kill, Purge, after, act_done, acts_done}
 use Rattle.pfs_engine_machine.specs.Staleness.{StatesGo, brings}
+use Rattle.pfs_engine_machine.specs.Sides.{state_for, met_key}
+use Rattle.pfs_engine_machine.proofs.Keys.{found-by}
 
 -- ---- numbers rise
 
@@ -41,7 +43,7 @@ numbered-packets : (conf : Conf) → IsKeptByPackets conf AreNumbered
 numbered-packets conf = record {
   touches = λ w s p now h. record { rise = Rise-map (numbered_state_after s.number p now) (λ t. (renewed-same s.number p now t).number) 0 w.made w.states h.rise };
   kills = λ w stay now h. record { rise = Rise-filter stay 0 w.made w.states h.rise };
-  admits = λ w p going cookie rule now none h. record { rise = Rise-push 0 w.made w.states (new_state conf (w.made + 1) p going rule cookie now) h.rise (omega arith) };
+  admits = λ w p going cookie rule now none led free h. record { rise = Rise-push 0 w.made w.states (new_state conf (w.made + 1) p going rule cookie now) h.rise (omega arith) };
   refuses = λ w p rule now l met h. refused_has conf w rule p.source.addr now l AreNumbered met h (λ free. record { rise = Rise-more 0 w.made w.states h.rise });
 }
 
@@ -103,19 +105,19 @@ before-touched conf s w x p now other h = record {
     one t f true e n = let same : t.number ≡ x.number = grind (arith, nat_tests) in absurd (other (sym same ∙ n))
 
 -- another state is found
-another : (s : State) (w : World) (p : PacketView) → same_key s.key (key_of p) ≡ false → IsAsBefore s w → (x : State) → state_with (key_of p) w ≡ Some x
+another : (s : State) (w : World) (p : PacketView) → same_key (met_key p s) (key_of p) ≡ false → IsAsBefore s w → (x : State) → state_for w p ≡ Some x
     → x.number ≡ s.number → ⊥
 another s w p apart h x e n =
-    let f = found (λ (t : State). t.number ≡ s.number → t ≡ s) (λ (t : State). same_key t.key (key_of p)) x w.states h.same e in
-    false≢true (sym apart ∙ ap (λ (t : State). same_key t.key (key_of p)) (sym (f.1 n)) ∙ f.0)
+    let f = found (λ (t : State). t.number ≡ s.number → t ≡ s) (λ (t : State). same_key (met_key p t) (key_of p)) x w.states h.same (sym (found-by w p) ∙ e) in
+    false≢true (sym apart ∙ ap (λ (t : State). same_key (met_key p t) (key_of p)) (sym (f.1 n)) ∙ f.0)
 
 before-left : (conf : Conf) (s : State) (w : World) (stay : State → Bool) (now : ℕ) → IsAsBefore s w → IsAsBefore s (world_without conf w stay now)
 before-left conf s w stay now h = record { made = h.made; same = each-filter (λ (t : State). t.number ≡ s.number → t ≡ s) stay w.states h.same }
 
-before-packet : (conf : Conf) (s : State) (w : World) (p : PacketView) (cookie : Bool) (now : ℕ) → same_key s.key (key_of p) ≡ false → IsAsBefore s w → Changes conf w p cookie now (IsAsBefore s)
+before-packet : (conf : Conf) (s : State) (w : World) (p : PacketView) (cookie : Bool) (now : ℕ) → same_key (met_key p s) (key_of p) ≡ false → IsAsBefore s w → Changes conf w p cookie now (IsAsBefore s)
 before-packet conf s w p cookie now apart h = record {
   passes = λ fresh. h;
-  admits = λ rule going fresh none. record {
+  admits = λ rule going fresh none led free. record {
     made = omega (arith, h.made);
     same = each-push (λ (t : State). t.number ≡ s.number → t ≡ s) w.states (new_state conf (w.made + 1) p going rule cookie now) h.same (λ n. absurd (omega (arith, n, h.made)));
   };
@@ -124,7 +126,7 @@ before-packet conf s w p cookie now apart h = record {
   kills = λ v stay k. before-left conf s v stay now k;
 }
 
-before-done : (conf : Conf) (s : State) (m : Held) (a : RunAct) → brings s.key a ≡ false → IsAsBefore s m.world → IsAsBefore s (act_done conf m a).world
+before-done : (conf : Conf) (s : State) (m : Held) (a : RunAct) → brings s a ≡ false → IsAsBefore s m.world → IsAsBefore s (act_done conf m a).world
 before-done conf s m (Purge now) apart h = record {
   made = h.made;
   same = each-filter (λ (t : State). t.number ≡ s.number → t ≡ s) (stays conf m.world.states now (take (state_share conf) (state_round m.world))) m.world.states h.same;
@@ -135,7 +137,7 @@ before-done conf s m (Arrive now p cookie) apart h =
 before-done conf s m (Change first now table done) apart h = h
 before-done conf s m (Kill now hosts) apart h = before-left conf s m.world (stays_elsewhere hosts) now h
 
-before-all : (conf : Conf) (s : State) (m : Held) (acts rest : List RunAct) → AllByRecursion (λ (a : RunAct). brings s.key a ≡ false) (acts ++ rest) → IsAsBefore s m.world
+before-all : (conf : Conf) (s : State) (m : Held) (acts rest : List RunAct) → AllByRecursion (λ (a : RunAct). brings s a ≡ false) (acts ++ rest) → IsAsBefore s m.world
     → IsAsBefore s (acts_done conf m acts).world
 before-all conf s m [] rest all h = h
 before-all conf s m (a ∷ acts) rest all h = before-all conf s (act_done conf m a) acts rest all.1 (before-done conf s m a all.0 h)
@@ -194,7 +196,7 @@ states-go conf events sound earlier meanwhile later s rounds held apart expired 
     through m first is before rest now e =
         let v : Held = acts_done conf m before in
         let there : after conf (earlier ++ before) ≡ v = done_all-append conf (start conf).held earlier before ∙ ap (λ (u : Held). acts_done conf u before) is in
-        let apart' : AllByRecursion (λ (a : RunAct). brings s.key a ≡ false) (before ++ Purge now ∷ rest) =
-        subst (AllByRecursion (λ (a : RunAct). brings s.key a ≡ false)) e (recursion_from_All (λ (a : RunAct). brings s.key a ≡ false) meanwhile apart) in
+        let apart' : AllByRecursion (λ (a : RunAct). brings s a ≡ false) (before ++ Purge now ∷ rest) =
+        subst (AllByRecursion (λ (a : RunAct). brings s a ≡ false)) e (recursion_from_All (λ (a : RunAct). brings s a ≡ false) meanwhile apart) in
         all-expired conf s v.world now (before-all conf s m before (Purge now ∷ rest) apart' first)
         (λ h. ap (λ (u : Held). has_expired conf u.world.states now s) (sym there) ∙ expired before rest now e (ap (λ (u : Held). holds_number u.world.states s.number) there ∙ h))
