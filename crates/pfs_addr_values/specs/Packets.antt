@@ -54,6 +54,13 @@ is_from_inside p = is_outgoing_from p.dir p.came_by
 abbrev pub through : PacketView → List ℕ → PacketView
 through p ifname = record p { dir = Out; ifname = ifname; came_by = Some p.ifname }
 
+-- a packet with this end in place of its source, or of its destination
+abbrev pub with_source : PacketView → Endpoint → PacketView
+with_source p end = record p { source = end }
+
+abbrev pub with_destination : PacketView → Endpoint → PacketView
+with_destination p end = record p { destination = end }
+
 -- a packet with this tag, or with none
 abbrev pub with_tag : PacketView → Option TagNo → PacketView
 with_tag p tag = record p { tag = tag }

@@ -3,7 +3,7 @@
 ghost use Rattle.std.specs.Prelude.{◌≡◌, None, Some, false};
 ghost use Rattle.std.specs.Str.{bytes_eq};
 ghost use Rattle.pfs_addr_values.specs.Keys.{end_put, key_of, under};
-ghost use Rattle.pfs_addr_values.specs.Packets.{came_in_on, is_from_inside, through, with_tag};
+ghost use Rattle.pfs_addr_values.specs.Packets.{came_in_on, is_from_inside, through, with_destination, with_source, with_tag};
 ghost use Rattle.pfs_addr_values.specs.Protocols.{has_ports};
 ghost use Rattle.pfs_addr_values.specs.declared.packets.Dir.TheVariants.{In, Out};
 
@@ -251,6 +251,25 @@ impl Packet {
         ensures { result ≡ with_tag self.now tag }
     {
         Packet { tag, ..*self }
+    }
+
+    /// The packet with this end in place of its source. It takes no memory.
+    pub fn with_source(&self, source: Endpoint) -> Packet
+        requires { has_ports self.now.proto ≡ false → source.port ≡ 0 }
+        ensures { result ≡ with_source self.now source }
+    {
+        Packet { source, ..*self }
+    }
+
+    /// The packet with this end in place of its destination. It takes no memory.
+    pub fn with_destination(&self, destination: Endpoint) -> Packet
+        requires { has_ports self.now.proto ≡ false → destination.port ≡ 0 }
+        ensures { result ≡ with_destination self.now destination }
+    {
+        Packet {
+            destination,
+            ..*self
+        }
     }
 
     /// The packet with these flags in place of its own. It takes no memory.

@@ -15,7 +15,7 @@ use Rattle.pfs_addr_values.specs.Names.{name_of}
 use Rattle.pfs_conf_settings.specs.Drafts.{Drafted, conf_of_draft, is_defined}
 use Rattle.pfs_conf_values.specs.Siblings.{has_sibling}
 use Rattle.pfs_conf_values.specs.declared.filters.FlagTest.{FlagTest}
-use Rattle.pfs_conf_filters.specs.Reading.{verb_at, parameters_at, flags_at, begins_flags, extra_at}
+use Rattle.pfs_conf_filters.specs.Reading.{verb_at, parameters_at, flags_at, begins_flags, extra_at, translation_at}
 use Rattle.pfs_conf_filters.specs.declared.phrases.Parameters.{Parameters}
 use Rattle.pfs_conf_filters.specs.declared.phrases.Statement.TheVariants as statement
 use Rattle.pfs_conf_filters.specs.declared.phrases.Verb.{Verb}
@@ -33,17 +33,22 @@ use Rattle.pfs_conf.specs.declared.progress.Progress.{Progress}
 use Rattle.pfs_conf.specs.Grammar.{names_anchor, RuleOf, AnchorOf, StatementOf, CookiesOf}
 use Rattle.pfs_conf.specs.Faults.{Statements, none, before, Breaks, at_rule, at_anchor, at_end, at_cookies}
 use Rattle.pfs_conf.specs.Statements.{nothing, no_clauses, with_rule, with_anchor, with_definition, rule_breaks, anchor_breaks, text_breaks, with_cookies, cookies_break}
-use Rattle.pfs_conf.specs.Reading.{with_draft, anchor_closed, told, clause_by, clause_at, rule_text_at, rule_line_at, anchor_named, anchor_name_by, anchor_name_at, brace_by, brace_at, anchor_parts_at, in_head, anchor_text_at, anchor_at, set_at, open_by, angle_by, new_table_named, new_name_by, new_name_at, definition_at, statement_by, statement_at, all_closed, told_of, statements_at, text_at, cookies_line_at, setting_line_at, set_by, state_act, extra_act}
+use Rattle.pfs_conf.specs.Reading.{with_draft, anchor_closed, told, clause_by, clause_at, rule_text_at, rule_line_at, anchor_named, anchor_name_by, anchor_name_at, brace_by, brace_at, anchor_parts_at, in_head, anchor_text_at, anchor_at, set_at, open_by, angle_by, new_table_named, new_name_by, new_name_at, definition_at, statement_by, statement_at, all_closed, told_of, statements_at, text_at, cookies_line_at, setting_line_at, set_by, state_act, extra_act, translation_act}
 use Rattle.pfs_conf.proofs.OnlineLaws.{ruled, anchored}
 use Rattle.pfs_conf.proofs.PhraseLaws.{rule_text_is, anchor_text_is, statement_is, statements_are, closed_ok}
 use Rattle.pfs_conf.proofs.UnbrokenLaws.{Unbroken, UnbrokenAct, refused_unbroken, unbroken_done, unbroken_chain, unbroken_front, unbroken_if, unbroken_once, unbroken_perhaps, unbroken_until, unbroken_ended}
-use Rattle.pfs_conf.proofs.UnbrokenPhrases.{unbroken_verb, unbroken_parameters, unbroken_flags, unbroken_state, unbroken_settings, unbroken_parts, unbroken_syncookies, unbroken_extra}
-use Rattle.pfs_conf_filters.specs.Grammar.{statement_of, takes_state}
+use Rattle.pfs_conf.proofs.UnbrokenPhrases.{unbroken_verb, unbroken_parameters, unbroken_flags, unbroken_state, unbroken_settings, unbroken_parts, unbroken_syncookies, unbroken_extra, unbroken_translation}
+use Rattle.pfs_conf_filters.specs.Grammar.{may_translate, statement_of, takes_state}
 
 -- ---- statements as they are written check no load rule
 
 extra_acts : (c : Clauses) → UnbrokenAct (extra_act c)
 extra_acts c = unbroken_chain (extra_at c.extras) (λ e. done (record c { extras = e })) (unbroken_extra c.extras) (λ e. unbroken_done (record c { extras = e }))
+
+translation_acts : (v : Verb) (c : Clauses) → UnbrokenAct (translation_act v c)
+translation_acts v c = unbroken_if (may_translate v) (stay (chain (translation_at c.translation) (λ t. done (record c { translation = t })))) (refuse why.Plain)
+    (unbroken_chain (translation_at c.translation) (λ t. done (record c { translation = t })) (unbroken_translation c.translation) (λ t. unbroken_done (record c { translation = t })))
+    tt
 
 state_acts : (v : Verb) (c : Clauses) → UnbrokenAct (state_act v c)
 state_acts v c = unbroken_if (takes_state v) (once c.state (stay (chain state_at (λ s. done (record c { state = Some s }))))) (refuse why.Plain)
@@ -56,6 +61,8 @@ clause_acts v p c key.Tag = extra_acts c
 clause_acts v p c key.Tagged = extra_acts c
 clause_acts v p c key.ReceivedOn = extra_acts c
 clause_acts v p c key.Not = extra_acts c
+clause_acts v p c key.NatTo = translation_acts v c
+clause_acts v p c key.RdrTo = translation_acts v c
 clause_acts v p c key.No = state_acts v c
 clause_acts v p c key.Keep = state_acts v c
 clause_acts v p c key.Synproxy = state_acts v c

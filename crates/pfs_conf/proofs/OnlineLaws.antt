@@ -14,11 +14,11 @@ use Rattle.pfs_addr_values.specs.Names.{name_of}
 use Rattle.pfs_conf_settings.specs.Drafts.{Drafted, conf_of_draft, is_defined}
 use Rattle.pfs_conf_values.specs.Siblings.{has_sibling}
 use Rattle.pfs_conf_values.specs.declared.filters.FlagTest.{FlagTest}
-use Rattle.pfs_conf_filters.specs.Reading.{verb_at, parameters_at, flags_at, begins_flags, extra_at}
+use Rattle.pfs_conf_filters.specs.Reading.{verb_at, parameters_at, flags_at, begins_flags, extra_at, translation_at}
 use Rattle.pfs_conf_filters.specs.declared.phrases.Parameters.{Parameters}
 use Rattle.pfs_conf_filters.specs.declared.phrases.Statement.TheVariants as statement
 use Rattle.pfs_conf_filters.specs.declared.phrases.Verb.{Verb}
-use Rattle.pfs_conf_filters.proofs.OnlineLaws.{online_verb, verb_shrinks, online_parameters, online_flags, flags_shrinks, online_extra, extra_shrinks}
+use Rattle.pfs_conf_filters.proofs.OnlineLaws.{online_verb, verb_shrinks, online_parameters, online_flags, flags_shrinks, online_extra, extra_shrinks, online_translation, translation_shrinks}
 use Rattle.pfs_conf_options.specs.Reading.{state_at}
 use Rattle.pfs_conf_options.proofs.OptionLaws.{online_state, state_shrinks}
 use Rattle.pfs_conf_settings.specs.Settings.{settings_at}
@@ -33,8 +33,8 @@ use Rattle.pfs_conf.specs.declared.phrases.AnchorText.{AnchorText}
 use Rattle.pfs_conf.specs.declared.progress.Progress.{Progress}
 use Rattle.pfs_conf.specs.Grammar.{names_anchor}
 use Rattle.pfs_conf.specs.Statements.{nothing, no_clauses, with_rule, with_anchor, with_definition, rule_breaks, anchor_breaks, text_breaks, with_cookies, cookies_break}
-use Rattle.pfs_conf.specs.Reading.{with_draft, anchor_closed, told, clause_by, clause_at, rule_text_at, rule_line_at, anchor_named, anchor_name_by, anchor_name_at, brace_by, brace_at, anchor_parts_at, why_in_head, in_head, anchor_text_at, anchor_at, set_at, open_by, angle_by, new_table_named, new_name_by, new_name_at, definition_at, statement_by, statement_at, all_closed, told_of, statements_at, text_at, cookies_line_at, setting_line_at, set_by, state_act, extra_act}
-use Rattle.pfs_conf_filters.specs.Grammar.{statement_of, takes_state}
+use Rattle.pfs_conf.specs.Reading.{with_draft, anchor_closed, told, clause_by, clause_at, rule_text_at, rule_line_at, anchor_named, anchor_name_by, anchor_name_at, brace_by, brace_at, anchor_parts_at, why_in_head, in_head, anchor_text_at, anchor_at, set_at, open_by, angle_by, new_table_named, new_name_by, new_name_at, definition_at, statement_by, statement_at, all_closed, told_of, statements_at, text_at, cookies_line_at, setting_line_at, set_by, state_act, extra_act, translation_act}
+use Rattle.pfs_conf_filters.specs.Grammar.{may_translate, statement_of, takes_state}
 
 -- ---- forms
 
@@ -80,6 +80,14 @@ extra_takes c k = (
   chain_shrinks inside (extra_at c.extras) (λ e. done (record c { extras = e })) (extra_shrinks c.extras) (λ e. online_done (record c { extras = e })),
 )
 
+translation_takes : (v : Verb) (c : Clauses) (k : Key) → Taking inside k (translation_act v c)
+translation_takes v c k = if_takes inside k (may_translate v) (stay (chain (translation_at c.translation) (λ t. done (record c { translation = t })))) (refuse why.Plain)
+    (λ e. (
+      online_chain (translation_at c.translation) (λ t. done (record c { translation = t })) (online_translation c.translation) (λ t. online_done (record c { translation = t })),
+      chain_shrinks inside (translation_at c.translation) (λ t. done (record c { translation = t })) (translation_shrinks c.translation) (λ t. online_done (record c { translation = t })),
+    ))
+    (λ e. tt)
+
 state_takes : (v : Verb) (c : Clauses) (k : Key) → Taking inside k (state_act v c)
 state_takes v c k = if_takes inside k (takes_state v) (once c.state (stay (chain state_at (λ s. done (record c { state = Some s }))))) (refuse why.Plain)
     (λ e. once_taking inside k c.state (stay (chain state_at (λ s. done (record c { state = Some s })))) (
@@ -97,6 +105,8 @@ clause_taking v p c key.Tag = extra_takes c key.Tag
 clause_taking v p c key.Tagged = extra_takes c key.Tagged
 clause_taking v p c key.ReceivedOn = extra_takes c key.ReceivedOn
 clause_taking v p c key.Not = extra_takes c key.Not
+clause_taking v p c key.NatTo = translation_takes v c key.NatTo
+clause_taking v p c key.RdrTo = translation_takes v c key.RdrTo
 clause_taking v p c key.No = state_takes v c key.No
 clause_taking v p c key.Keep = state_takes v c key.Keep
 clause_taking v p c key.Synproxy = state_takes v c key.Synproxy

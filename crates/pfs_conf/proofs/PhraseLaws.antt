@@ -21,12 +21,12 @@ use Rattle.pfs_conf_values.specs.LoadRules.{IsFlagTest}
 use Rattle.pfs_conf_values.specs.Siblings.{has_sibling}
 use Rattle.pfs_conf_values.specs.Order.{repeats_by}
 use Rattle.pfs_conf_values.specs.declared.filters.FlagTest.{FlagTest}
-use Rattle.pfs_conf_filters.specs.Grammar.{FlagsOf, statement_of, takes_state}
-use Rattle.pfs_conf_filters.specs.Reading.{verb_at, parameters_at, flags_at, begins_flags, extra_at}
+use Rattle.pfs_conf_filters.specs.Grammar.{FlagsOf, may_translate, statement_of, takes_state}
+use Rattle.pfs_conf_filters.specs.Reading.{verb_at, parameters_at, flags_at, begins_flags, extra_at, translation_at}
 use Rattle.pfs_conf_filters.specs.declared.phrases.Parameters.{Parameters}
 use Rattle.pfs_conf_filters.specs.declared.phrases.Statement.TheVariants as statement
 use Rattle.pfs_conf_filters.specs.declared.phrases.Verb.{Verb}
-use Rattle.pfs_conf_filters.proofs.PhraseLaws.{verb_is, parameters_are, flags_are, extra_is}
+use Rattle.pfs_conf_filters.proofs.PhraseLaws.{verb_is, parameters_are, flags_are, extra_is, translation_is}
 use Rattle.pfs_conf_options.specs.Grammar.{no}
 use Rattle.pfs_conf_options.specs.Options.{none_given}
 use Rattle.pfs_conf_options.specs.Bounds.{AreRead}
@@ -49,11 +49,13 @@ use Rattle.pfs_conf.specs.declared.phrases.Clauses.{Clauses}
 use Rattle.pfs_conf.specs.declared.phrases.RuleText.{RuleText}
 use Rattle.pfs_conf.specs.declared.phrases.AnchorText.{AnchorText}
 use Rattle.pfs_conf.specs.declared.progress.Progress.{Progress}
-use Rattle.pfs_conf.specs.Grammar.{ClauseOf, flags, state, RuleOf, names_anchor, AnchorNameOf, unnamed, named, AnchorOf, NewTableOf, StatementOf, blank, set, table, rule, anchor, close, TextOf, cookies, extra}
+use Rattle.pfs_conf.specs.Grammar.{ClauseOf, flags, state, RuleOf, names_anchor, AnchorNameOf, unnamed, named, AnchorOf, NewTableOf, StatementOf, blank, set, table, rule, anchor, close, TextOf, cookies, extra, translation}
 use Rattle.pfs_conf.specs.Statements.{nothing, no_clauses, state_options, with_rule, with_anchor, with_definition, rule_breaks, anchor_breaks, text_breaks, with_cookies, cookies_break}
-use Rattle.pfs_conf.specs.Reading.{with_draft, anchor_closed, told, clause_by, clause_at, rule_text_at, rule_line_at, anchor_named, anchor_name_at, brace_by, brace_at, anchor_parts_at, anchor_text_at, anchor_at, set_at, open_by, angle_by, new_table_named, new_name_by, new_name_at, definition_at, statement_by, statement_at, all_closed, told_of, statements_at, text_at, cookies_line_at, setting_line_at, set_by, extra_act}
+use Rattle.pfs_conf.specs.Reading.{with_draft, anchor_closed, told, clause_by, clause_at, rule_text_at, rule_line_at, anchor_named, anchor_name_at, brace_by, brace_at, anchor_parts_at, anchor_text_at, anchor_at, set_at, open_by, angle_by, new_table_named, new_name_by, new_name_at, definition_at, statement_by, statement_at, all_closed, told_of, statements_at, text_at, cookies_line_at, setting_line_at, set_by, extra_act, translation_act}
 use Rattle.pfs_conf.specs.Within.{AreLexed, more, IsRuleText, IsAnchorText, AreExtras}
-use Rattle.pfs_conf.proofs.WithinLaws.{word_lexed, name_is, flags_within, parameters_within, extra_within, marks_within, passes_lexed}
+use Rattle.pfs_conf_values.specs.LoadRules.{IsTranslation}
+use Rattle.pfs_conf_values.specs.Translations.{translates_by}
+use Rattle.pfs_conf.proofs.WithinLaws.{word_lexed, name_is, flags_within, parameters_within, extra_within, translation_within, marks_within, passes_lexed}
 use Rattle.pfs_conf.proofs.OnlineLaws.{ruled, anchored, in_head_ok, online_clause}
 use Rattle.pfs_conf_filters.proofs.OnlineLaws.{online_verb, online_parameters}
 
@@ -79,6 +81,13 @@ extra_clause_is v c ts d left h =
     let k = chain_ok (extra_at c.extras) (λ e. done (record c { extras = e })) ts d left h in
     moved (λ (us : List Tok) (x : Clauses) (l : List Tok). ClauseOf v c us x l) ts (ok_parts (record c { extras = k.0 }) d k.1 left k.3) (extra (extra_is c.extras ts k.0 k.1 k.2))
 
+translation_clause_is : (v : Verb) (c : Clauses) (b : Bool) → may_translate v ≡ b → (ts : List Tok) (d : Clauses) (left : List Tok)
+    → act (cond b (stay (chain (translation_at c.translation) (λ t. done (record c { translation = t })))) (refuse why.Plain)) ts ≡ Ok (d, left) → ClauseOf v c ts d left
+translation_clause_is v c false m ts d left h = absurd (not_refused _ _ _ h)
+translation_clause_is v c true m ts d left h =
+    let k = chain_ok (translation_at c.translation) (λ t. done (record c { translation = t })) ts d left h in
+    moved (λ (us : List Tok) (x : Clauses) (l : List Tok). ClauseOf v c us x l) ts (ok_parts (record c { translation = k.0 }) d k.1 left k.3) (translation m (translation_is c.translation ts k.0 k.1 k.2))
+
 state_clause_is : (v : Verb) (c : Clauses) (b : Bool) → takes_state v ≡ b → (m : Option StateClause) → c.state ≡ m → (ts : List Tok) (d : Clauses) (left : List Tok)
     → act (cond b (once m (stay (chain state_at (λ s. done (record c { state = Some s }))))) (refuse why.Plain)) ts ≡ Ok (d, left) → ClauseOf v c ts d left
 state_clause_is v c false t m g ts d left h = absurd (not_refused _ _ _ h)
@@ -97,6 +106,8 @@ clause_is v p c ts d left e = by_key (head ts).key e
     by_key key.Tagged h = extra_clause_is v c ts d left h
     by_key key.ReceivedOn h = extra_clause_is v c ts d left h
     by_key key.Not h = extra_clause_is v c ts d left h
+    by_key key.NatTo h = translation_clause_is v c (may_translate v) refl ts d left h
+    by_key key.RdrTo h = translation_clause_is v c (may_translate v) refl ts d left h
     by_key key.No h = state_clause_is v c (takes_state v) refl c.state refl ts d left h
     by_key key.Keep h = state_clause_is v c (takes_state v) refl c.state refl ts d left h
     by_key key.Synproxy h = state_clause_is v c (takes_state v) refl c.state refl ts d left h
@@ -120,21 +131,24 @@ rule_text_is ts r left e =
 no_options_read : AreRead none_given
 no_options_read = state_within (no {ts = token 1 key.No [] ∷ token 1 key.State [] ∷ []} {mid = token 1 key.State [] ∷ []} {left = []} (token 1 key.No [], refl, refl) (token 1 key.State [], refl, refl))
 
-record Bounded (c : Clauses) : Type 0 where
+record Bounded (v : Verb) (c : Clauses) : Type 0 where
   tests : IfSome c.flags IsFlagTest
   extras : AreExtras c.extras
+  translation : IsTranslation c.translation
+  translates : may_translate v ≡ false → translates_by c.translation ≡ false
   options : AreRead (state_options c.state)
 
-clause_bounded : {v : Verb} {c d : Clauses} {ts left : List Tok} → ClauseOf v c ts d left → AreLexed ts → Bounded c → Bounded d
-clause_bounded (flags g q) l b = record { tests = flags_within q; extras = b.extras; options = b.options }
-clause_bounded (extra q) l b = record { tests = b.tests; extras = extra_within q l b.extras; options = b.options }
-clause_bounded (state t g q) l b = record { tests = b.tests; extras = b.extras; options = state_within q }
+clause_bounded : {v : Verb} {c d : Clauses} {ts left : List Tok} → ClauseOf v c ts d left → AreLexed ts → Bounded v c → Bounded v d
+clause_bounded (flags g q) l b = record { tests = flags_within q; extras = b.extras; translation = b.translation; translates = b.translates; options = b.options }
+clause_bounded (extra q) l b = record { tests = b.tests; extras = extra_within q l b.extras; translation = b.translation; translates = b.translates; options = b.options }
+clause_bounded {v = v} (translation m q) l b = record { tests = b.tests; extras = b.extras; translation = translation_within q b.translation; translates = λ e. absurd (clash (sym e ∙ m)); options = b.options }
+clause_bounded (state t g q) l b = record { tests = b.tests; extras = b.extras; translation = b.translation; translates = b.translates; options = state_within q }
 
 -- a clause, and the tokens that it goes over
 abbrev ClauseOver : Verb → Clauses → List Tok → Clauses → List Tok → Type 0
 ClauseOver v c ts d left = ClauseOf v c ts d left × Passes (taking inside) ts left
 
-clauses_bounded : {v : Verb} {c d : Clauses} {ts left : List Tok} → Until key.LineEnd (ClauseOver v) c ts d left → AreLexed ts → Bounded c → Bounded d
+clauses_bounded : {v : Verb} {c d : Clauses} {ts left : List Tok} → Until key.LineEnd (ClauseOver v) c ts d left → AreLexed ts → Bounded v c → Bounded v d
 clauses_bounded (ends w) l b = b
 clauses_bounded (goes q u) l b = clauses_bounded u (passes_lexed q.1 l) (clause_bounded q.0 l b)
 
@@ -148,10 +162,10 @@ rule_within ts r left e l =
     let behind_parameters = passes_lexed ((online_parameters (statement_of a.0)).took a.1 b.0 b.1 b.2) behind_verb in
     let clauses = until_is key.LineEnd ends_line (ClauseOver a.0) (clause_at a.0 b.0) line_end_key (λ q. cc)
     (λ x us y vs h. (clause_is a.0 b.0 x us y vs h, (online_clause a.0 b.0 x).took us y vs h)) no_clauses b.1 c.0 c.1 c.2 in
-    let k = clauses_bounded clauses behind_parameters (record { tests = tt; extras = record { tag = tt; tagged = tt; received_on = tt }; options = no_options_read }) in
+    let k = clauses_bounded clauses behind_parameters (record { tests = tt; extras = record { tag = tt; tagged = tt; received_on = tt }; translation = record { nat_to = tt; rdr_to = tt }; translates = λ e. refl; options = no_options_read }) in
     let q = parameters_are (statement_of a.0) a.1 b.0 b.1 b.2 in
     moved (λ (us : List Tok) (x : RuleText) (m : List Tok). IsRuleText x) ts {x = ruled a.0 b.0 c.0} {l = c.1} (ok_parts (ruled a.0 b.0 c.0) r c.1 left c.3)
-    (record { parameters = parameters_within q behind_verb; quick = marks_within q.head.marks; flags = k.tests; extras = k.extras; options = k.options })
+    (record { parameters = parameters_within q behind_verb; quick = marks_within q.head.marks; flags = k.tests; extras = k.extras; translation = k.translation; translates = k.translates; options = k.options })
 
 pub rule_text_within : (ts left : List Tok) (r : Result RuleText Refusal) → AreLexed ts → Gives r left (rule_text_at ts) → IfOk r IsRuleText
 rule_text_within ts left (Ok r) l e = rule_within ts r left e l

@@ -21,7 +21,7 @@ use Rattle.pfs_conf_filters.specs.declared.phrases.Parameters.{Parameters}
 use Rattle.pfs_conf_filters.specs.declared.phrases.Statement.TheVariants as statement
 use Rattle.pfs_conf_filters.specs.declared.phrases.Verb.{Verb}
 use Rattle.pfs_conf_filters.specs.declared.phrases.Marks.{Marks}
-use Rattle.pfs_conf_filters.proofs.ReadLaws.{no_policy, ends_parameters, verb_reads, parameters_read, flags_read, parameters_head, flags_head, extra_reads, extra_head}
+use Rattle.pfs_conf_filters.proofs.ReadLaws.{no_policy, ends_parameters, verb_reads, parameters_read, flags_read, parameters_head, flags_head, extra_reads, extra_head, ends_translation, translation_reads, translation_head}
 use Rattle.pfs_conf_options.specs.Grammar.{no, keep, proxy}
 use Rattle.pfs_conf_options.proofs.PhraseLaws.{ends_state, state_reads}
 use Rattle.pfs_conf_settings.specs.SettingGrammar.{SettingOf, profile, limit, limits, timeout, timeouts, route, routes}
@@ -35,40 +35,53 @@ use Rattle.pfs_conf.specs.declared.phrases.Clauses.{Clauses}
 use Rattle.pfs_conf.specs.declared.phrases.RuleText.{RuleText}
 use Rattle.pfs_conf.specs.declared.phrases.AnchorText.{AnchorText}
 use Rattle.pfs_conf.specs.declared.progress.Progress.{Progress}
-use Rattle.pfs_conf.specs.Grammar.{ClauseOf, flags, state, RuleOf, names_anchor, AnchorNameOf, unnamed, named, AnchorOf, NewTableOf, StatementOf, blank, set, table, rule, anchor, close, TextOf, CookiesOf, cookies, extra}
+use Rattle.pfs_conf.specs.Grammar.{ClauseOf, flags, state, RuleOf, names_anchor, AnchorNameOf, unnamed, named, AnchorOf, NewTableOf, StatementOf, blank, set, table, rule, anchor, close, TextOf, CookiesOf, cookies, extra, translation}
 use Rattle.pfs_conf.specs.Statements.{nothing, with_rule, with_anchor, with_definition, rule_breaks, anchor_breaks, text_breaks, with_cookies, cookies_break}
-use Rattle.pfs_conf.specs.Reading.{with_draft, anchor_closed, clause_at, rule_text_at, rule_line_at, anchor_name_at, brace_at, anchor_parts_at, in_head, anchor_text_at, anchor_at, set_at, new_name_at, definition_at, statement_at, statements_at, text_at, cookies_line_at, setting_line_at, set_by, told, clause_by, extra_act}
+use Rattle.pfs_conf.specs.Reading.{with_draft, anchor_closed, clause_at, rule_text_at, rule_line_at, anchor_name_at, brace_at, anchor_parts_at, in_head, anchor_text_at, anchor_at, set_at, new_name_at, definition_at, statement_at, statements_at, text_at, cookies_line_at, setting_line_at, set_by, told, clause_by, extra_act, translation_act}
 use Rattle.pfs_conf.proofs.OnlineLaws.{clause_shrinks, statement_shrinks}
 
 -- ---- rules
 
-clause_reads : (v : Verb) (p : Parameters) {c d : Clauses} {ts left : List Tok} → ClauseOf v c ts d left → ends_state (head left).key ≡ true → clause_at v p c ts ≡ Ok (d, left)
+-- what ends a clause goes on with no options of a state, and with no ports of a translation
+abbrev ends_clause : Key → Bool
+ends_clause k = ends_state k && ends_translation k
+
+both_ends : (a b : Bool) → (a && b) ≡ true → (a ≡ true) × (b ≡ true)
+both_ends true true e = (refl, refl)
+both_ends true false e = absurd cc
+both_ends false b e = absurd cc
+
+clause_reads : (v : Verb) (p : Parameters) {c d : Clauses} {ts left : List Tok} → ClauseOf v c ts d left → ends_clause (head left).key ≡ true → clause_at v p c ts ≡ Ok (d, left)
 unfolding clause_at
 clause_reads v p (flags g q) f = let h = word_head q.1 in rw (h.0, g, flags_read q) refl
 clause_reads v p {c = c} (extra q) f = rw (extra_head (λ k. clause_by v p c k ≡ extra_act c) refl refl refl refl q, extra_reads q) refl
-clause_reads v p (state t g (no w s)) f = let h = word_head w in rw (h.0, t, g, state_reads (no w s) f) refl
-clause_reads v p (state t g (keep w s k)) f = let h = word_head w in rw (h.0, t, g, state_reads (keep w s k) f) refl
-clause_reads v p (state t g (proxy w s k)) f = let h = word_head w in rw (h.0, t, g, state_reads (proxy w s k) f) refl
+clause_reads v p {c = c} {left = left} (translation m q) f =
+    let e = both_ends (ends_state (head left).key) (ends_translation (head left).key) f in
+    rw (translation_head (λ k. clause_by v p c k ≡ translation_act v c) refl refl q, m, translation_reads q e.1) refl
+clause_reads v p {left = left} (state t g (no w s)) f = let h = word_head w in let e = both_ends (ends_state (head left).key) (ends_translation (head left).key) f in rw (h.0, t, g, state_reads (no w s) e.0) refl
+clause_reads v p {left = left} (state t g (keep w s k)) f = let h = word_head w in let e = both_ends (ends_state (head left).key) (ends_translation (head left).key) f in rw (h.0, t, g, state_reads (keep w s k) e.0) refl
+clause_reads v p {left = left} (state t g (proxy w s k)) f = let h = word_head w in let e = both_ends (ends_state (head left).key) (ends_translation (head left).key) f in rw (h.0, t, g, state_reads (proxy w s k) e.0) refl
 
 -- what a clause begins with
-clause_head : {v : Verb} (Q : Key → Type 0) → Q key.Flags → Q key.Tag → Q key.Not → Q key.Tagged → Q key.ReceivedOn → Q key.No → Q key.Keep → Q key.Synproxy
+clause_head : {v : Verb} (Q : Key → Type 0) → Q key.Flags → Q key.Tag → Q key.Not → Q key.Tagged → Q key.ReceivedOn → Q key.NatTo → Q key.RdrTo → Q key.No → Q key.Keep → Q key.Synproxy
     → {c d : Clauses} {ts left : List Tok} → ClauseOf v c ts d left → Q (head ts).key
-clause_head Q a t n g r b c e (flags h q) = subst Q (sym (word_head q.1).0) a
-clause_head Q a t n g r b c e (extra q) = extra_head Q t n g r q
-clause_head Q a t n g r b c e (state m h (no w s)) = subst Q (sym (word_head w).0) b
-clause_head Q a t n g r b c e (state m h (keep w s k)) = subst Q (sym (word_head w).0) c
-clause_head Q a t n g r b c e (state m h (proxy w s k)) = subst Q (sym (word_head w).0) e
+clause_head Q a t n g r x y b c e (flags h q) = subst Q (sym (word_head q.1).0) a
+clause_head Q a t n g r x y b c e (extra q) = extra_head Q t n g r q
+clause_head Q a t n g r x y b c e (translation m q) = translation_head Q x y q
+clause_head Q a t n g r x y b c e (state m h (no w s)) = subst Q (sym (word_head w).0) b
+clause_head Q a t n g r x y b c e (state m h (keep w s k)) = subst Q (sym (word_head w).0) c
+clause_head Q a t n g r x y b c e (state m h (proxy w s k)) = subst Q (sym (word_head w).0) e
 
-clauses_head : {v : Verb} (Q : Key → Type 0) → Q key.Flags → Q key.Tag → Q key.Not → Q key.Tagged → Q key.ReceivedOn → Q key.No → Q key.Keep → Q key.Synproxy → Q key.LineEnd
+clauses_head : {v : Verb} (Q : Key → Type 0) → Q key.Flags → Q key.Tag → Q key.Not → Q key.Tagged → Q key.ReceivedOn → Q key.NatTo → Q key.RdrTo → Q key.No → Q key.Keep → Q key.Synproxy → Q key.LineEnd
     → {c d : Clauses} {ts left : List Tok} → Until key.LineEnd (ClauseOf v) c ts d left → Q (head ts).key
-clauses_head Q a t n g r b c e l (ends w) = subst Q (sym (word_head w).0) l
-clauses_head Q a t n g r b c e l (goes q u) = clause_head Q a t n g r b c e q
+clauses_head Q a t n g r x y b c e l (ends w) = subst Q (sym (word_head w).0) l
+clauses_head Q a t n g r x y b c e l (goes q u) = clause_head Q a t n g r x y b c e q
 
-clauses_read : (v : Verb) (p : Parameters) → Reads key.LineEnd ends_line ends_state (ClauseOf v) (clause_at v p)
+clauses_read : (v : Verb) (p : Parameters) → Reads key.LineEnd ends_line ends_clause (ClauseOf v) (clause_at v p)
 clauses_read v p = record {
   closes = refl;
   close_follows = refl;
-  begins = λ q. (clause_head (λ k. ends_line k ≡ false) refl refl refl refl refl refl refl refl q, clause_head (λ k. ends_state k ≡ true) refl refl refl refl refl refl refl refl q);
+  begins = λ q. (clause_head (λ k. ends_line k ≡ false) refl refl refl refl refl refl refl refl refl refl q, clause_head (λ k. ends_clause k ≡ true) refl refl refl refl refl refl refl refl refl refl q);
   reads = λ q f. clause_reads v p q f;
   shrinks = clause_shrinks v p;
 }
@@ -76,8 +89,8 @@ clauses_read v p = record {
 pub rule_text_reads : {ts : List Tok} {r : RuleText} {left : List Tok} → RuleOf ts r left → rule_text_at ts ≡ Ok (r, left)
 unfolding rule_text_at
 rule_text_reads {r = r} q =
-    let behind_verb = parameters_head (λ k. no_policy k ≡ true) refl refl refl refl refl refl refl refl refl refl refl q.parameters (clauses_head (λ k. no_policy k ≡ true) refl refl refl refl refl refl refl refl refl q.clauses) in
-    let behind_parameters = clauses_head (λ k. ends_parameters k ≡ true) refl refl refl refl refl refl refl refl refl q.clauses in
+    let behind_verb = parameters_head (λ k. no_policy k ≡ true) refl refl refl refl refl refl refl refl refl refl refl q.parameters (clauses_head (λ k. no_policy k ≡ true) refl refl refl refl refl refl refl refl refl refl refl q.clauses) in
+    let behind_parameters = clauses_head (λ k. ends_parameters k ≡ true) refl refl refl refl refl refl refl refl refl refl refl q.clauses in
     rw (verb_reads q.verb behind_verb, parameters_read (statement_of r.verb) q.parameters behind_parameters, until_reads (clauses_read r.verb r.parameters) q.clauses) refl
 
 pub rule_reads : (n : ℕ) (p : Progress) {ts : List Tok} (r : RuleText) {left : List Tok} → RuleOf ts r left → rule_breaks p.draft r ≡ None → rule_line_at n p ts ≡ Ok (with_rule n r p, left)

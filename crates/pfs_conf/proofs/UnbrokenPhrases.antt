@@ -9,7 +9,7 @@ use Rattle.pfs_conf_tokens.specs.Keys.{is_word_key, ends_line}
 use Rattle.pfs_conf_tokens.specs.Reading.{closes_parens, closes_braces, Reader, Act, refuse, on_front, done, chain, skipping, number_at, comma_at, take}
 use Rattle.pfs_addr_values.specs.Prefixes.{Network}
 use Rattle.pfs_addr_values.specs.Protocols.{proto_in}
-use Rattle.pfs_addr.specs.Texts.{prefix_of}
+use Rattle.pfs_addr.specs.Texts.{addr_of, prefix_of}
 use Rattle.pfs_addr_values.specs.declared.packets.Dir.TheVariants as dir
 use Rattle.pfs_conf_values.specs.Entries.{TextEntry, sign_of}
 use Rattle.pfs_conf_settings.specs.Drafts.{Drafted, with_limit, with_profile, with_route, with_timeout, usual_shares}
@@ -28,8 +28,8 @@ use Rattle.pfs_conf_values.specs.declared.timeouts.TimeoutName.{TimeoutName}
 use Rattle.pfs_conf_filters.specs.declared.phrases.Statement.{Statement}
 use Rattle.pfs_conf_filters.specs.declared.phrases.Statement.TheVariants as statement
 use Rattle.pfs_conf_filters.specs.declared.phrases.Verb.TheVariants as verb
-use Rattle.pfs_conf_filters.specs.Values.{in_plain_word, interface_name, ports_of, flag_test, tag_name}
-use Rattle.pfs_conf_filters.specs.Reading.{behind, clause, part, begins_dir, begins_on, begins_family, begins_proto, begins_from, begins_to, begins_port, begins_flags, interface_at, policy_by, policy_at, verb_by, verb_at, dir_by, dir_at, log_item_by, log_item_at, log_list_by, log_list_at, log_by, log_at, quick_by, quick_at, marks_of, marks_by, marks_at, negation_by, negation_at, interface, on_at, on_part_at, family_by, family_part_at, proto_at, proto_part_at, head_at, close_by, close_at, place_by, place_at, host_by, host_at, equals_by, equals_at, ports_at, ports_part_at, side_host_by, side_host_at, side, side_at, from_part_at, to_part_at, all_hosts, given_hosts, hosts_by, hosts_at, parameters_at, flags_at, tag_name_at, tag_test, tag_at, tagged_at, received_on_at, asked_by, asks_both, extra_by, extra_at}
+use Rattle.pfs_conf_filters.specs.Values.{in_plain_word, interface_name, port_of, ports_of, flag_test, tag_name}
+use Rattle.pfs_conf_filters.specs.Reading.{behind, clause, part, begins_dir, begins_on, begins_family, begins_proto, begins_from, begins_to, begins_port, begins_flags, interface_at, policy_by, policy_at, verb_by, verb_at, dir_by, dir_at, log_item_by, log_item_at, log_list_by, log_list_at, log_by, log_at, quick_by, quick_at, marks_of, marks_by, marks_at, negation_by, negation_at, interface, on_at, on_part_at, family_by, family_part_at, proto_at, proto_part_at, head_at, close_by, close_at, place_by, place_at, host_by, host_at, equals_by, equals_at, ports_at, ports_part_at, side_host_by, side_host_at, side, side_at, from_part_at, to_part_at, all_hosts, given_hosts, hosts_by, hosts_at, parameters_at, flags_at, tag_name_at, tag_test, tag_at, tagged_at, received_on_at, asked_by, asks_both, extra_by, extra_at, address_at, given_ports_at, nat_ports_by, nat_ports_at, natted, nat_to_at, port_at, port_part_at, redirected, rdr_to_at, with_nat_at, with_rdr_at, translation_by, translation_at}
 use Rattle.pfs_conf_options.specs.Options.{none_given, proxied, rule_place}
 use Rattle.pfs_conf_options.specs.Reading.{track_by, track_at, rate_of, rate_found, rate_by, rate_at, name_closed_by, name_closed, table_by, table_at, flushed_by, flush_by, flush_at, overload_text_at, mark_once, timeout_by, mark_by, connection_by, option_by, option_at, state_options_at, kept_by, kept_at, kept_clause, proxied_clause, behind_state, state_word, state_by, state_at}
 use Rattle.pfs_conf_tokens.specs.Values.{in_word, table_name, table_name_at, value_at, valued}
@@ -50,6 +50,8 @@ use Rattle.pfs_conf_values.specs.declared.syncookies.Syncookies.{Syncookies}
 use Rattle.pfs_conf_values.specs.declared.syncookies.Syncookies.TheVariants as cookies
 use Rattle.pfs_conf.proofs.UnbrokenLaws.{Unbroken, UnbrokenAct, unbroken_done, unbroken_chain, unbroken_front, unbroken_if, unbroken_once, unbroken_perhaps, unbroken_up_to, unbroken_comma, unbroken_list, unbroken_skipping, unbroken_number}
 use Rattle.pfs_conf_filters.specs.declared.phrases.Extras.{Extras}
+use Rattle.pfs_conf_values.specs.declared.translations.NatPorts.TheVariants as nat_ports
+use Rattle.pfs_conf_values.specs.declared.translations.Translation.{Translation}
 
 -- ---- parameters
 
@@ -303,6 +305,52 @@ extra_acts e k = asked_acts e false k
 pub unbroken_extra : (e : Extras) → Unbroken (extra_at e)
 unfolding extra_at
 unbroken_extra e = unbroken_front (λ t. extra_by e t.key) (λ t. extra_acts e t.key)
+
+unbroken_nat_ports : Unbroken nat_ports_at
+unfolding nat_ports_at given_ports_at
+unbroken_nat_ports = unbroken_front (λ t. nat_ports_by t.key) (λ t. nat_ports_acts t.key)
+  where
+    nat_ports_acts : (k : Key) → UnbrokenAct (nat_ports_by k)
+    nat_ports_acts key.Port = unbroken_chain (value_at why.Service (in_word ports_of)) (λ p. done (nat_ports.Given p)) (unbroken_value why.Service (in_word ports_of)) (λ p. unbroken_done (nat_ports.Given p))
+    nat_ports_acts key.StaticPort = unbroken_done nat_ports.Static
+    nat_ports_acts _ = unbroken_done nat_ports.Usual
+
+unbroken_address : Unbroken address_at
+unfolding address_at
+unbroken_address = unbroken_value why.Host (in_plain_word addr_of)
+
+unbroken_nat_to : Unbroken nat_to_at
+unfolding nat_to_at
+unbroken_nat_to = unbroken_chain address_at (λ a. chain nat_ports_at (λ p. done (natted a p))) unbroken_address (λ a. unbroken_chain nat_ports_at (λ p. done (natted a p)) unbroken_nat_ports (λ p. unbroken_done (natted a p)))
+
+unbroken_port : Unbroken port_at
+unfolding port_at
+unbroken_port = unbroken_value why.Service (in_word port_of)
+
+unbroken_port_part : Unbroken port_part_at
+unfolding port_part_at
+unbroken_port_part = unbroken_part begins_port port_at unbroken_port
+
+unbroken_rdr_to : Unbroken rdr_to_at
+unfolding rdr_to_at
+unbroken_rdr_to = unbroken_chain address_at (λ a. chain port_part_at (λ p. done (redirected a p))) unbroken_address (λ a. unbroken_chain port_part_at (λ p. done (redirected a p)) unbroken_port_part (λ p. unbroken_done (redirected a p)))
+
+with_nat_unbroken : (t : Translation) → Unbroken (with_nat_at t)
+unfolding with_nat_at
+with_nat_unbroken t = unbroken_chain nat_to_at (λ n. done (record t { nat_to = Some n })) unbroken_nat_to (λ n. unbroken_done (record t { nat_to = Some n }))
+
+with_rdr_unbroken : (t : Translation) → Unbroken (with_rdr_at t)
+unfolding with_rdr_at
+with_rdr_unbroken t = unbroken_chain rdr_to_at (λ r. done (record t { rdr_to = Some r })) unbroken_rdr_to (λ r. unbroken_done (record t { rdr_to = Some r }))
+
+translation_acts : (t : Translation) (k : Key) → UnbrokenAct (translation_by t k)
+translation_acts t key.NatTo = unbroken_once t.nat_to (take (with_nat_at t)) (with_nat_unbroken t)
+translation_acts t key.RdrTo = unbroken_once t.rdr_to (take (with_rdr_at t)) (with_rdr_unbroken t)
+translation_acts t _ = tt
+
+pub unbroken_translation : (t : Translation) → Unbroken (translation_at t)
+unfolding translation_at
+unbroken_translation t = unbroken_front (λ u. translation_by t u.key) (λ u. translation_acts t u.key)
 
 pub unbroken_parameters : (s : Statement) → Unbroken (parameters_at s)
 unfolding parameters_at

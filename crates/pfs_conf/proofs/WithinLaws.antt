@@ -16,7 +16,8 @@ use Rattle.pfs_addr_values.specs.Numbers.{number_of}
 use Rattle.pfs_conf_tokens.specs.Numbers as text_numbers
 use Rattle.pfs_addr_values.specs.Protocols.{proto_of, proto_numbered, proto_in}
 use Rattle.pfs_addr_values.specs.Prefixes.{Network, IsNetwork}
-use Rattle.pfs_addr.specs.Texts.{prefix_of}
+use Rattle.pfs_addr.specs.Texts.{addr_of, prefix_of}
+use Rattle.pfs_addr.proofs.PieceLaws.{addr_of_parts}
 use Rattle.pfs_addr_values.specs.FlagSets.{flags_of, is_flag_letter, names_letter}
 use Rattle.pfs_addr_values.specs.declared.protocols.Proto.{Proto}
 use Rattle.pfs_addr_values.specs.declared.protocols.Proto.TheVariants as proto
@@ -32,12 +33,19 @@ use Rattle.pfs_conf_filters.specs.declared.phrases.Parameters.{Parameters}
 use Rattle.pfs_conf_filters.specs.declared.phrases.Statement.{Statement}
 use Rattle.pfs_conf_filters.specs.Values.{is_plain_word, in_plain_word, may_name_interface, interface_name, port_numbered, port_by, port_of, one_port, port_range, ports_around, ports_of, exactly, flags_around, flag_test_of, flag_test_by, flag_test, tag_name}
 use Rattle.pfs_conf_tokens.specs.Values.{in_word}
-use Rattle.pfs_conf_filters.specs.Grammar.{Says, Behind, NegationOf, affirmed, negated, OnOf, on, HostOf, any, prefix, table, PortsOf, plainly, equals, SideOf, hosted, ported, HostsOf, every, sides, ParametersOf, FlagsOf, DirOf, inward, outward, LogItemOf, all, matches, user, to, bare, listed, LogOf, silent, logs, QuickOf, slow, quick, MarksOf, log_first, quick_first, of_anchor, of_match, ExtraOf, tag, tagged, received_on}
+use Rattle.pfs_conf_filters.specs.Grammar.{Says, Behind, NegationOf, affirmed, negated, OnOf, on, HostOf, any, prefix, table, PortsOf, plainly, equals, SideOf, hosted, ported, HostsOf, every, sides, ParametersOf, FlagsOf, DirOf, inward, outward, LogItemOf, all, matches, user, to, bare, listed, LogOf, silent, logs, QuickOf, slow, quick, MarksOf, log_first, quick_first, of_anchor, of_match, ExtraOf, tag, tagged, received_on, NatPortsOf, usual, given, same, NatToOf, RdrToOf, TranslationOf, nat_to, rdr_to}
 use Rattle.pfs_conf_filters.specs.Sides.{side_not_given, source_of, destination_of}
 use Rattle.pfs_addr_values.specs.declared.packets.Dir.{Dir}
 use Rattle.pfs_conf_filters.specs.declared.phrases.Marks.{Marks}
 use Rattle.pfs_conf_settings.proofs.RoutePhrases.{network_within}
 use Rattle.pfs_conf.specs.Within.{IsLexed, AreLexed, more, IsTableName, AreParameters, AreExtras, MayBeQuick}
+use Rattle.pfs_conf_values.specs.LoadRules.{AreNatPorts, IsNatTo, IsRdrTo, IsTranslation}
+use Rattle.pfs_conf_values.specs.declared.translations.NatPorts.{NatPorts}
+use Rattle.pfs_conf_values.specs.declared.translations.NatTo.{NatTo}
+use Rattle.pfs_conf_values.specs.declared.translations.RdrTo.{RdrTo}
+use Rattle.pfs_conf_values.specs.declared.translations.Translation.{Translation}
+use Rattle.pfs_addr_values.specs.Addresses.{IsAddr}
+use Rattle.pfs_addr_values.specs.declared.addresses.Addr.{Addr}
 use Rattle.pfs_conf_filters.specs.declared.phrases.Extras.{Extras}
 
 -- ---- forms
@@ -334,6 +342,37 @@ pub extra_within : {e d : Extras} {ts left : List Tok} → ExtraOf e ts d left �
 extra_within (tag n w q) l k = record { tag = says_tag q; tagged = k.tagged; received_on = k.received_on }
 extra_within (tagged n m w q) l k = record { tag = k.tag; tagged = says_tag q; received_on = k.received_on }
 extra_within (received_on {b = b} n m w q) l k = record { tag = k.tag; tagged = k.tagged; received_on = says_interface b q (word_lexed w (negation_lexed m l)) }
+
+-- ---- translation
+
+address_good : (text : List ℕ) → IfSome (addr_of text) IsAddr
+address_good text = by_value (addr_of text) refl
+  where
+    by_value : (o : Option Addr) → addr_of text ≡ o → IfSome o IsAddr
+    by_value None e = tt
+    by_value (Some a) e = (addr_of_parts text a e).0
+
+says_address : {ts left : List Tok} {a : Addr} → Says (in_plain_word addr_of) ts a left → IsAddr a
+says_address {a = a} q = held (in_plain_word addr_of q.0) a IsAddr q.2 (if_some (is_plain_word q.0.key) (addr_of q.0.text) None IsAddr (λ e. address_good q.0.text) (λ e. tt))
+
+nat_ports_within : {ts left : List Tok} {p : NatPorts} → NatPortsOf ts p left → AreNatPorts p
+nat_ports_within usual = tt
+nat_ports_within (given w q) = says_word ports_of ArePorts ports_good q
+nat_ports_within (same w) = tt
+
+nat_to_within : {ts left : List Tok} {n : NatTo} → NatToOf ts n left → IsNatTo n
+nat_to_within q = record { addr = says_address q.addr; ports = nat_ports_within q.ports }
+
+port_part_within : {ts left : List Tok} {o : Option ℕ} → Perhaps (Behind key.Port (Says (in_word port_of))) ts o left → IfSome o IsPort
+port_part_within absent = tt
+port_part_within (present q) = says_word port_of IsPort port_good q.2
+
+rdr_to_within : {ts left : List Tok} {r : RdrTo} → RdrToOf ts r left → IsRdrTo r
+rdr_to_within q = record { addr = says_address q.addr; port = port_part_within q.port }
+
+pub translation_within : {t d : Translation} {ts left : List Tok} → TranslationOf t ts d left → IsTranslation t → IsTranslation d
+translation_within (nat_to n w q) k = record { nat_to = nat_to_within q; rdr_to = k.rdr_to }
+translation_within (rdr_to n w q) k = record { nat_to = k.nat_to; rdr_to = rdr_to_within q }
 
 -- tokens that are gone over leave tokens of the text
 pub passes_lexed : {p : Key → Bool} {ts left : List Tok} → Passes p ts left → AreLexed ts → AreLexed left

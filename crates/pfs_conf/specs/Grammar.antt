@@ -11,10 +11,11 @@ use Rattle.pfs_conf_values.specs.Configs.{Conf}
 use Rattle.pfs_conf_settings.specs.Drafts.{Drafted, conf_of_draft, is_defined}
 use Rattle.pfs_conf_values.specs.Siblings.{has_sibling}
 use Rattle.pfs_conf_values.specs.declared.filters.FlagTest.{FlagTest}
+use Rattle.pfs_conf_values.specs.declared.translations.Translation.{Translation}
 use Rattle.pfs_conf_filters.specs.declared.phrases.Statement.TheVariants as statement
 use Rattle.pfs_conf_filters.specs.declared.phrases.Extras.{Extras}
 use Rattle.pfs_conf_filters.specs.declared.phrases.Verb.{Verb}
-use Rattle.pfs_conf_filters.specs.Grammar.{VerbOf, ParametersOf, FlagsOf, ExtraOf, statement_of, takes_state}
+use Rattle.pfs_conf_filters.specs.Grammar.{VerbOf, ParametersOf, FlagsOf, ExtraOf, TranslationOf, may_translate, statement_of, takes_state}
 use Rattle.pfs_conf_options.specs.Grammar.{StateOf, TableOf}
 use Rattle.pfs_conf_options.specs.declared.clauses.StateClause.{StateClause}
 use Rattle.pfs_conf_settings.specs.SettingGrammar.{SettingOf}
@@ -28,13 +29,14 @@ use Rattle.pfs_conf.specs.declared.phrases.AnchorText.{AnchorText}
 use Rattle.pfs_conf.specs.declared.progress.Progress.{Progress}
 use Rattle.pfs_conf.specs.Statements.{nothing, no_clauses, with_cookies, with_definition, with_rule, with_anchor, rule_breaks, anchor_breaks, cookies_break, text_breaks}
 
--- `flags`, an extra or a state clause is added to the clauses of a rule that begins so and does not have it
+-- `flags`, an extra, a translation or a state clause is added to the clauses of a rule that begins so and does not have it
 pub data ClauseOf (v : Verb) : Clauses → List Tok → Clauses → List Tok → Type 0 where
   flags : {c : Clauses} {ts left : List Tok} {f : FlagTest} → c.flags ≡ None → FlagsOf ts f left → ClauseOf v c ts (record c { flags = Some f }) left
   extra : {c : Clauses} {ts left : List Tok} {e : Extras} → ExtraOf c.extras ts e left → ClauseOf v c ts (record c { extras = e }) left
+  translation : {c : Clauses} {ts left : List Tok} {t : Translation} → may_translate v ≡ true → TranslationOf c.translation ts t left → ClauseOf v c ts (record c { translation = t }) left
   state : {c : Clauses} {ts left : List Tok} {s : StateClause} → takes_state v ≡ true → c.state ≡ None → StateOf ts s left → ClauseOf v c ts (record c { state = Some s }) left
 
--- rule := action parameters (flags | extra | state)* EOL
+-- rule := action parameters (flags | extra | translation | state)* EOL
 pub record RuleOf (ts : List Tok) (r : RuleText) (left : List Tok) : Type 0 where
   pub a : List Tok
   pub b : List Tok

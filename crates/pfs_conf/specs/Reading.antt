@@ -14,9 +14,9 @@ use Rattle.pfs_conf_values.specs.Configs.{Conf}
 use Rattle.pfs_conf_settings.specs.Drafts.{Drafted, conf_of_draft, is_defined}
 use Rattle.pfs_conf_values.specs.Siblings.{has_sibling}
 use Rattle.pfs_conf_values.specs.declared.filters.FlagTest.{FlagTest}
-use Rattle.pfs_conf_filters.specs.Grammar.{statement_of, takes_state}
-use Rattle.pfs_conf_filters.specs.Reading.{verb_at, parameters_at, flags_at, extra_at, begins_flags}
-use Rattle.pfs_conf_filters.specs.Repeats.{repeats, repeats_policy}
+use Rattle.pfs_conf_filters.specs.Grammar.{may_translate, statement_of, takes_state}
+use Rattle.pfs_conf_filters.specs.Reading.{verb_at, parameters_at, flags_at, extra_at, translation_at, begins_flags}
+use Rattle.pfs_conf_filters.specs.Repeats.{repeats, repeats_policy, repeats_translation}
 use Rattle.pfs_conf_filters.specs.declared.phrases.Parameters.{Parameters}
 use Rattle.pfs_conf_filters.specs.declared.phrases.Statement.TheVariants as statement
 use Rattle.pfs_conf_filters.specs.declared.phrases.Verb.{Verb}
@@ -58,17 +58,24 @@ state_act v c = if takes_state v then once c.state (stay (chain state_at (λ s. 
 abbrev pub extra_act : Clauses → Act Clauses
 extra_act c = stay (chain (extra_at c.extras) (λ e. done (record c { extras = e })))
 
--- `flags`, extras and a state clause, in any order, each at most once
+-- a translation, which a block rule has not
+abbrev pub translation_act : Verb → Clauses → Act Clauses
+translation_act v c =
+    if may_translate v then stay (chain (translation_at c.translation) (λ t. done (record c { translation = t }))) else refuse why.Plain
+
+-- `flags`, extras, translations and a state clause, in any order, each at most once
 abbrev pub clause_by : Verb → Parameters → Clauses → Key → Act Clauses
 clause_by v p c key.Flags = once c.flags (stay (chain flags_at (λ f. done (record c { flags = Some f }))))
 clause_by v p c key.Tag = extra_act c
 clause_by v p c key.Tagged = extra_act c
 clause_by v p c key.ReceivedOn = extra_act c
 clause_by v p c key.Not = extra_act c
+clause_by v p c key.NatTo = translation_act v c
+clause_by v p c key.RdrTo = translation_act v c
 clause_by v p c key.No = state_act v c
 clause_by v p c key.Keep = state_act v c
 clause_by v p c key.Synproxy = state_act v c
-clause_by v p c k = refuse (why_repeated (repeats_policy v k || repeats p k))
+clause_by v p c k = refuse (why_repeated (repeats_policy v k || repeats p k || repeats_translation c.translation k))
 
 unfoldable pub clause_at : Verb → Parameters → Clauses → Reader Clauses
 clause_at v p c ts = on_front (λ t. clause_by v p c t.key) ts

@@ -7,7 +7,9 @@ use Rattle.pfs_conf_settings.specs.Drafts.{Drafted, empty_draft, number_of_table
 use Rattle.pfs_conf_values.specs.declared.syncookies.Syncookies.{Syncookies}
 use Rattle.pfs_conf_values.specs.declared.actions.Action.{Action}
 use Rattle.pfs_conf_values.specs.declared.actions.Action.TheVariants as action
+use Rattle.pfs_conf_values.specs.Translations.{family_of_host, given_family, lacks_way, mixes_families, no_translation}
 use Rattle.pfs_conf_values.specs.declared.filters.Came.{Came}
+use Rattle.pfs_conf_values.specs.declared.filters.Family.{Family}
 use Rattle.pfs_conf_values.specs.declared.filters.Filter.{Filter}
 use Rattle.pfs_conf_values.specs.declared.filters.FlagTest.{FlagTest}
 use Rattle.pfs_conf_values.specs.declared.filters.FlagTest.TheVariants as flag_test
@@ -87,7 +89,7 @@ name_hosts h d = name_host (destination_of h).host (name_host (source_of h).host
 -- ---- rules (pf.conf(5), PACKET FILTERING and STATEFUL FILTERING)
 
 abbrev pub no_clauses : Clauses
-no_clauses = record { flags = None; extras = no_extras; state = None }
+no_clauses = record { flags = None; extras = no_extras; translation = no_translation; state = None }
 
 -- the options of a state clause; none without one
 abbrev pub state_options : Option StateClause → Options
@@ -131,13 +133,18 @@ rule_action r d = action_of r.verb r.clauses.state (number_overload (state_optio
 abbrev pub came_said : Extras → Came
 came_said e = record { tagged = e.tagged; received_on = e.received_on }
 
--- what a rule says
+-- a filter that asks for this family in place of its own
+abbrev pub with_family : Option Family → Filter → Filter
+with_family family f = record f { family = family }
+
+-- what a rule says; its translation gives it the family, as if written
 abbrev pub rule_said : RuleText → Drafted → Rule
 rule_said r d = record {
   quick = r.parameters.head.marks.quick;
-  filter = filter_said r.parameters (unwrap_or r.clauses.flags (default_flags (rule_action r d))) d;
+  filter = with_family (given_family r.parameters.head.family r.clauses.translation) (filter_said r.parameters (unwrap_or r.clauses.flags (default_flags (rule_action r d))) d);
   came = came_said r.clauses.extras;
   tag = r.clauses.extras.tag;
+  translation = r.clauses.translation;
   action = rule_action r d;
 }
 
@@ -188,6 +195,15 @@ abbrev pub keeps_on_block : Verb → Option StateClause → Bool
 keeps_on_block (verb.Block has_policy) (Some (clause.Keep o)) = true
 keeps_on_block _ _ = false
 
+-- a translation without `in` and `out`, and one of another family
+abbrev pub translates_no_way : RuleText → Bool
+translates_no_way r = lacks_way r.parameters.head.dir r.clauses.translation
+
+abbrev pub translates_family : RuleText → Bool
+translates_family r =
+    mixes_families r.parameters.head.family (family_of_host (source_of r.parameters.hosts).host) (family_of_host (destination_of r.parameters.hosts).host)
+    r.clauses.translation
+
 -- 10,000 rules and anchors are read already
 abbrev pub is_full : Drafted → Bool
 is_full d = nat_le 10000 (length d.items)
@@ -201,6 +217,8 @@ rule_breaks d r = first_broken (
     ∷ (load_rule.GlobalConn, has_global_connections (state_options r.clauses.state))
     ∷ (load_rule.GlobalRetention, has_global_retention (state_options r.clauses.state))
     ∷ (load_rule.AdaptivePair, has_broken_rule_pair (state_options r.clauses.state))
+    ∷ (load_rule.TranslationWithoutWay, translates_no_way r)
+    ∷ (load_rule.TranslationFamily, translates_family r)
     ∷ (load_rule.TooManyRules, is_full d)
     ∷ [])
 

@@ -4,12 +4,13 @@ use Rattle.pfs_conf_tokens.specs.Tokens.{Tok}
 use Rattle.pfs_conf_tokens.specs.Keys.{is_word_key}
 use Rattle.pfs_conf_tokens.specs.Words.{key_of_text}
 use Rattle.pfs_addr_values.specs.Names.{is_name}
-use Rattle.pfs_conf_values.specs.LoadRules.{IsInterface, IsProto, IsSide, IsFlagTest, IsTag}
+use Rattle.pfs_conf_values.specs.LoadRules.{IsInterface, IsProto, IsSide, IsFlagTest, IsTag, IsTranslation}
+use Rattle.pfs_conf_values.specs.Translations.{translates_by}
 use Rattle.pfs_conf_filters.specs.declared.phrases.Extras.{Extras}
 use Rattle.pfs_conf_filters.specs.declared.phrases.Parameters.{Parameters}
 use Rattle.pfs_conf_filters.specs.declared.phrases.Statement.{Statement}
 use Rattle.pfs_conf_filters.specs.declared.phrases.Statement.TheVariants as statement
-use Rattle.pfs_conf_filters.specs.Grammar.{statement_of}
+use Rattle.pfs_conf_filters.specs.Grammar.{may_translate, statement_of}
 use Rattle.pfs_conf_filters.specs.Sides.{source_of, destination_of}
 use Rattle.pfs_conf_options.specs.Bounds.{AreRead}
 use Rattle.pfs_conf.specs.declared.phrases.RuleText.{RuleText}
@@ -49,6 +50,8 @@ pub record IsRuleText (r : RuleText) : Type 0 where
   pub quick : MayBeQuick (statement_of r.verb) r.parameters.head.marks.quick
   pub flags : IfSome r.clauses.flags IsFlagTest
   pub extras : AreExtras r.clauses.extras
+  pub translation : IsTranslation r.clauses.translation
+  pub translates : may_translate r.verb ≡ false → translates_by r.clauses.translation ≡ false
   pub options : AreRead (state_options r.clauses.state)
 
 pub record IsAnchorText (a : AnchorText) : Type 0 where

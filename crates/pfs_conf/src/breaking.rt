@@ -2,7 +2,7 @@
 
 ghost use Rattle.std.specs.Prelude.{◌≡◌, IfSome};
 ghost use Rattle.std.specs.Option.{option_map};
-ghost use Rattle.pfs_conf.specs.Statements.{anchor_breaks, cookies_break, is_full, keeps_on_block, rule_breaks, text_breaks};
+ghost use Rattle.pfs_conf.specs.Statements.{anchor_breaks, cookies_break, is_full, keeps_on_block, rule_breaks, text_breaks, translates_family, translates_no_way};
 
 use crate::numbering::state_options;
 use crate::phrases::{AnchorText, RuleText};
@@ -30,6 +30,10 @@ pub fn rule_breaks(draft: &Draft, text: &RuleText) -> Option<LoadRule>
         Some(LoadRule::GlobalRetention)
     } else if options.has_broken_pair() {
         Some(LoadRule::AdaptivePair)
+    } else if translates_no_way(text) {
+        Some(LoadRule::TranslationWithoutWay)
+    } else if translates_family(text) {
+        Some(LoadRule::TranslationFamily)
     } else if is_full(draft) {
         Some(LoadRule::TooManyRules)
     } else {
@@ -94,6 +98,24 @@ fn keeps_on_block(verb: Verb, state: Option<StateClause>) -> bool
         (Verb::Block { .. }, Some(StateClause::Keep(_))) => true,
         _ => false,
     }
+}
+
+fn translates_no_way(text: &RuleText) -> bool
+    ensures { result ≡ translates_no_way text.now }
+{
+    let dir = text.parameters.head.dir;
+    text.clauses.translation.lacks_way(dir)
+}
+
+fn translates_family(text: &RuleText) -> bool
+    ensures { result ≡ translates_family text.now }
+{
+    let written = text.parameters.head.family;
+    let source = text.parameters.hosts.source().host.family();
+    let destination = text.parameters.hosts.destination().host.family();
+    text.clauses
+        .translation
+        .mixes_families(written, source, destination)
 }
 
 fn is_full(draft: &Draft) -> bool

@@ -27,6 +27,10 @@ pub enum Kind {
     OverloadAlone,
     /// One adaptive value without the other, or a start that is not below its end.
     AdaptivePair,
+    /// `nat-to` or `rdr-to` in a rule without `in` and without `out`.
+    TranslationWithoutWay,
+    /// An address of `nat-to` or `rdr-to` of another family than the rule, its hosts, or its other translation.
+    TranslationFamily,
     /// Shares of `set syncookies adaptive` of which the end is not below the start.
     CookiePair,
     /// A port without `proto tcp` or `proto udp` in the same statement.
@@ -41,7 +45,8 @@ pub enum Kind {
     TooManyRules,
     /// More tables than `set limit tables`.
     TooManyTables,
-    /// `set syncookies` other than `never`, `set route`, or `synproxy state`, in a text without the profile of OpenBSD 7.4.
+    /// `set syncookies` other than `never`, `set route`, `synproxy state`, `match`, or one of `tag`, `tagged`, `received-on`, `nat-to` and
+    /// `rdr-to`, in a text without the profile of OpenBSD 7.4.
     NeedsProfile,
     /// More entries in all tables than `set limit table-entries`.
     TooManyEntries,
@@ -65,6 +70,8 @@ impl Kind {
             Kind::GlobalRetention => "GlobalRetention",
             Kind::OverloadAlone => "OverloadAlone",
             Kind::AdaptivePair => "AdaptivePair",
+            Kind::TranslationWithoutWay => "TranslationWithoutWay",
+            Kind::TranslationFamily => "TranslationFamily",
             Kind::CookiePair => "CookiePair",
             Kind::PortWithoutProto => "PortWithoutProto",
             Kind::ConstOverload => "ConstOverload",
@@ -90,6 +97,8 @@ impl Kind {
             LoadRule::GlobalConn => Kind::GlobalConn,
             LoadRule::GlobalRetention => Kind::GlobalRetention,
             LoadRule::AdaptivePair => Kind::AdaptivePair,
+            LoadRule::TranslationWithoutWay => Kind::TranslationWithoutWay,
+            LoadRule::TranslationFamily => Kind::TranslationFamily,
             LoadRule::CookiePair => Kind::CookiePair,
             LoadRule::TooDeep => Kind::TooDeep,
             LoadRule::TooManyRules => Kind::TooManyRules,

@@ -25,12 +25,15 @@ pub fn number_rule(draft: &mut Draft, text: &RuleText) -> Result<Rule, NoMemory>
     let table = number_overload(draft, state_options(text.clauses.state).overload)?;
     let action = action_of(text.verb, text.clauses.state, table);
     let flags = text.clauses.flags.unwrap_or(default_flags(&action));
-    let filter = filter(text.parameters.head, from, to, flags);
+    let head = text.parameters.head;
+    let family = text.clauses.translation.given_family(head.family);
+    let filter = filter(Head { family, ..head }, from, to, flags);
     Ok(Rule {
-        quick: text.parameters.head.marks.quick,
+        quick: head.marks.quick,
         filter,
         came: came(text.clauses.extras),
         tag: text.clauses.extras.tag,
+        translation: text.clauses.translation,
         action,
     })
 }

@@ -2,7 +2,7 @@
 
 use pfs_conf_filters::{Extras, Parameters, Verb};
 use pfs_conf_options::StateClause;
-use pfs_conf_values::{AnchorName, FlagTest};
+use pfs_conf_values::{AnchorName, FlagTest, Translation};
 
 /// What follows the parameters of a rule, in any order. (pf.conf(5), GRAMMAR)
 #[derive(Debug, Clone, Copy, PartialEq, Eq)]
@@ -11,6 +11,8 @@ pub struct Clauses {
     pub flags: Option<FlagTest>,
     /// `tag`, `tagged` and `received-on`
     pub extras: Extras,
+    /// `nat-to` and `rdr-to`
+    pub translation: Translation,
     /// `keep state` or `no state`
     pub state: Option<StateClause>,
 }

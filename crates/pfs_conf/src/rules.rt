@@ -5,7 +5,7 @@ ghost use Rattle.pfs_conf_tokens.specs.Keys.{ends_line};
 ghost use Rattle.pfs_conf_tokens.specs.Reading.{act, until_all};
 ghost use Rattle.pfs_conf_tokens.specs.Giving.{Gives};
 ghost use Rattle.pfs_conf.specs.Statements.{no_clauses, rule_breaks, with_rule};
-ghost use Rattle.pfs_conf.specs.Reading.{clause_at, rule_text_at, rule_line_at, state_act};
+ghost use Rattle.pfs_conf.specs.Reading.{clause_at, rule_text_at, rule_line_at, state_act, translation_act};
 ghost use Rattle.pfs_conf.specs.Giving.{Comes, IsAtDepth};
 ghost use Rattle.pfs_conf.specs.Within.{AreLexed, IsRuleText};
 
@@ -15,10 +15,12 @@ use crate::phrases::{Clauses, RuleText};
 use crate::progress::Progress;
 use pfs_addr_values::NoMemory;
 use pfs_conf_filters::{
-    Extras, Parameters, Verb, read_extra, read_flags, read_parameters, read_verb,
+    Extras, Parameters, Verb, read_extra, read_flags, read_parameters, read_translation, read_verb,
+    repeats_translation,
 };
 use pfs_conf_options::state_clause;
 use pfs_conf_tokens::{Cursor, Key, ReadError, Refusal, Why};
+use pfs_conf_values::Translation;
 
 /// Reads a rule that begins on this line. Its load rules are checked when its line end has been read. (pf.conf(5),
 /// PACKET FILTERING)
@@ -86,6 +88,7 @@ fn clauses(cursor: &mut Cursor, verb: Verb, parameters: &Parameters) -> Result<C
     let mut clauses = Clauses {
         flags: None,
         extras: Extras::new(),
+        translation: Translation::new(),
         state: None,
     };
     while !cursor.is_at_line_end() {
@@ -119,15 +122,33 @@ fn clause(
             let extras = read_extra(cursor, clauses.extras)?;
             Ok(Clauses { extras, ..clauses })
         }
+        Key::NatTo | Key::RdrTo => translation(cursor, verb, clauses),
         Key::No | Key::Keep | Key::Synproxy => state(cursor, verb, clauses),
         key => {
-            if verb.has(key) || parameters.have(key) {
+            if verb.has(key)
+                || parameters.have(key)
+                || repeats_translation(&clauses.translation, key)
+            {
                 Err(Refusal::Stop(Why::Again))
             } else {
                 Err(Refusal::Stop(Why::Plain))
             }
         }
     }
+}
+
+/// A translation, which a `block` rule has not.
+fn translation(cursor: &mut Cursor, verb: Verb, clauses: Clauses) -> Result<Clauses, Refusal>
+    ensures { Gives result cursor.new (act (translation_act verb clauses) cursor.old) }
+{
+    if !verb.may_translate() {
+        return Err(Refusal::Stop(Why::Plain));
+    }
+    let translation = read_translation(cursor, clauses.translation)?;
+    Ok(Clauses {
+        translation,
+        ..clauses
+    })
 }
 
 /// The state clause, which a `match` rule has not.

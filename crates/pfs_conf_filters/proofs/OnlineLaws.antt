@@ -17,13 +17,19 @@ use Rattle.pfs_conf_values.specs.declared.filters.Host.TheVariants as host
 use Rattle.pfs_conf_filters.specs.declared.phrases.Verb.TheVariants as verb
 use Rattle.pfs_conf_filters.specs.declared.phrases.Statement.{Statement}
 use Rattle.pfs_conf_filters.specs.declared.phrases.Statement.TheVariants as statement
-use Rattle.pfs_addr.specs.Texts.{prefix_of}
+use Rattle.pfs_addr.specs.Texts.{addr_of, prefix_of}
 use Rattle.pfs_addr_values.specs.Protocols.{proto_in}
-use Rattle.pfs_conf_filters.specs.Values.{is_plain_word, in_plain_word, may_name_interface, interface_name, ports_of, flag_test_by, flag_test, tag_name}
-use Rattle.pfs_conf_filters.specs.Reading.{behind, clause, part, begins_dir, begins_on, begins_family, begins_proto, begins_from, begins_to, begins_port, begins_flags, interface_at, policy_by, policy_at, verb_by, verb_at, dir_by, dir_at, log_item_by, log_item_at, log_list_by, log_list_at, log_by, log_at, quick_by, quick_at, marks_of, marks_by, marks_at, negation_by, negation_at, interface, on_at, on_part_at, family_by, family_part_at, proto_at, proto_part_at, head_at, close_by, close_at, place_by, place_at, host_by, host_at, equals_by, equals_at, ports_at, ports_part_at, side_host_by, side_host_at, side, side_at, from_part_at, to_part_at, all_hosts, given_hosts, hosts_by, hosts_at, parameters_at, flags_at, tag_name_at, tag_test, tag_at, tagged_at, received_on_at, asked_by, asks_both, extra_by, extra_at}
+use Rattle.pfs_conf_filters.specs.Values.{is_plain_word, in_plain_word, may_name_interface, interface_name, port_of, ports_of, flag_test_by, flag_test, tag_name}
+use Rattle.pfs_conf_filters.specs.Reading.{behind, clause, part, begins_dir, begins_on, begins_family, begins_proto, begins_from, begins_to, begins_port, begins_flags, interface_at, policy_by, policy_at, verb_by, verb_at, dir_by, dir_at, log_item_by, log_item_at, log_list_by, log_list_at, log_by, log_at, quick_by, quick_at, marks_of, marks_by, marks_at, negation_by, negation_at, interface, on_at, on_part_at, family_by, family_part_at, proto_at, proto_part_at, head_at, close_by, close_at, place_by, place_at, host_by, host_at, equals_by, equals_at, ports_at, ports_part_at, side_host_by, side_host_at, side, side_at, from_part_at, to_part_at, all_hosts, given_hosts, hosts_by, hosts_at, parameters_at, flags_at, tag_name_at, tag_test, tag_at, tagged_at, received_on_at, asked_by, asks_both, extra_by, extra_at, address_at, given_ports_at, nat_ports_by, nat_ports_at, natted, nat_to_at, port_at, port_part_at, redirected, rdr_to_at, with_nat_at, with_rdr_at, translation_by, translation_at}
 use Rattle.pfs_conf_tokens.specs.Values.{in_word, table_name_at, value_at}
 use Rattle.pfs_conf_tokens.proofs.ValueLaws.{passed, in_word_in_line, online_value, value_shrinks, online_table_name}
 use Rattle.pfs_conf_filters.specs.declared.phrases.Extras.{Extras}
+use Rattle.pfs_addr_values.specs.declared.addresses.Addr.{Addr}
+use Rattle.pfs_conf_values.specs.declared.translations.NatPorts.{NatPorts}
+use Rattle.pfs_conf_values.specs.declared.translations.NatPorts.TheVariants as nat_ports
+use Rattle.pfs_conf_values.specs.declared.translations.NatTo.{NatTo}
+use Rattle.pfs_conf_values.specs.declared.translations.RdrTo.{RdrTo}
+use Rattle.pfs_conf_values.specs.declared.translations.Translation.{Translation}
 
 -- ---- words that say a value
 
@@ -328,3 +334,60 @@ online_extra e = online_taking (λ t. extra_by e t.key) (λ t. extra_taking e t.
 pub extra_shrinks : (e : Extras) → Shrinks (extra_at e)
 unfolding extra_at
 extra_shrinks e = front_shrinks inside (λ t. extra_by e t.key) (λ t. extra_taking e t.key)
+
+-- ---- translation
+
+online_address : Online inside address_at
+unfolding address_at
+online_address = online_value why.Host (in_plain_word addr_of) (in_plain_word_in_line addr_of)
+
+online_given_ports : Online inside given_ports_at
+unfolding given_ports_at
+online_given_ports =
+    online_chain (value_at why.Service (in_word ports_of)) (λ p. done (nat_ports.Given p)) (online_value why.Service (in_word ports_of) (in_word_in_line ports_of)) (λ p. online_done (nat_ports.Given p))
+
+nat_ports_act : (k : Key) → OnlineAct inside k (nat_ports_by k)
+nat_ports_act key.Port = (refl, online_given_ports)
+nat_ports_act key.StaticPort = (refl, online_done nat_ports.Static)
+nat_ports_act _ = online_done nat_ports.Usual
+
+online_nat_ports : Online inside nat_ports_at
+unfolding nat_ports_at
+online_nat_ports = online_front (λ t. nat_ports_by t.key) (λ t. nat_ports_act t.key)
+
+online_nat_to : Online inside nat_to_at
+unfolding nat_to_at
+online_nat_to = online_chain address_at (λ a. chain nat_ports_at (λ p. done (natted a p))) online_address (λ a. online_chain nat_ports_at (λ p. done (natted a p)) online_nat_ports (λ p. online_done (natted a p)))
+
+online_port : Online inside port_at
+unfolding port_at
+online_port = online_value why.Service (in_word port_of) (in_word_in_line port_of)
+
+online_port_part : Online inside port_part_at
+unfolding port_part_at
+online_port_part = online_part begins_port port_at refl refl online_port
+
+online_rdr_to : Online inside rdr_to_at
+unfolding rdr_to_at
+online_rdr_to = online_chain address_at (λ a. chain port_part_at (λ p. done (redirected a p))) online_address (λ a. online_chain port_part_at (λ p. done (redirected a p)) online_port_part (λ p. online_done (redirected a p)))
+
+online_with_nat : (t : Translation) → Online inside (with_nat_at t)
+unfolding with_nat_at
+online_with_nat t = online_chain nat_to_at (λ n. done (record t { nat_to = Some n })) online_nat_to (λ n. online_done (record t { nat_to = Some n }))
+
+online_with_rdr : (t : Translation) → Online inside (with_rdr_at t)
+unfolding with_rdr_at
+online_with_rdr t = online_chain rdr_to_at (λ r. done (record t { rdr_to = Some r })) online_rdr_to (λ r. online_done (record t { rdr_to = Some r }))
+
+translation_taking : (t : Translation) (k : Key) → Taking inside k (translation_by t k)
+translation_taking t key.NatTo = once_taking inside key.NatTo t.nat_to (take (with_nat_at t)) (refl, online_with_nat t)
+translation_taking t key.RdrTo = once_taking inside key.RdrTo t.rdr_to (take (with_rdr_at t)) (refl, online_with_rdr t)
+translation_taking t _ = tt
+
+pub online_translation : (t : Translation) → Online inside (translation_at t)
+unfolding translation_at
+online_translation t = online_taking (λ u. translation_by t u.key) (λ u. translation_taking t u.key)
+
+pub translation_shrinks : (t : Translation) → Shrinks (translation_at t)
+unfolding translation_at
+translation_shrinks t = front_shrinks inside (λ u. translation_by t u.key) (λ u. translation_taking t u.key)

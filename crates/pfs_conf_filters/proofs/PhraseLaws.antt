@@ -14,7 +14,7 @@ use Rattle.pfs_conf_tokens.specs.declared.refusals.Why.TheVariants as why
 use Rattle.pfs_conf_tokens.proofs.Laws.{ok_parts, chain_ok, not_refused}
 use Rattle.pfs_conf_tokens.proofs.ReaderLaws.{closes_parens_key, word_is, perhaps_is, list_is}
 use Rattle.pfs_addr_values.specs.Protocols.{proto_in}
-use Rattle.pfs_addr.specs.Texts.{prefix_of}
+use Rattle.pfs_addr.specs.Texts.{addr_of, prefix_of}
 use Rattle.pfs_addr_values.specs.declared.packets.Dir.{Dir}
 use Rattle.pfs_addr_values.specs.declared.packets.Dir.TheVariants as dir
 use Rattle.pfs_addr_values.specs.declared.protocols.Proto.{Proto}
@@ -34,13 +34,19 @@ use Rattle.pfs_conf_filters.specs.declared.phrases.Marks.{Marks}
 use Rattle.pfs_conf_filters.specs.declared.phrases.Head.{Head}
 use Rattle.pfs_conf_filters.specs.declared.phrases.Hosts.{Hosts}
 use Rattle.pfs_conf_filters.specs.declared.phrases.Parameters.{Parameters}
-use Rattle.pfs_conf_filters.specs.Values.{in_plain_word, interface_name, ports_of, flag_test, tag_name}
-use Rattle.pfs_conf_filters.specs.Reading.{behind, clause, part, begins_dir, begins_on, begins_family, begins_proto, begins_from, begins_to, begins_port, begins_flags, interface_at, policy_by, policy_at, verb_by, verb_at, dir_by, dir_at, log_item_by, log_item_at, log_list_by, log_list_at, log_by, log_at, quick_by, quick_at, marks_of, marks_by, marks_at, negation_by, negation_at, interface, on_at, on_part_at, family_by, family_part_at, proto_at, proto_part_at, head_at, close_by, close_at, place_by, place_at, host_by, host_at, equals_by, equals_at, ports_at, ports_part_at, side_host_by, side_host_at, side, side_at, from_part_at, to_part_at, all_hosts, given_hosts, hosts_by, hosts_at, parameters_at, flags_at, tag_name_at, tag_test, tag_at, tagged_at, received_on_at, asked_by, asks_both, extra_by, extra_at}
-use Rattle.pfs_conf_filters.specs.Grammar.{Says, Behind, PolicyOf, none, drop, return, return_rst, return_icmp, return_icmp6, VerbOf, pass, block, DirOf, inward, outward, LogItemOf, all, matches, user, to, LogListOf, bare, listed, LogOf, silent, logs, QuickOf, slow, quick, MarksOf, log_first, quick_first, of_anchor, NegationOf, affirmed, negated, OnOf, on, FamilyOf, inet, inet6, HeadOf, HostOf, any, prefix, table, PortsOf, plainly, equals, SideOf, hosted, ported, HostsOf, every, sides, ParametersOf, FlagsOf, matching, of_match, ExtraOf, tag, tagged, received_on}
+use Rattle.pfs_conf_filters.specs.Values.{in_plain_word, interface_name, port_of, ports_of, flag_test, tag_name}
+use Rattle.pfs_conf_filters.specs.Reading.{behind, clause, part, begins_dir, begins_on, begins_family, begins_proto, begins_from, begins_to, begins_port, begins_flags, interface_at, policy_by, policy_at, verb_by, verb_at, dir_by, dir_at, log_item_by, log_item_at, log_list_by, log_list_at, log_by, log_at, quick_by, quick_at, marks_of, marks_by, marks_at, negation_by, negation_at, interface, on_at, on_part_at, family_by, family_part_at, proto_at, proto_part_at, head_at, close_by, close_at, place_by, place_at, host_by, host_at, equals_by, equals_at, ports_at, ports_part_at, side_host_by, side_host_at, side, side_at, from_part_at, to_part_at, all_hosts, given_hosts, hosts_by, hosts_at, parameters_at, flags_at, tag_name_at, tag_test, tag_at, tagged_at, received_on_at, asked_by, asks_both, extra_by, extra_at, address_at, given_ports_at, nat_ports_by, nat_ports_at, natted, nat_to_at, port_at, port_part_at, redirected, rdr_to_at, with_nat_at, with_rdr_at, translation_by, translation_at}
+use Rattle.pfs_conf_filters.specs.Grammar.{Says, Behind, PolicyOf, none, drop, return, return_rst, return_icmp, return_icmp6, VerbOf, pass, block, DirOf, inward, outward, LogItemOf, all, matches, user, to, LogListOf, bare, listed, LogOf, silent, logs, QuickOf, slow, quick, MarksOf, log_first, quick_first, of_anchor, NegationOf, affirmed, negated, OnOf, on, FamilyOf, inet, inet6, HeadOf, HostOf, any, prefix, table, PortsOf, plainly, equals, SideOf, hosted, ported, HostsOf, every, sides, ParametersOf, FlagsOf, matching, of_match, ExtraOf, tag, tagged, received_on, NatPortsOf, usual, given, same, NatToOf, RdrToOf, TranslationOf, nat_to, rdr_to}
 use Rattle.pfs_conf_filters.proofs.OnlineLaws.{in_plain_word_in_line, interface_in_line, flags_in_line}
 use Rattle.pfs_conf_tokens.proofs.ValueLaws.{in_word_in_line}
 use Rattle.pfs_conf_tokens.specs.Values.{in_word, table_name, table_name_at, value_at, valued}
 use Rattle.pfs_conf_filters.specs.declared.phrases.Extras.{Extras}
+use Rattle.pfs_addr_values.specs.declared.addresses.Addr.{Addr}
+use Rattle.pfs_conf_values.specs.declared.translations.NatPorts.{NatPorts}
+use Rattle.pfs_conf_values.specs.declared.translations.NatPorts.TheVariants as nat_ports
+use Rattle.pfs_conf_values.specs.declared.translations.NatTo.{NatTo}
+use Rattle.pfs_conf_values.specs.declared.translations.RdrTo.{RdrTo}
+use Rattle.pfs_conf_values.specs.declared.translations.Translation.{Translation}
 use Rattle.pfs_conf_values.specs.declared.filters.Tagged.{Tagged}
 
 -- ---- forms
@@ -475,3 +481,68 @@ extra_is e ts x left e' = by_key (head ts).key refl e'
     by_key key.Tag g h = tag_is e ts g e.tag refl x left h
     by_key key.Not g h = after_not g (asks_both e) h
     by_key k g h = affirmed_is k g h
+
+-- ---- translation
+
+address_is : (ts : List Tok) (x : Addr) (left : List Tok) → address_at ts ≡ Ok (x, left) → Says (in_plain_word addr_of) ts x left
+unfolding address_at
+address_is ts x left e = value_is why.Host (in_plain_word addr_of) (in_plain_word_in_line addr_of) ts x left e
+
+nat_ports_are : (ts : List Tok) (x : NatPorts) (left : List Tok) → nat_ports_at ts ≡ Ok (x, left) → NatPortsOf ts x left
+unfolding nat_ports_at given_ports_at
+nat_ports_are ts x left e = by_key (head ts).key refl e
+  where
+    by_key : (k : Key) → (head ts).key ≡ k → act (nat_ports_by k) ts ≡ Ok (x, left) → NatPortsOf ts x left
+    by_key key.Port g h =
+        let c = chain_ok (value_at why.Service (in_word ports_of)) (λ p. done (nat_ports.Given p)) (rest ts) x left h in
+        moved NatPortsOf ts (ok_parts (nat_ports.Given c.0) x c.1 left c.3)
+        (given (word_is key.Port ts g (λ q. cc)) (value_is why.Service (in_word ports_of) (in_word_in_line ports_of) (rest ts) c.0 c.1 c.2))
+    by_key key.StaticPort g h = moved NatPortsOf ts (ok_parts nat_ports.Static x (rest ts) left h) (same (word_is key.StaticPort ts g (λ q. cc)))
+    by_key _ g h = moved NatPortsOf ts (ok_parts nat_ports.Usual x ts left h) usual
+
+nat_to_is : (ts : List Tok) (x : NatTo) (left : List Tok) → nat_to_at ts ≡ Ok (x, left) → NatToOf ts x left
+unfolding nat_to_at
+nat_to_is ts x left e =
+    let c = chain_ok address_at (λ a. chain nat_ports_at (λ p. done (natted a p))) ts x left e in
+    let d = chain_ok nat_ports_at (λ p. done (natted c.0 p)) c.1 x left c.3 in
+    moved NatToOf ts (ok_parts (natted c.0 d.0) x d.1 left d.3) (record { mid = c.1; addr = address_is ts c.0 c.1 c.2; ports = nat_ports_are c.1 d.0 d.1 d.2 })
+
+port_is : (ts : List Tok) (x : ℕ) (left : List Tok) → port_at ts ≡ Ok (x, left) → Says (in_word port_of) ts x left
+unfolding port_at
+port_is ts x left e = value_is why.Service (in_word port_of) (in_word_in_line port_of) ts x left e
+
+port_part_is : (ts : List Tok) (o : Option ℕ) (left : List Tok) → port_part_at ts ≡ Ok (o, left) → Perhaps (Behind key.Port (Says (in_word port_of))) ts o left
+unfolding port_part_at
+port_part_is ts o left e = part_is key.Port begins_port port_at (Says (in_word port_of)) port_only (λ q. cc) port_is ts o left e
+
+rdr_to_is : (ts : List Tok) (x : RdrTo) (left : List Tok) → rdr_to_at ts ≡ Ok (x, left) → RdrToOf ts x left
+unfolding rdr_to_at
+rdr_to_is ts x left e =
+    let c = chain_ok address_at (λ a. chain port_part_at (λ p. done (redirected a p))) ts x left e in
+    let d = chain_ok port_part_at (λ p. done (redirected c.0 p)) c.1 x left c.3 in
+    moved RdrToOf ts (ok_parts (redirected c.0 d.0) x d.1 left d.3) (record { mid = c.1; addr = address_is ts c.0 c.1 c.2; port = port_part_is c.1 d.0 d.1 d.2 })
+
+with_nat_is : (t : Translation) (ts : List Tok) → (head ts).key ≡ key.NatTo → (o : Option NatTo) → t.nat_to ≡ o → (x : Translation) (left : List Tok)
+    → act (once o (take (with_nat_at t))) ts ≡ Ok (x, left) → TranslationOf t ts x left
+unfolding with_nat_at
+with_nat_is t ts g None n x left h =
+    let c = chain_ok nat_to_at (λ m. done (record t { nat_to = Some m })) (rest ts) x left h in
+    moved (TranslationOf t) ts (ok_parts (record t { nat_to = Some c.0 }) x c.1 left c.3) (nat_to n (word_is key.NatTo ts g (λ q. cc)) (nat_to_is (rest ts) c.0 c.1 c.2))
+with_nat_is t ts g (Some y) n x left h = absurd cc
+
+with_rdr_is : (t : Translation) (ts : List Tok) → (head ts).key ≡ key.RdrTo → (o : Option RdrTo) → t.rdr_to ≡ o → (x : Translation) (left : List Tok)
+    → act (once o (take (with_rdr_at t))) ts ≡ Ok (x, left) → TranslationOf t ts x left
+unfolding with_rdr_at
+with_rdr_is t ts g None n x left h =
+    let c = chain_ok rdr_to_at (λ m. done (record t { rdr_to = Some m })) (rest ts) x left h in
+    moved (TranslationOf t) ts (ok_parts (record t { rdr_to = Some c.0 }) x c.1 left c.3) (rdr_to n (word_is key.RdrTo ts g (λ q. cc)) (rdr_to_is (rest ts) c.0 c.1 c.2))
+with_rdr_is t ts g (Some y) n x left h = absurd cc
+
+pub translation_is : (t : Translation) (ts : List Tok) (x : Translation) (left : List Tok) → translation_at t ts ≡ Ok (x, left) → TranslationOf t ts x left
+unfolding translation_at
+translation_is t ts x left e = by_key (head ts).key refl e
+  where
+    by_key : (k : Key) → (head ts).key ≡ k → act (translation_by t k) ts ≡ Ok (x, left) → TranslationOf t ts x left
+    by_key key.NatTo g h = with_nat_is t ts g t.nat_to refl x left h
+    by_key key.RdrTo g h = with_rdr_is t ts g t.rdr_to refl x left h
+    by_key _ g h = absurd (not_refused _ _ _ h)

@@ -14,7 +14,7 @@ use Rattle.pfs_conf_tokens.specs.declared.refusals.Why.TheVariants as why
 use Rattle.pfs_conf_tokens.proofs.ReaderLaws.{word_head, perhaps_reads, perhaps_reads_before, no_comma, ReadsList, list_reads}
 use Rattle.pfs_addr_values.specs.Protocols.{proto_in}
 use Rattle.pfs_addr_values.specs.Prefixes.{Network}
-use Rattle.pfs_addr.specs.Texts.{prefix_of}
+use Rattle.pfs_addr.specs.Texts.{addr_of, prefix_of}
 use Rattle.pfs_addr_values.specs.declared.packets.Dir.{Dir}
 use Rattle.pfs_addr_values.specs.declared.protocols.Proto.{Proto}
 use Rattle.pfs_conf_values.specs.declared.filters.Family.{Family}
@@ -31,13 +31,19 @@ use Rattle.pfs_conf_filters.specs.declared.phrases.Marks.{Marks}
 use Rattle.pfs_conf_filters.specs.declared.phrases.Head.{Head}
 use Rattle.pfs_conf_filters.specs.declared.phrases.Hosts.{Hosts}
 use Rattle.pfs_conf_filters.specs.declared.phrases.Parameters.{Parameters}
-use Rattle.pfs_conf_filters.specs.Values.{is_plain_word, in_plain_word, may_name_interface, interface_name, ports_of, flag_test, tag_name}
-use Rattle.pfs_conf_filters.specs.Reading.{clause, part, begins_dir, begins_on, begins_family, begins_proto, begins_from, begins_to, begins_port, begins_flags, interface_at, policy_by, policy_at, verb_at, dir_by, dir_at, log_item_at, log_list_by, log_list_at, log_by, log_at, quick_by, quick_at, marks_of, rule_marks_by, marks_at, negation_by, negation_at, on_at, on_part_at, family_by, family_part_at, proto_at, proto_part_at, head_at, close_at, place_by, place_at, host_by, host_at, equals_by, equals_at, ports_at, ports_part_at, side_host_by, side_host_at, side_at, from_part_at, to_part_at, given_hosts, hosts_by, hosts_at, parameters_at, flags_at, tag_name_at, tag_at, tagged_at, received_on_at, asks_both, extra_at}
-use Rattle.pfs_conf_filters.specs.Grammar.{Says, Behind, PolicyOf, none, drop, return, return_rst, return_icmp, return_icmp6, VerbOf, pass, block, DirOf, inward, outward, LogItemOf, all, matches, user, to, LogListOf, bare, listed, LogOf, silent, logs, QuickOf, slow, quick, MarksOf, log_first, quick_first, of_anchor, NegationOf, affirmed, negated, OnOf, on, FamilyOf, inet, inet6, HeadOf, HostOf, any, prefix, table, PortsOf, plainly, equals, SideOf, hosted, ported, HostsOf, every, sides, ParametersOf, FlagsOf, matching, of_match, ExtraOf, tag, tagged, received_on}
+use Rattle.pfs_conf_filters.specs.Values.{is_plain_word, in_plain_word, may_name_interface, interface_name, port_of, ports_of, flag_test, tag_name}
+use Rattle.pfs_conf_filters.specs.Reading.{clause, part, begins_dir, begins_on, begins_family, begins_proto, begins_from, begins_to, begins_port, begins_flags, interface_at, policy_by, policy_at, verb_at, dir_by, dir_at, log_item_at, log_list_by, log_list_at, log_by, log_at, quick_by, quick_at, marks_of, rule_marks_by, marks_at, negation_by, negation_at, on_at, on_part_at, family_by, family_part_at, proto_at, proto_part_at, head_at, close_at, place_by, place_at, host_by, host_at, equals_by, equals_at, ports_at, ports_part_at, side_host_by, side_host_at, side_at, from_part_at, to_part_at, given_hosts, hosts_by, hosts_at, parameters_at, flags_at, tag_name_at, tag_at, tagged_at, received_on_at, asks_both, extra_at, address_at, given_ports_at, nat_ports_by, nat_ports_at, nat_to_at, port_at, port_part_at, rdr_to_at, with_nat_at, with_rdr_at, translation_at}
+use Rattle.pfs_conf_filters.specs.Grammar.{Says, Behind, PolicyOf, none, drop, return, return_rst, return_icmp, return_icmp6, VerbOf, pass, block, DirOf, inward, outward, LogItemOf, all, matches, user, to, LogListOf, bare, listed, LogOf, silent, logs, QuickOf, slow, quick, MarksOf, log_first, quick_first, of_anchor, NegationOf, affirmed, negated, OnOf, on, FamilyOf, inet, inet6, HeadOf, HostOf, any, prefix, table, PortsOf, plainly, equals, SideOf, hosted, ported, HostsOf, every, sides, ParametersOf, FlagsOf, matching, of_match, ExtraOf, tag, tagged, received_on, NatPortsOf, usual, given, same, NatToOf, RdrToOf, TranslationOf, nat_to, rdr_to}
 use Rattle.pfs_conf_filters.proofs.OnlineLaws.{log_item_shrinks}
 use Rattle.pfs_conf_tokens.proofs.ValueLaws.{passed}
 use Rattle.pfs_conf_tokens.specs.Values.{in_word, table_name, table_name_at, value_at}
 use Rattle.pfs_conf_filters.specs.declared.phrases.Extras.{Extras}
+use Rattle.pfs_addr_values.specs.declared.addresses.Addr.{Addr}
+use Rattle.pfs_conf_values.specs.declared.translations.NatPorts.{NatPorts}
+use Rattle.pfs_conf_values.specs.declared.translations.NatPorts.TheVariants as nat_ports
+use Rattle.pfs_conf_values.specs.declared.translations.NatTo.{NatTo}
+use Rattle.pfs_conf_values.specs.declared.translations.RdrTo.{RdrTo}
+use Rattle.pfs_conf_values.specs.declared.translations.Translation.{Translation}
 use Rattle.pfs_conf_values.specs.declared.filters.Tagged.{Tagged}
 
 -- ---- what may follow
@@ -527,3 +533,57 @@ pub extra_head : (Q : Key → Type 0) → Q key.Tag → Q key.Not → Q key.Tagg
 extra_head Q a b c d (tag n w s) = word_key key.Tag Q a w
 extra_head Q a b c d (tagged n m w s) = negation_head Q b m (word_key key.Tagged Q c w)
 extra_head Q a b c d (received_on n m w s) = negation_head Q b m (word_key key.ReceivedOn Q d w)
+
+-- ---- translation
+
+-- all but what goes on with the ports of a translation
+abbrev pub ends_translation : Key → Bool
+ends_translation key.Port = false
+ends_translation key.StaticPort = false
+ends_translation _ = true
+
+-- what ends a translation begins none of its ports
+record EndsTranslation (k : Key) : Type 0 where
+  nat : nat_ports_by k ≡ stay (done nat_ports.Usual)
+  rdr : begins_port k ≡ false
+
+translation_ends : (k : Key) → ends_translation k ≡ true → EndsTranslation k
+translation_ends key.Port e = absurd cc
+translation_ends key.StaticPort e = absurd cc
+translation_ends _ e = record { nat = refl; rdr = refl }
+
+address_reads : {ts : List Tok} {x : Addr} {left : List Tok} → Says (in_plain_word addr_of) ts x left → address_at ts ≡ Ok (x, left)
+unfolding address_at
+address_reads s = value_reads why.Host (in_plain_word addr_of) s
+
+nat_ports_read : {ts : List Tok} {x : NatPorts} {left : List Tok} → NatPortsOf ts x left → ends_translation (head left).key ≡ true → nat_ports_at ts ≡ Ok (x, left)
+unfolding nat_ports_at given_ports_at
+nat_ports_read {left = left} usual e = rw ((translation_ends (head left).key e).nat) refl
+nat_ports_read (given w s) e = let h = word_head w in rw (h.0, h.1, value_reads why.Service (in_word ports_of) s) refl
+nat_ports_read (same w) e = let h = word_head w in rw (h.0, h.1) refl
+
+nat_to_reads : {ts : List Tok} {x : NatTo} {left : List Tok} → NatToOf ts x left → ends_translation (head left).key ≡ true → nat_to_at ts ≡ Ok (x, left)
+unfolding nat_to_at
+nat_to_reads w e = rw (address_reads w.addr, nat_ports_read w.ports e) refl
+
+port_reads : {ts : List Tok} {x : ℕ} {left : List Tok} → Says (in_word port_of) ts x left → port_at ts ≡ Ok (x, left)
+unfolding port_at
+port_reads s = value_reads why.Service (in_word port_of) s
+
+port_part_reads : {ts : List Tok} {o : Option ℕ} {left : List Tok} → Perhaps (Behind key.Port (Says (in_word port_of))) ts o left → begins_port (head left).key ≡ false → port_part_at ts ≡ Ok (o, left)
+unfolding port_part_at anything
+port_part_reads p f = part_reads key.Port begins_port anything port_at (Says (in_word port_of)) refl (λ ts x left q g. port_reads q) p f refl
+
+rdr_to_reads : {ts : List Tok} {x : RdrTo} {left : List Tok} → RdrToOf ts x left → ends_translation (head left).key ≡ true → rdr_to_at ts ≡ Ok (x, left)
+unfolding rdr_to_at
+rdr_to_reads {left = left} w e = rw (address_reads w.addr, port_part_reads w.port (translation_ends (head left).key e).rdr) refl
+
+pub translation_reads : {t d : Translation} {ts left : List Tok} → TranslationOf t ts d left → ends_translation (head left).key ≡ true → translation_at t ts ≡ Ok (d, left)
+unfolding translation_at with_nat_at with_rdr_at
+translation_reads (nat_to n w s) e = let h = word_head w in rw (h.0, n, h.1, nat_to_reads s e) refl
+translation_reads (rdr_to n w s) e = let h = word_head w in rw (h.0, n, h.1, rdr_to_reads s e) refl
+
+-- what each part begins with
+pub translation_head : (Q : Key → Type 0) → Q key.NatTo → Q key.RdrTo → {t d : Translation} {ts left : List Tok} → TranslationOf t ts d left → Q (head ts).key
+translation_head Q a b (nat_to n w s) = word_key key.NatTo Q a w
+translation_head Q a b (rdr_to n w s) = word_key key.RdrTo Q b w

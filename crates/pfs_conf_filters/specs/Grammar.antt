@@ -25,9 +25,15 @@ use Rattle.pfs_conf_filters.specs.declared.phrases.Head.{Head}
 use Rattle.pfs_conf_filters.specs.declared.phrases.Hosts.{Hosts}
 use Rattle.pfs_conf_filters.specs.declared.phrases.Parameters.{Parameters}
 use Rattle.pfs_conf_filters.specs.declared.phrases.Extras.{Extras}
-use Rattle.pfs_addr.specs.Texts.{prefix_of}
+use Rattle.pfs_addr.specs.Texts.{addr_of, prefix_of}
 use Rattle.pfs_addr_values.specs.Protocols.{proto_in}
-use Rattle.pfs_conf_filters.specs.Values.{in_plain_word, interface_name, tag_name, ports_of, flag_test}
+use Rattle.pfs_addr_values.specs.declared.addresses.Addr.{Addr}
+use Rattle.pfs_conf_values.specs.declared.translations.NatPorts.{NatPorts}
+use Rattle.pfs_conf_values.specs.declared.translations.NatPorts.TheVariants as nat_ports
+use Rattle.pfs_conf_values.specs.declared.translations.NatTo.{NatTo}
+use Rattle.pfs_conf_values.specs.declared.translations.RdrTo.{RdrTo}
+use Rattle.pfs_conf_values.specs.declared.translations.Translation.{Translation}
+use Rattle.pfs_conf_filters.specs.Values.{in_plain_word, interface_name, tag_name, port_of, ports_of, flag_test}
 use Rattle.pfs_conf_tokens.specs.Values.{in_word, table_name}
 
 -- a token that says a value
@@ -62,6 +68,11 @@ statement_of _ = statement.Rule
 abbrev pub takes_state : Verb → Bool
 takes_state verb.Match = false
 takes_state _ = true
+
+-- a block rule translates nothing
+abbrev pub may_translate : Verb → Bool
+may_translate (verb.Block has_policy) = false
+may_translate _ = true
 
 pub data DirOf : List Tok → Dir → List Tok → Type 0 where
   inward : {ts left : List Tok} → Word key.In ts left → DirOf ts dir.In left
@@ -158,3 +169,28 @@ pub data ExtraOf : Extras → List Tok → Extras → List Tok → Type 0 where
       → ExtraOf e ts (record e { tagged = Some (record { name = n; negated = b }) }) left
   received_on : {e : Extras} {ts word mid left : List Tok} {b : Bool} {n : List ℕ} → e.received_on ≡ None → NegationOf ts b word → Word key.ReceivedOn word mid → Says interface_name mid n left
       → ExtraOf e ts (record e { received_on = Some (record { name = n; negated = b }) }) left
+
+-- ---- translation (pf.conf(5), TRANSLATION)
+
+-- the ports behind the address of `nat-to`, or none
+pub data NatPortsOf : List Tok → NatPorts → List Tok → Type 0 where
+  usual : {ts : List Tok} → NatPortsOf ts nat_ports.Usual ts
+  given : {ts mid left : List Tok} {p : Ports} → Word key.Port ts mid → Says (in_word ports_of) mid p left → NatPortsOf ts (nat_ports.Given p) left
+  same : {ts left : List Tok} → Word key.StaticPort ts left → NatPortsOf ts nat_ports.Static left
+
+-- after `nat-to`
+pub record NatToOf (ts : List Tok) (n : NatTo) (left : List Tok) : Type 0 where
+  pub mid : List Tok
+  pub addr : Says (in_plain_word addr_of) ts n.addr mid
+  pub ports : NatPortsOf mid n.ports left
+
+-- after `rdr-to`
+pub record RdrToOf (ts : List Tok) (r : RdrTo) (left : List Tok) : Type 0 where
+  pub mid : List Tok
+  pub addr : Says (in_plain_word addr_of) ts r.addr mid
+  pub port : Perhaps (Behind key.Port (Says (in_word port_of))) mid r.port left
+
+-- one part is added to those that a rule has: one that it has not yet
+pub data TranslationOf : Translation → List Tok → Translation → List Tok → Type 0 where
+  nat_to : {t : Translation} {ts mid left : List Tok} {n : NatTo} → t.nat_to ≡ None → Word key.NatTo ts mid → NatToOf mid n left → TranslationOf t ts (record t { nat_to = Some n }) left
+  rdr_to : {t : Translation} {ts mid left : List Tok} {r : RdrTo} → t.rdr_to ≡ None → Word key.RdrTo ts mid → RdrToOf mid r left → TranslationOf t ts (record t { rdr_to = Some r }) left

@@ -26,9 +26,15 @@ use Rattle.pfs_conf_filters.specs.declared.phrases.Head.{Head}
 use Rattle.pfs_conf_filters.specs.declared.phrases.Hosts.{Hosts}
 use Rattle.pfs_conf_filters.specs.declared.phrases.Parameters.{Parameters}
 use Rattle.pfs_conf_filters.specs.declared.phrases.Extras.{Extras}
-use Rattle.pfs_addr.specs.Texts.{prefix_of}
+use Rattle.pfs_addr.specs.Texts.{addr_of, prefix_of}
 use Rattle.pfs_addr_values.specs.Protocols.{proto_in}
-use Rattle.pfs_conf_filters.specs.Values.{in_plain_word, interface_name, tag_name, ports_of, flag_test}
+use Rattle.pfs_addr_values.specs.declared.addresses.Addr.{Addr}
+use Rattle.pfs_conf_values.specs.declared.translations.NatPorts.{NatPorts}
+use Rattle.pfs_conf_values.specs.declared.translations.NatPorts.TheVariants as nat_ports
+use Rattle.pfs_conf_values.specs.declared.translations.NatTo.{NatTo}
+use Rattle.pfs_conf_values.specs.declared.translations.RdrTo.{RdrTo}
+use Rattle.pfs_conf_values.specs.declared.translations.Translation.{Translation}
+use Rattle.pfs_conf_filters.specs.Values.{in_plain_word, interface_name, tag_name, port_of, ports_of, flag_test}
 use Rattle.pfs_conf_tokens.specs.Values.{in_word, table_name_at, value_at}
 
 -- a part that one word begins, and what follows the word
@@ -317,3 +323,53 @@ extra_by e k = asked_by e false k
 
 unfoldable pub extra_at : Extras → Reader Extras
 extra_at e ts = on_front (λ t. extra_by e t.key) ts
+
+-- ---- translation
+
+unfoldable pub address_at : Reader Addr
+address_at ts = value_at why.Host (in_plain_word addr_of) ts
+
+-- the ports behind the address of `nat-to`
+unfoldable pub given_ports_at : Reader NatPorts
+given_ports_at ts = chain (value_at why.Service (in_word ports_of)) (λ p. done (nat_ports.Given p)) ts
+
+abbrev pub nat_ports_by : Key → Act NatPorts
+nat_ports_by key.Port = take given_ports_at
+nat_ports_by key.StaticPort = take (done nat_ports.Static)
+nat_ports_by _ = stay (done nat_ports.Usual)
+
+unfoldable pub nat_ports_at : Reader NatPorts
+nat_ports_at ts = on_front (λ t. nat_ports_by t.key) ts
+
+abbrev pub natted : Addr → NatPorts → NatTo
+natted a p = record { addr = a; ports = p }
+
+unfoldable pub nat_to_at : Reader NatTo
+nat_to_at ts = chain address_at (λ a. chain nat_ports_at (λ p. done (natted a p))) ts
+
+-- the port behind the address of `rdr-to`
+unfoldable pub port_at : Reader ℕ
+port_at ts = value_at why.Service (in_word port_of) ts
+
+unfoldable pub port_part_at : Reader (Option ℕ)
+port_part_at ts = part begins_port port_at ts
+
+abbrev pub redirected : Addr → Option ℕ → RdrTo
+redirected a p = record { addr = a; port = p }
+
+unfoldable pub rdr_to_at : Reader RdrTo
+rdr_to_at ts = chain address_at (λ a. chain port_part_at (λ p. done (redirected a p))) ts
+
+unfoldable pub with_nat_at : Translation → Reader Translation
+with_nat_at t ts = chain nat_to_at (λ n. done (record t { nat_to = Some n })) ts
+
+unfoldable pub with_rdr_at : Translation → Reader Translation
+with_rdr_at t ts = chain rdr_to_at (λ r. done (record t { rdr_to = Some r })) ts
+
+abbrev pub translation_by : Translation → Key → Act Translation
+translation_by t key.NatTo = once t.nat_to (take (with_nat_at t))
+translation_by t key.RdrTo = once t.rdr_to (take (with_rdr_at t))
+translation_by t _ = refuse why.Plain
+
+unfoldable pub translation_at : Translation → Reader Translation
+translation_at t ts = on_front (λ u. translation_by t u.key) ts

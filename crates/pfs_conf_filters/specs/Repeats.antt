@@ -1,11 +1,16 @@
 -- Which words begin once more what the parameters have already: these are reported as repeated. (own)
-use Rattle.std.specs.Prelude.{Bool, false, is_some}
+use Rattle.std.specs.Prelude.{Bool, true, false, ◌||◌, Option, Some, None, is_some}
 use Rattle.pfs_conf_tokens.specs.declared.keys.Key.{Key}
 use Rattle.pfs_conf_tokens.specs.declared.keys.Key.TheVariants as key
 use Rattle.pfs_conf_filters.specs.declared.phrases.Verb.{Verb}
 use Rattle.pfs_conf_filters.specs.declared.phrases.Verb.TheVariants as verb
 use Rattle.pfs_conf_filters.specs.declared.phrases.Parameters.{Parameters}
 use Rattle.pfs_conf_filters.specs.Sides.{gives_ports}
+use Rattle.pfs_conf_values.specs.declared.translations.NatPorts.{NatPorts}
+use Rattle.pfs_conf_values.specs.declared.translations.NatPorts.TheVariants as nat_ports
+use Rattle.pfs_conf_values.specs.declared.translations.NatTo.{NatTo}
+use Rattle.pfs_conf_values.specs.declared.translations.RdrTo.{RdrTo}
+use Rattle.pfs_conf_values.specs.declared.translations.Translation.{Translation}
 
 -- whether a word begins a part that the parameters have already
 abbrev pub repeats : Parameters → Key → Bool
@@ -36,3 +41,22 @@ repeats_policy v key.ReturnRst = sends_policy v
 repeats_policy v key.ReturnIcmp = sends_policy v
 repeats_policy v key.ReturnIcmp6 = sends_policy v
 repeats_policy v _ = false
+
+-- whether `nat-to` has ports or `static-port`, and whether `rdr-to` has a port
+abbrev pub gives_nat_ports : NatPorts → Bool
+gives_nat_ports nat_ports.Usual = false
+gives_nat_ports _ = true
+
+abbrev pub says_nat_ports : Option NatTo → Bool
+says_nat_ports None = false
+says_nat_ports (Some n) = gives_nat_ports n.ports
+
+abbrev pub says_rdr_port : Option RdrTo → Bool
+says_rdr_port None = false
+says_rdr_port (Some r) = is_some r.port
+
+-- whether a word says once more to which ports a rule translates
+abbrev pub repeats_translation : Translation → Key → Bool
+repeats_translation t key.Port = says_nat_ports t.nat_to || says_rdr_port t.rdr_to
+repeats_translation t key.StaticPort = says_nat_ports t.nat_to
+repeats_translation t _ = false

@@ -8,6 +8,7 @@ mod heads;
 mod phrases;
 mod questions;
 mod services;
+mod translations;
 mod words;
 
 pub use endpoints::read_parameters;
@@ -15,3 +16,5 @@ pub use extras::read_extra;
 pub use flag_words::read_flags;
 pub use heads::read_verb;
 pub use phrases::{Extras, Head, Hosts, Marks, Parameters, Statement, Verb};
+pub use questions::repeats_translation;
+pub use translations::read_translation;

@@ -2,12 +2,12 @@
 
 ghost use Rattle.std.specs.Prelude.{◌≡◌};
 ghost use Rattle.pfs_conf_filters.specs.Sides.{source_of, destination_of, gives_ports, lacks_proto};
-ghost use Rattle.pfs_conf_filters.specs.Grammar.{statement_of, takes_state};
-ghost use Rattle.pfs_conf_filters.specs.Repeats.{repeats, repeats_policy};
+ghost use Rattle.pfs_conf_filters.specs.Grammar.{may_translate, statement_of, takes_state};
+ghost use Rattle.pfs_conf_filters.specs.Repeats.{repeats, repeats_policy, repeats_translation, says_nat_ports, says_rdr_port};
 
 use crate::phrases::{Hosts, Parameters, Statement, Verb};
 use pfs_conf_tokens::Key;
-use pfs_conf_values::{Host, Side, TableName};
+use pfs_conf_values::{Host, NatPorts, NatTo, RdrTo, Side, TableName, Translation};
 
 const ANY: Side<TableName> = Side {
     host: Host::Any,
@@ -92,6 +92,16 @@ impl Verb {
         }
     }
 
+    /// Whether a translation may follow: a `block` rule has none.
+    pub fn may_translate(self) -> bool
+        ensures { result ≡ may_translate self }
+    {
+        match self {
+            Verb::Pass | Verb::Match => true,
+            Verb::Block { .. } => false,
+        }
+    }
+
     /// Whether this word says once more how packets are blocked: `drop` or one of `return`, `return-rst`, `return-icmp`
     /// and `return-icmp6` where one of them is given already. (own to this profile)
     pub fn has(self, key: Key) -> bool
@@ -104,5 +114,38 @@ impl Verb {
             ) => has_policy,
             _ => false,
         }
+    }
+}
+
+/// Whether this word says once more to which ports a rule translates: `port` where `nat-to` or `rdr-to` has one, or `nat-to` has
+/// `static-port`; and `static-port` where `nat-to` has it, or ports. (own to this profile)
+pub fn repeats_translation(translation: &Translation, key: Key) -> bool
+    ensures { result ≡ repeats_translation translation.now key }
+{
+    match key {
+        Key::Port => says_nat_ports(translation.nat_to) || says_rdr_port(translation.rdr_to),
+        Key::StaticPort => says_nat_ports(translation.nat_to),
+        _ => false,
+    }
+}
+
+fn says_nat_ports(nat_to: Option<NatTo>) -> bool
+    ensures { result ≡ says_nat_ports nat_to }
+{
+    match nat_to {
+        None => false,
+        Some(nat_to) => match nat_to.ports {
+            NatPorts::Usual => false,
+            NatPorts::Given(_) | NatPorts::Static => true,
+        },
+    }
+}
+
+fn says_rdr_port(rdr_to: Option<RdrTo>) -> bool
+    ensures { result ≡ says_rdr_port rdr_to }
+{
+    match rdr_to {
+        None => false,
+        Some(rdr_to) => rdr_to.port.is_some(),
     }
 }

@@ -5,7 +5,9 @@ ghost use Rattle.pfs_conf_tokens.specs.Giving.{Gives};
 ghost use Rattle.pfs_conf_tokens.specs.Words.{key_of_text};
 ghost use Rattle.pfs_conf_tokens.specs.Numbers.{number_written};
 ghost use Rattle.pfs_conf_filters.specs.Values.{port_of, port_by, port_numbered, one_port, port_range, ports_of};
-ghost use Rattle.pfs_conf_filters.specs.Reading.{proto_at, proto_part_at, ports_at, ports_part_at};
+ghost use Rattle.pfs_conf_filters.specs.Reading.{port_at, port_part_at, proto_at, proto_part_at, ports_at, ports_part_at};
+ghost use Rattle.pfs_conf_tokens.specs.Values.{in_word, value_at};
+ghost use Rattle.pfs_conf_tokens.specs.declared.refusals.Why.TheVariants as why;
 
 use pfs_addr::parse_proto;
 use pfs_addr_values::Proto;
@@ -52,11 +54,41 @@ fn ports(cursor: &mut Cursor) -> Result<Ports, Refusal>
     ensures { Gives result cursor.new (ports_at cursor.old) }
 {
     cursor.take(Key::Equals);
+    ports_word(cursor)
+}
+
+/// `PORT`: one port, or those from one to another.
+pub fn ports_word(cursor: &mut Cursor) -> Result<Ports, Refusal>
+    ensures { Gives result cursor.new (value_at why.Service (in_word ports_of) cursor.old) }
+{
     if !cursor.key().is_word() {
         return Err(Refusal::Stop(Why::Service));
     }
     let ports = parse_ports(cursor.text());
     take_value(cursor, Why::Service, ports)
+}
+
+/// `port P`, if present.
+#[tactic(auto, unfolding(crate::specs::Reading::port_part_at))]
+pub fn one_port_part(cursor: &mut Cursor) -> Result<Option<u16>, Refusal>
+    ensures { Gives result cursor.new (port_part_at cursor.old) }
+{
+    if cursor.take(Key::Port) {
+        Ok(Some(port(cursor)?))
+    } else {
+        Ok(None)
+    }
+}
+
+#[tactic(auto, unfolding(crate::specs::Reading::port_at))]
+fn port(cursor: &mut Cursor) -> Result<u16, Refusal>
+    ensures { Gives result cursor.new (port_at cursor.old) }
+{
+    if !cursor.key().is_word() {
+        return Err(Refusal::Stop(Why::Service));
+    }
+    let port = parse_port(cursor.text());
+    take_value(cursor, Why::Service, port)
 }
 
 /// The ports that a word says: P, or P:Q for those from P to Q.

@@ -19,7 +19,9 @@ use Rattle.pfs_addr_values.specs.FlagSets.{flags_of, letters_text}
 use Rattle.pfs_addr_values.specs.Names.{is_name, name_of}
 use Rattle.pfs_addr_values.specs.Prefixes.{IsNetwork, Network}
 use Rattle.pfs_addr_values.specs.Protocols.{proto_in}
-use Rattle.pfs_addr.specs.Texts.{prefix_of}
+use Rattle.pfs_addr.specs.Texts.{addr_of, prefix_of}
+use Rattle.pfs_addr_values.specs.Addresses.{IsAddr, addr_text}
+use Rattle.pfs_addr_values.specs.declared.addresses.Addr.{Addr}
 use Rattle.pfs_addr_values.specs.declared.flag_sets.Flags.{Flags}
 use Rattle.pfs_addr_values.specs.declared.packets.Dir.{Dir}
 use Rattle.pfs_addr_values.specs.declared.packets.Dir.TheVariants as dir
@@ -52,7 +54,7 @@ use Rattle.pfs_conf_round_trip.proofs.Said.{host_said, hosts_said, parameters_sa
 use Rattle.pfs_addr.proofs.LetterTexts.{flags_again, letters_all, letters_some}
 use Rattle.pfs_conf_round_trip.proofs.Names.{is_other, key_of_word, may_name, name_again, name_text, not_any}
 use Rattle.pfs_conf_round_trip.proofs.Numbers.{ports_again, ports_word}
-use Rattle.pfs_conf_round_trip.proofs.PrefixWords.{prefix_again, prefix_plain, prefix_word}
+use Rattle.pfs_conf_round_trip.proofs.PrefixWords.{address_again, address_plain, address_word, prefix_again, prefix_plain, prefix_word}
 use Rattle.pfs_addr.proofs.ProtocolLaws.{no_word, proto_again, proto_known}
 use Rattle.pfs_conf_round_trip.proofs.Pieces.{all_append, at, mark, text_append, word, word_between}
 use Rattle.pfs_conf.specs.Within.{MayBeQuick}
@@ -170,6 +172,11 @@ pub host_reads : (tables : List TableDef) (h : Host TableNo) (line : ℕ) (more 
 host_reads tables host.Any line more t h b = any (token line (key_of_text (codes "any")) (codes "any"), word_then true line (codes "any") more refl b, key_of_Any)
 host_reads tables (host.Prefix p negation) line more t h b = prefix_reads p negation line more h b
 host_reads tables (host.Table n negation) line more t h b = table_reads (table_said tables n) negation line more (table_named tables n t h)
+
+pub address_says : (line : ℕ) (a : Addr) (more : List ℕ) → IsAddr a → breaks more ≡ true → Says (in_plain_word addr_of) (at line (addr_text a ++ more)) a (at line more)
+address_says line a more h b =
+    says (in_plain_word addr_of) line (addr_text a) more a (address_word a h) b
+    (cond-true (is_plain_word (key_of_text (addr_text a))) (addr_of (addr_text a)) None (address_plain a h) ∙ address_again a h)
 
 pub ports_read : (p : Option Ports) (line : ℕ) (more : List ℕ) → IfSome p ArePorts → breaks more ≡ true → Perhaps (Behind key.Port PortsOf) (at line (ports_text p ++ more)) p (at line more)
 ports_read None line more h b = absent

@@ -1,5 +1,6 @@
 -- The lines of rules and anchors are read again.
-use Rattle.std.proofs.Common.{◌≡◌, ◌∙◌, ℕ, suc, Bool, true, false, All, List, [], ◌∷◌, ◌++◌, length, Option, Some, None, IfSome, refl, sym, ap, subst, append_assoc}
+use Rattle.std.proofs.Common.{◌≡◌, ◌∙◌, ℕ, suc, Bool, true, false, All, List, [], ◌∷◌, ◌++◌, length, Option, Some, None, IfSome, is_some, ◌||◌, refl, sym, ap, subst, append_assoc}
+use borrow.Author.Tests.{clash}
 use Rattle.std.specs.Prelude.{codes}
 use Rattle.pfs_conf_tokens.specs.declared.keys.Key.TheVariants as key
 use Rattle.pfs_conf_tokens.specs.Grammar.{Until, ends, goes, present}
@@ -9,7 +10,11 @@ use Rattle.pfs_conf_tokens.proofs.ShownLaws.{breaks, quoted_then, space_then}
 use Rattle.pfs_conf_tokens.proofs.WordKeys.{key_of_Anchor, key_of_Block, key_of_Pass, key_of_Match, key_of_Tag, key_of_Tagged, key_of_ReceivedOn}
 use Rattle.pfs_addr_values.specs.Names.{is_name}
 use Rattle.pfs_conf_values.specs.Invariants.{IsTable}
-use Rattle.pfs_conf_values.specs.LoadRules.{IsAction, IsAnchor, IsRule, IsCame, IsInterface, IsQuick, IsTag}
+use Rattle.pfs_conf_values.specs.LoadRules.{IsAction, IsAnchor, IsRule, IsCame, IsInterface, IsNatTo, IsQuick, IsRdrTo, IsTag, IsTranslation, MayTranslate}
+use Rattle.pfs_conf_values.specs.Translations.{no_translation, translates_by}
+use Rattle.pfs_conf_values.specs.declared.translations.NatTo.{NatTo}
+use Rattle.pfs_conf_values.specs.declared.translations.RdrTo.{RdrTo}
+use Rattle.pfs_conf_values.specs.declared.translations.Translation.{Translation}
 use Rattle.pfs_conf_values.specs.Order.{repeats_by}
 use Rattle.pfs_conf_values.specs.declared.actions.Action.{Action}
 use Rattle.pfs_conf_values.specs.declared.actions.Action.TheVariants as action
@@ -17,13 +22,13 @@ use Rattle.pfs_conf_values.specs.declared.filters.FlagTest.{FlagTest}
 use Rattle.pfs_conf_values.specs.declared.items.Anchor.{Anchor}
 use Rattle.pfs_conf_values.specs.declared.items.Rule.{Rule}
 use Rattle.pfs_conf_values.specs.declared.tables.TableDef.{TableDef}
-use Rattle.pfs_conf_filters.specs.Grammar.{VerbOf, block, none, pass, matching, ExtraOf, affirmed, negated, tag, tagged, received_on, no_extras, statement_of}
+use Rattle.pfs_conf_filters.specs.Grammar.{VerbOf, block, none, pass, matching, ExtraOf, affirmed, negated, tag, tagged, received_on, may_translate, no_extras, statement_of}
 use Rattle.pfs_conf_filters.specs.declared.phrases.Statement.TheVariants as statement
-use Rattle.pfs_conf.specs.Grammar.{AnchorNameOf, AnchorOf, ClauseOf, RuleOf, flags, named, state, unnamed, extra}
+use Rattle.pfs_conf.specs.Grammar.{AnchorNameOf, AnchorOf, ClauseOf, RuleOf, flags, named, state, unnamed, extra, translation}
 use Rattle.pfs_conf.specs.Statements.{no_clauses}
 use Rattle.pfs_conf.specs.declared.phrases.Clauses.{Clauses}
 use Rattle.pfs_conf.specs.declared.progress.Progress.{Progress}
-use Rattle.pfs_conf_show.specs.Filters.{dir_text, family_text, flags_text, hosts_text, on_text, proto_text, quick_text, asked_text, tag_text, tagged_text, received_on_text}
+use Rattle.pfs_conf_show.specs.Filters.{dir_text, family_text, flags_text, hosts_text, on_text, proto_text, quick_text, asked_text, nat_to_text, rdr_to_text, tag_text, tagged_text, received_on_text}
 use Rattle.pfs_conf_show.specs.Options.{kept_text, options_text, state_text}
 use Rattle.pfs_conf_show.specs.Texts.{anchor_text, name_text, rule_text, verb_text}
 use Rattle.pfs_conf_round_trip.proofs.Said.{state_said}
@@ -31,6 +36,7 @@ use Rattle.pfs_conf_round_trip.proofs.StatementsSaid.{anchor_phrase, rule_phrase
 use Rattle.pfs_conf_round_trip.proofs.FilterPhrases.{flags_break, flags_read, head_break, head_reads, interface_says, tag_says}
 use Rattle.pfs_conf_round_trip.proofs.Names.{name_again, name_bytes, name_quoted}
 use Rattle.pfs_conf_round_trip.proofs.OptionPhrases.{keep_state_reads, no_state_reads}
+use Rattle.pfs_conf_round_trip.proofs.TranslationPhrases.{nat_to_break, nat_to_reads, rdr_to_break, rdr_to_reads}
 use Rattle.pfs_conf_round_trip.proofs.Pieces.{at, line_end, mark_behind, word_first, word_between, word_space}
 use Rattle.pfs_conf_values.specs.declared.filters.Came.{Came}
 use Rattle.pfs_conf_values.specs.declared.filters.Interface.{Interface}
@@ -64,21 +70,21 @@ state_break tables (action.Keep o) more = by o.synproxy
     by false = refl
     by true = refl
 
--- flags that are given, and extras
-abbrev before_state : FlagTest → Extras → Clauses
-before_state f e = record { flags = Some f; extras = e; state = None }
+-- flags that are given, extras and a translation
+abbrev before_state : FlagTest → Extras → Translation → Clauses
+before_state f e n = record { flags = Some f; extras = e; translation = n; state = None }
 
 -- and a state clause or none
-abbrev clauses_said : List TableDef → FlagTest → Extras → Action → Clauses
-clauses_said tables f e a = record { flags = Some f; extras = e; state = state_said tables a }
+abbrev clauses_said : List TableDef → FlagTest → Extras → Translation → Action → Clauses
+clauses_said tables f e n a = record { flags = Some f; extras = e; translation = n; state = state_said tables a }
 
-state_reads : (tables : List TableDef) (f : FlagTest) (e : Extras) (a : Action) (line : ℕ) (more : List ℕ) → All IsTable tables → IsAction (length tables) a
-    → Until key.LineEnd (ClauseOf (verb_said a)) (before_state f e) (at line (state_text tables a ++ 10 ∷ more)) (clauses_said tables f e a) (tokens 0 false (suc line) more)
-state_reads tables f e action.Match line more t h = ends (line_end true line more)
-state_reads tables f e action.Block line more t h = ends (line_end true line more)
-state_reads tables f e action.Pass line more t h = goes (state refl refl (no_state_reads line (10 ∷ more) refl)) (ends (line_end true line more))
-state_reads tables f e (action.Keep o) line more t h =
-    let P : List ℕ → Type 0 = λ z. Until key.LineEnd (ClauseOf (verb_said (action.Keep o))) (before_state f e) (at line z) (clauses_said tables f e (action.Keep o)) (tokens 0 false (suc line) more) in
+state_reads : (tables : List TableDef) (f : FlagTest) (e : Extras) (n : Translation) (a : Action) (line : ℕ) (more : List ℕ) → All IsTable tables → IsAction (length tables) a
+    → Until key.LineEnd (ClauseOf (verb_said a)) (before_state f e n) (at line (state_text tables a ++ 10 ∷ more)) (clauses_said tables f e n a) (tokens 0 false (suc line) more)
+state_reads tables f e n action.Match line more t h = ends (line_end true line more)
+state_reads tables f e n action.Block line more t h = ends (line_end true line more)
+state_reads tables f e n action.Pass line more t h = goes (state refl refl (no_state_reads line (10 ∷ more) refl)) (ends (line_end true line more))
+state_reads tables f e n (action.Keep o) line more t h =
+    let P : List ℕ → Type 0 = λ z. Until key.LineEnd (ClauseOf (verb_said (action.Keep o))) (before_state f e n) (at line z) (clauses_said tables f e n (action.Keep o)) (tokens 0 false (suc line) more) in
     subst P (sym (append_assoc (kept_text o.synproxy) (options_text tables o) (10 ∷ more)))
     (goes (state refl refl (keep_state_reads tables o line (10 ∷ more) t h refl)) (ends (line_end true line more)))
 
@@ -119,7 +125,7 @@ received_on_break (Some i) more b = asked_break i.negated (codes "received-on ")
 
 -- what is read of a rule from here on
 abbrev Goes : Verb → FlagTest → Extras → List Tok → Clauses → List Tok → Type 0
-Goes v f e ts c left = Until key.LineEnd (ClauseOf v) (before_state f e) ts c left
+Goes v f e ts c left = Until key.LineEnd (ClauseOf v) (before_state f e no_translation) ts c left
 
 abbrev given : Option (List ℕ) → Option Tagged → Option Interface → Extras
 given o t i = record { tag = o; tagged = t; received_on = i }
@@ -153,33 +159,76 @@ extras_go v f o came line more h k b u =
 extras_break : (o : Option (List ℕ)) (came : Came) (more : List ℕ) → breaks more ≡ true → breaks (tag_text o ++ (tagged_text came.tagged ++ (received_on_text came.received_on ++ more))) ≡ true
 extras_break o came more b = tag_break o _ (tagged_break came.tagged _ (received_on_break came.received_on more b))
 
+-- ---- what a rule translates
+
+-- where an action translates, its verb may
+may_say : (a : Action) (n : Translation) → MayTranslate a n → translates_by n ≡ true → may_translate (verb_said a) ≡ true
+may_say action.Match n h e = refl
+may_say action.Block n h e = absurd (clash (sym h ∙ e))
+may_say action.Pass n h e = refl
+may_say (action.Keep o) n h e = refl
+
+or_true : (b : Bool) → (b || true) ≡ true
+or_true true = refl
+or_true false = refl
+
+-- what is read of a rule from here on, where so much of its translation is read
+abbrev Translates : Verb → FlagTest → Extras → Translation → List Tok → Clauses → List Tok → Type 0
+Translates v f e n ts c left = Until key.LineEnd (ClauseOf v) (before_state f e n) ts c left
+
+abbrev translation_of : Option NatTo → Option RdrTo → Translation
+translation_of n r = record { nat_to = n; rdr_to = r }
+
+nat_to_goes : (v : Verb) (f : FlagTest) (e : Extras) (n : Option NatTo) (line : ℕ) (more : List ℕ) {c : Clauses} {left : List Tok} → (is_some n ≡ true → may_translate v ≡ true) → IfSome n IsNatTo → breaks more ≡ true
+    → Translates v f e (translation_of n None) (at line more) c left → Translates v f e no_translation (at line (nat_to_text n ++ more)) c left
+nat_to_goes v f e None line more m h b u = u
+nat_to_goes v f e (Some n) line more m h b u = goes (translation (m refl) (nat_to_reads no_translation n line more refl h b)) u
+
+rdr_to_goes : (v : Verb) (f : FlagTest) (e : Extras) (n : Option NatTo) (r : Option RdrTo) (line : ℕ) (more : List ℕ) {c : Clauses} {left : List Tok} → (is_some r ≡ true → may_translate v ≡ true) → IfSome r IsRdrTo → breaks more ≡ true
+    → Translates v f e (translation_of n r) (at line more) c left → Translates v f e (translation_of n None) (at line (rdr_to_text r ++ more)) c left
+rdr_to_goes v f e n None line more m h b u = u
+rdr_to_goes v f e n (Some r) line more m h b u = goes (translation (m refl) (rdr_to_reads (translation_of n None) r line more refl h b)) u
+
+translation_goes : (a : Action) (f : FlagTest) (e : Extras) (n : Translation) (line : ℕ) (more : List ℕ) {c : Clauses} {left : List Tok} → IsTranslation n → MayTranslate a n → breaks more ≡ true
+    → Translates (verb_said a) f e n (at line more) c left → Translates (verb_said a) f e no_translation (at line (nat_to_text n.nat_to ++ (rdr_to_text n.rdr_to ++ more))) c left
+translation_goes a f e n line more h m b u =
+    nat_to_goes (verb_said a) f e n.nat_to line (rdr_to_text n.rdr_to ++ more) (λ k. may_say a n m (ap (λ x. x || is_some n.rdr_to) k)) h.nat_to (rdr_to_break n.rdr_to more b)
+    (rdr_to_goes (verb_said a) f e n.nat_to n.rdr_to line more (λ k. may_say a n m (ap (λ x. is_some n.nat_to || x) k ∙ or_true (is_some n.nat_to))) h.rdr_to b u)
+
+translation_break : (n : Translation) (more : List ℕ) → breaks more ≡ true → breaks (nat_to_text n.nat_to ++ (rdr_to_text n.rdr_to ++ more)) ≡ true
+translation_break n more b = nat_to_break n.nat_to _ (rdr_to_break n.rdr_to more b)
+
 clauses_read : (tables : List TableDef) (r : Rule) (line : ℕ) (more : List ℕ) → All IsTable tables → IsRule (length tables) r
     → Until key.LineEnd (ClauseOf (verb_said r.action)) no_clauses
-    (at line (flags_text r.filter.flags ++ (tag_text r.tag ++ (tagged_text r.came.tagged ++ (received_on_text r.came.received_on ++ (state_text tables r.action ++ 10 ∷ more))))))
-    (clauses_said tables r.filter.flags (extras_said r.tag r.came) r.action) (tokens 0 false (suc line) more)
+    (at line (flags_text r.filter.flags ++ (tag_text r.tag ++ (tagged_text r.came.tagged ++ (received_on_text r.came.received_on ++ (nat_to_text r.translation.nat_to ++ (rdr_to_text r.translation.rdr_to ++ (state_text tables r.action ++ 10 ∷ more))))))))
+    (clauses_said tables r.filter.flags (extras_said r.tag r.came) r.translation r.action) (tokens 0 false (suc line) more)
 clauses_read tables r line more t h =
     let f = r.filter.flags in
-    let behind = state_text tables r.action ++ 10 ∷ more in
+    let n = r.translation in
+    let end = state_text tables r.action ++ 10 ∷ more in
+    let behind = nat_to_text n.nat_to ++ (rdr_to_text n.rdr_to ++ end) in
     let b = state_break tables r.action more in
-    goes (flags refl (flags_read f line _ h.filter.flags (extras_break r.tag r.came behind b)))
-    (extras_go (verb_said r.action) f r.tag r.came line behind h.tag h.came b (state_reads tables f (extras_said r.tag r.came) r.action line more t h.action))
+    let k = translation_break n end b in
+    goes (flags refl (flags_read f line _ h.filter.flags (extras_break r.tag r.came behind k)))
+    (extras_go (verb_said r.action) f r.tag r.came line behind h.tag h.came k
+    (translation_goes r.action f (extras_said r.tag r.came) n line end h.translating.translation h.translating.may b (state_reads tables f (extras_said r.tag r.came) n r.action line more t h.action)))
 
 -- a text of many parts, and what follows it
-rule_parts : (verb dir quick on family proto hosts test gives asks came clause end more : List ℕ)
-    → (verb ++ ((dir ++ (quick ++ (on ++ (family ++ (proto ++ (hosts ++ test)))))) ++ ((gives ++ (asks ++ came)) ++ (clause ++ end)))) ++ more
-    ≡ verb ++ (dir ++ (quick ++ (on ++ (family ++ (proto ++ (hosts ++ (test ++ (gives ++ (asks ++ (came ++ (clause ++ (end ++ more))))))))))))
-rule_parts verb dir quick on family proto hosts test gives asks came clause end more = simp append_assoc
+rule_parts : (verb dir quick on family proto hosts test gives asks came nat rdr clause end more : List ℕ)
+    → (verb ++ ((dir ++ (quick ++ (on ++ (family ++ (proto ++ (hosts ++ test)))))) ++ ((gives ++ (asks ++ came)) ++ ((nat ++ rdr) ++ (clause ++ end))))) ++ more
+    ≡ verb ++ (dir ++ (quick ++ (on ++ (family ++ (proto ++ (hosts ++ (test ++ (gives ++ (asks ++ (came ++ (nat ++ (rdr ++ (clause ++ (end ++ more))))))))))))))
+rule_parts verb dir quick on family proto hosts test gives asks came nat rdr clause end more = simp append_assoc
 
 -- the line of a rule
 pub rule_reads : (tables : List TableDef) (r : Rule) (line : ℕ) (more : List ℕ) → All IsTable tables → IsRule (length tables) r
     → RuleOf (tokens 0 false line (rule_text tables r ++ more)) (rule_phrase tables r) (tokens 0 false (suc line) more)
 rule_reads tables r line more t h =
     let f = r.filter in
-    let behind = flags_text f.flags ++ (tag_text r.tag ++ (tagged_text r.came.tagged ++ (received_on_text r.came.received_on ++ (state_text tables r.action ++ 10 ∷ more)))) in
+    let behind = flags_text f.flags ++ (tag_text r.tag ++ (tagged_text r.came.tagged ++ (received_on_text r.came.received_on ++ (nat_to_text r.translation.nat_to ++ (rdr_to_text r.translation.rdr_to ++ (state_text tables r.action ++ 10 ∷ more)))))) in
     let parameters = dir_text f.dir ++ (quick_text r.quick ++ (on_text f.on ++ (family_text f.family ++ (proto_text f.proto ++ (hosts_text tables f.from f.to ++ behind))))) in
     let P : List ℕ → Type 0 = λ z. RuleOf (tokens 0 false line z) (rule_phrase tables r) (tokens 0 false (suc line) more) in
     subst P (sym (rule_parts (verb_text r.action) (dir_text f.dir) (quick_text r.quick) (on_text f.on) (family_text f.family) (proto_text f.proto)
-    (hosts_text tables f.from f.to) (flags_text f.flags) (tag_text r.tag) (tagged_text r.came.tagged) (received_on_text r.came.received_on) (state_text tables r.action) (codes "\n") more)) (record {
+    (hosts_text tables f.from f.to) (flags_text f.flags) (tag_text r.tag) (tagged_text r.came.tagged) (received_on_text r.came.received_on) (nat_to_text r.translation.nat_to) (rdr_to_text r.translation.rdr_to) (state_text tables r.action) (codes "\n") more)) (record {
       a = at line parameters;
       b = at line behind;
       verb = verb_reads r.action line parameters (head_break tables r.quick f behind);

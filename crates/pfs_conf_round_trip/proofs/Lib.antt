@@ -15,4 +15,5 @@ mod StatementsSaid
 mod RulesAgain
 mod ItemPhrases
 mod Statements
+mod TranslationPhrases
 mod WholeText

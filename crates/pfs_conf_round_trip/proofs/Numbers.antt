@@ -47,7 +47,7 @@ range_all p h = go (p.low == p.high)
 pub ports_word : (p : Ports) → ArePorts p → is_word_text (decimal p.low ++ range_text p) ≡ true
 ports_word p h = text_append (decimal p.low) (range_text p) (decimal_text p.low (omega (arith, h.0, h.1))) (range_all p (omega (arith, h.1)))
 
-port_again : (n : ℕ) → n < 65536 → port_of (decimal n) ≡ Some n
+pub port_again : (n : ℕ) → n < 65536 → port_of (decimal n) ≡ Some n
 unfolding port_of
 port_again n h =
     ap (port_by (decimal n)) (key_of_number n (omega arith))

@@ -16,11 +16,11 @@ use Rattle.pfs_conf_tokens.specs.Words.{key_of_text, statement_words, option_wor
 use Rattle.pfs_conf_tokens.proofs.ShownLaws.{decimal_text, is_word_text, key_of_decimal}
 use Rattle.pfs_addr_values.specs.Addresses.{IsAddr, addr_text, width_of}
 use Rattle.pfs_addr_values.specs.Prefixes.{IsNetwork, Network}
-use Rattle.pfs_addr.specs.Texts.{prefix_of}
+use Rattle.pfs_addr.specs.Texts.{addr_of, prefix_of}
 use Rattle.pfs_addr_values.specs.declared.addresses.Addr.{Addr}
 use Rattle.pfs_addr_values.specs.declared.addresses.Addr.TheVariants.{V4, V6}
 use Rattle.pfs_addr.proofs.GroupLaws.{colon_hex_colon}
-use Rattle.pfs_addr.proofs.PieceLaws.{addr_text_of, prefix_of_text}
+use Rattle.pfs_addr.proofs.PieceLaws.{addr_of_text, addr_text_of, prefix_of_text}
 use Rattle.pfs_conf_filters.specs.Values.{is_plain_word}
 use Rattle.pfs_conf_show.specs.Pieces.{bits_text, prefix_text}
 use Rattle.pfs_conf_round_trip.proofs.Names.{key_passes, passes}
@@ -126,6 +126,16 @@ addr_word (V6 bytes) h =
       text = some_text w colon (hex_word w (All-hex_groups_text (segments_of bytes) (groups_small bytes h.1)));
       plain = λ behind. colon_plain (w ++ behind) (colon_in_front w behind colon);
     }
+
+-- it is read as that address
+pub address_word : (a : Addr) → IsAddr a → is_word_text (addr_text a) ≡ true
+address_word a h = (addr_word a h).text
+
+pub address_plain : (a : Addr) → IsAddr a → is_plain_word (key_of_text (addr_text a)) ≡ true
+address_plain a h = ap (λ (w : List ℕ). is_plain_word (key_of_text w)) (sym (append-nil (addr_text a))) ∙ (addr_word a h).plain []
+
+pub address_again : (a : Addr) → IsAddr a → addr_of (addr_text a) ≡ Some a
+address_again a h = addr_of_text (addr_text a) a h (addr_text_of a h)
 
 -- ---- the texts of prefixes
 

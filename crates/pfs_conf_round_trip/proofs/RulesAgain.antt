@@ -8,12 +8,14 @@ use Rattle.pfs_conf_tokens.specs.declared.refusals.LoadRule.TheVariants as load_
 use Rattle.pfs_conf_settings.specs.Drafts.{Drafted, number_of_table, with_name}
 use Rattle.pfs_conf_values.specs.LoadRules.{AreOptions, IsAction, IsAnchor, IsFilter, IsHost, IsRule, IsSide, IsTableNo, limits_connections, limits_sources}
 use Rattle.pfs_conf_values.specs.Bounds.{asks_ports, is_global}
+use Rattle.pfs_conf_values.specs.Translations.{family_of_host, given_family, mixes_families}
 use Rattle.pfs_conf_values.specs.declared.actions.Action.{Action}
 use Rattle.pfs_conf_values.specs.declared.actions.Action.TheVariants as action
 use Rattle.pfs_conf_values.specs.declared.actions.Overload.{Overload}
 use Rattle.pfs_conf_values.specs.declared.actions.Scope.{Scope}
 use Rattle.pfs_conf_values.specs.declared.actions.Scope.TheVariants as scope
 use Rattle.pfs_conf_values.specs.declared.actions.StateOptions.{StateOptions}
+use Rattle.pfs_conf_values.specs.declared.filters.Family.{Family}
 use Rattle.pfs_conf_values.specs.declared.filters.Filter.{Filter}
 use Rattle.pfs_conf_values.specs.declared.filters.Host.{Host}
 use Rattle.pfs_conf_values.specs.declared.filters.Host.TheVariants as host
@@ -31,7 +33,7 @@ use Rattle.pfs_conf_values.specs.declared.tables.TableDef.{TableDef}
 use Rattle.pfs_conf_filters.specs.Reading.{all_hosts, given_hosts, side}
 use Rattle.pfs_conf_filters.specs.Sides.{side_not_given, destination_of, lacks_proto, names_port, source_of}
 use Rattle.pfs_conf_options.specs.Options.{has_broken_rule_pair, has_global_connections, has_global_retention, has_overload_alone, overload_to, resolved_options, scope_by_track, scope_of_options, states_global}
-use Rattle.pfs_conf.specs.Statements.{action_of, anchor_breaks, anchor_said, filter_said, first_broken, keeps_on_block, name_host, name_hosts, name_rule, number_host, number_overload, number_side, name_overload, rule_action, rule_breaks, rule_said, state_options}
+use Rattle.pfs_conf.specs.Statements.{action_of, anchor_breaks, anchor_said, filter_said, first_broken, keeps_on_block, name_host, name_hosts, name_rule, number_host, number_overload, number_side, name_overload, rule_action, rule_breaks, rule_said, state_options, translates_family, with_family}
 use Rattle.pfs_conf_show.specs.Filters.{has_no_ports, is_any_host, is_every_side}
 use Rattle.pfs_conf_round_trip.proofs.Said.{host_said, hosts_said, options_said, overload_said, parameters_said, side_said, state_said, table_said, track_said}
 use Rattle.pfs_conf_round_trip.proofs.StatementsSaid.{anchor_phrase, rule_phrase, verb_said}
@@ -190,10 +192,11 @@ rule_again profile syncookies routes limits timeouts tables items r distinct h =
     ap (λ (e : Drafted). action_of (verb_said r.action) (state_said tables r.action) (number_overload (state_options (state_said tables r.action)).overload e)) (hosts_name tables d k r.filter h.filter)
     ∙ action_again tables d k r.action h.action in
     let f = filter_again tables d k r.quick r.filter h.filter in
-    ap (λ (x : Filter). ruled x (rule_action (rule_phrase tables r) d)) f ∙ ap (ruled r.filter) a
+    ap (λ (x : Filter). ruled (with_family (given_family r.filter.family r.translation) x) (rule_action (rule_phrase tables r) d)) f
+    ∙ (ap (λ (x : Option Family). ruled (with_family x r.filter) (rule_action (rule_phrase tables r) d)) h.translating.given ∙ ap (ruled r.filter) a)
   where
     ruled : Filter → Action → Rule
-    ruled f a = record { quick = r.quick; filter = f; came = r.came; tag = r.tag; action = a }
+    ruled f a = record { quick = r.quick; filter = f; came = r.came; tag = r.tag; translation = r.translation; action = a }
 
 -- and names no other table
 pub rule_name : (profile : Profile) (syncookies : Syncookies) (routes : List Route) (limits : Limits) (timeouts : List (Option ℕ)) (tables : List TableDef) (items : List Item) (r : Rule) → AreNumbered tables
@@ -250,16 +253,32 @@ are_kept tables (action.Keep o) h = record {
 few : (n : ℕ) → n < 10000 → nat_le 10000 n ≡ false
 few n h = lt-leb 10000 n h
 
-none_of_rules : (a b c d e f g : Bool) → a ≡ false → b ≡ false → c ≡ false → d ≡ false → e ≡ false → f ≡ false → g ≡ false
+none_of_rules : (a b c d e f w x g : Bool) → a ≡ false → b ≡ false → c ≡ false → d ≡ false → e ≡ false → f ≡ false → w ≡ false → x ≡ false → g ≡ false
     → first_broken ((load_rule.PortWithoutProto, a) ∷ (load_rule.StateOnBlock, b) ∷ (load_rule.OverloadAlone, c) ∷ (load_rule.GlobalConn, d)
-    ∷ (load_rule.GlobalRetention, e) ∷ (load_rule.AdaptivePair, f) ∷ (load_rule.TooManyRules, g) ∷ []) ≡ None
-none_of_rules a b c d e f g h i j k l m n = rw (h, i, j, k, l, m, n) refl
+    ∷ (load_rule.GlobalRetention, e) ∷ (load_rule.AdaptivePair, f) ∷ (load_rule.TranslationWithoutWay, w)
+    ∷ (load_rule.TranslationFamily, x) ∷ (load_rule.TooManyRules, g) ∷ []) ≡ None
+none_of_rules a b c d e f w x g h i j k l m n o p = rw (h, i, j, k, l, m, n, o, p) refl
+
+-- what a rule translates is of the family of its hosts
+host_family : (tables : List TableDef) (h : Host TableNo) → family_of_host (host_said tables h) ≡ family_of_host h
+host_family tables host.Any = refl
+host_family tables (host.Prefix p b) = refl
+host_family tables (host.Table t b) = refl
+
+families_kept : (tables : List TableDef) (r : Rule) → IsRule (length tables) r → translates_family (rule_phrase tables r) ≡ false
+families_kept tables r h =
+    let from = r.filter.from in
+    let to = r.filter.to in
+    ap (λ (s : Side (List ℕ)). mixes_families r.filter.family (family_of_host s.host) (family_of_host (destination_of (hosts_said tables from to)).host) r.translation) (source_again tables from to)
+    ∙ (ap (λ (s : Side (List ℕ)). mixes_families r.filter.family (family_of_host (host_said tables from.host)) (family_of_host s.host) r.translation) (destination_again tables from to)
+    ∙ (ap (λ (f : Option Family). mixes_families r.filter.family f (family_of_host (host_said tables to.host)) r.translation) (host_family tables from.host)
+    ∙ (ap (λ (f : Option Family). mixes_families r.filter.family (family_of_host from.host) f r.translation) (host_family tables to.host) ∙ h.translating.families)))
 
 -- a rule of a configuration breaks no load rule
 pub rule_kept : (tables : List TableDef) (r : Rule) (d : Drafted) → IsRule (length tables) r → length d.items < 10000 → rule_breaks d (rule_phrase tables r) ≡ None
 rule_kept tables r d h lt =
     let k = are_kept tables r.action h.action in
-    none_of_rules _ _ _ _ _ _ _ (proto_kept tables r.quick r.filter h.filter) k.state k.overload k.connections k.retention k.pair (few (length d.items) lt)
+    none_of_rules _ _ _ _ _ _ _ _ _ (proto_kept tables r.quick r.filter h.filter) k.state k.overload k.connections k.retention k.pair h.translating.way (families_kept tables r h) (few (length d.items) lt)
 
 none_of_anchors : (a b c : Bool) → a ≡ false → b ≡ false → c ≡ false
     → first_broken ((load_rule.PortWithoutProto, a) ∷ (load_rule.TooDeep, b) ∷ (load_rule.TooManyRules, c) ∷ []) ≡ None

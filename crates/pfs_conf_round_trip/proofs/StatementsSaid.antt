@@ -27,7 +27,7 @@ abbrev pub rule_phrase : List TableDef → Rule → RuleText
 rule_phrase tables r = record {
   verb = verb_said r.action;
   parameters = parameters_said tables r.quick r.filter;
-  clauses = record { flags = Some r.filter.flags; extras = extras_said r.tag r.came; state = state_said tables r.action };
+  clauses = record { flags = Some r.filter.flags; extras = extras_said r.tag r.came; translation = r.translation; state = state_said tables r.action };
 }
 
 -- the head of an anchor, as it is written

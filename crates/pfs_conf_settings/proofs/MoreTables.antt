@@ -64,7 +64,7 @@ module _ (m n : ℕ) (more : m ≤ n) where
   action-more (action.Keep o) k = options-more o k
 
   pub what-more : (depth : ℕ) (w : ItemKind) → IsItemAt m depth w → IsItemAt n depth w
-  what-more depth (what.Rule r) k = (k.0, record { filter = filter-more r.filter k.1.filter; came = k.1.came; tag = k.1.tag; action = action-more r.action k.1.action; quick = k.1.quick })
+  what-more depth (what.Rule r) k = (k.0, record { filter = filter-more r.filter k.1.filter; came = k.1.came; tag = k.1.tag; translating = k.1.translating; action = action-more r.action k.1.action; quick = k.1.quick })
   what-more depth (what.Anchor a) k = (k.0, record { filter = filter-more a.filter k.1.filter; name = k.1.name })
 
   pub items-more : (items : List Item) → All (IsItem m) items → All (IsItem n) items

@@ -413,7 +413,7 @@ fn has_synproxy(item: &Item) -> bool
     }
 }
 
-/// Whether an item is a `match` rule, or one that gives or asks for a tag, or asks for the interface by which a packet came.
+/// Whether an item is a `match` rule, or one that gives or asks for a tag, asks for the interface by which a packet came, or translates.
 fn marks(item: &Item) -> bool
     ensures { result ≡ marks_in (rule_in item.now.what) }
 {
@@ -424,6 +424,7 @@ fn marks(item: &Item) -> bool
         || rule.tag.is_some()
         || rule.came.tagged.is_some()
         || rule.came.received_on.is_some()
+        || rule.translation.translates()
 }
 
 fn is_broken_pair(start: Option<u32>, end: Option<u32>) -> bool

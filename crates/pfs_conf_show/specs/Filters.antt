@@ -1,5 +1,6 @@
 -- The parameters of rules and anchors. (pf.conf(5), PARAMETERS; their order and form are own)
 use Rattle.std.specs.Prelude.{ℕ, Bool, true, false, if◌then◌else◌, ◌==◌, ◌&&◌, List, [], ◌++◌, Option, Some, None, codes, decimal}
+use Rattle.pfs_addr_values.specs.Addresses.{addr_text}
 use Rattle.pfs_addr_values.specs.FlagSets.{letters_text}
 use Rattle.pfs_addr_values.specs.declared.packets.Dir.{Dir}
 use Rattle.pfs_addr_values.specs.declared.packets.Dir.TheVariants as dir
@@ -19,6 +20,11 @@ use Rattle.pfs_conf_values.specs.declared.filters.Side.{Side}
 use Rattle.pfs_conf_values.specs.declared.filters.TableNo.{TableNo}
 use Rattle.pfs_conf_values.specs.declared.filters.Tagged.{Tagged}
 use Rattle.pfs_conf_values.specs.declared.tables.TableDef.{TableDef}
+use Rattle.pfs_conf_values.specs.declared.translations.NatPorts.{NatPorts}
+use Rattle.pfs_conf_values.specs.declared.translations.NatPorts.TheVariants as nat_ports
+use Rattle.pfs_conf_values.specs.declared.translations.NatTo.{NatTo}
+use Rattle.pfs_conf_values.specs.declared.translations.RdrTo.{RdrTo}
+use Rattle.pfs_conf_values.specs.declared.translations.Translation.{Translation}
 use Rattle.pfs_conf_show.specs.Pieces.{not_text, prefix_text}
 use Rattle.pfs_conf_show.specs.Tables.{table_ref}
 
@@ -122,3 +128,27 @@ received_on_text (Some i) = asked_text i.negated (codes "received-on ") i.name
 -- all of it, in this order
 abbrev pub extras_text : Option (List ℕ) → Came → List ℕ
 extras_text tag came = tag_text tag ++ (tagged_text came.tagged ++ received_on_text came.received_on)
+
+-- ---- translation (pf.conf(5), TRANSLATION)
+
+-- `port P` or `port P:Q`, `static-port`, or nothing
+abbrev pub nat_ports_text : NatPorts → List ℕ
+nat_ports_text nat_ports.Usual = []
+nat_ports_text (nat_ports.Given p) = ports_text (Some p)
+nat_ports_text nat_ports.Static = codes " static-port"
+
+abbrev pub nat_to_text : Option NatTo → List ℕ
+nat_to_text None = []
+nat_to_text (Some n) = codes " nat-to " ++ (addr_text n.addr ++ nat_ports_text n.ports)
+
+abbrev pub port_text : Option ℕ → List ℕ
+port_text None = []
+port_text (Some p) = codes " port " ++ decimal p
+
+abbrev pub rdr_to_text : Option RdrTo → List ℕ
+rdr_to_text None = []
+rdr_to_text (Some r) = codes " rdr-to " ++ (addr_text r.addr ++ port_text r.port)
+
+-- both, in this order
+abbrev pub translation_text : Translation → List ℕ
+translation_text t = nat_to_text t.nat_to ++ rdr_to_text t.rdr_to

@@ -12,7 +12,7 @@ use Rattle.pfs_conf_values.specs.declared.items.Rule.{Rule}
 use Rattle.pfs_conf_values.specs.declared.items.ItemKind.{ItemKind}
 use Rattle.pfs_conf_values.specs.declared.items.ItemKind.TheVariants as what
 use Rattle.pfs_conf_values.specs.declared.tables.TableDef.{TableDef}
-use Rattle.pfs_conf_show.specs.Filters.{extras_text, parameters_text}
+use Rattle.pfs_conf_show.specs.Filters.{extras_text, parameters_text, translation_text}
 use Rattle.pfs_conf_show.specs.Options.{state_text}
 use Rattle.pfs_conf_show.specs.Settings.{limits_text, profile_text, routes_text, syncookies_text, timeouts_text}
 use Rattle.pfs_conf_show.specs.Tables.{table_text}
@@ -22,9 +22,11 @@ verb_text action.Match = codes "match"
 verb_text action.Block = codes "block"
 verb_text _ = codes "pass"
 
--- the line of a rule: what it does, its parameters, what it has behind them, and its state clause
+-- the line of a rule: what it does, its parameters, what it has behind them, what it translates, and its state clause
 abbrev pub rule_text : List TableDef → Rule → List ℕ
-rule_text tables r = verb_text r.action ++ (parameters_text tables r.quick r.filter ++ (extras_text r.tag r.came ++ (state_text tables r.action ++ codes "\n")))
+rule_text tables r =
+    verb_text r.action ++ (parameters_text tables r.quick r.filter ++ (extras_text r.tag r.came ++ (translation_text r.translation
+    ++ (state_text tables r.action ++ codes "\n"))))
 
 -- the name of an anchor, in quotes
 abbrev pub name_text : Option (List ℕ) → List ℕ

@@ -135,7 +135,7 @@ fn push_host(out: &mut Vec<u8>, config: &Config, host: Host<TableNo>) -> Result<
     }
 }
 
-fn push_ports(out: &mut Vec<u8>, ports: Option<Ports>) -> Result<(), NoMemory>
+pub fn push_ports(out: &mut Vec<u8>, ports: Option<Ports>) -> Result<(), NoMemory>
     ensures { OnOk result (out.new.items ≡ out.old.items ++ ports_text ports) }
 {
     if let Some(ports) = ports {

@@ -9,6 +9,7 @@ use crate::filters::push_parameters;
 use crate::options::push_state;
 use crate::settings::{push_limits, push_profile, push_routes, push_syncookies, push_timeouts};
 use crate::tables::push_tables;
+use crate::translations::push_translation;
 use pfs_addr_values::NoMemory;
 use pfs_conf_values::{Action, Anchor, AnchorName, Config, Item, ItemKind, Rule};
 use std::alloc::Global;
@@ -87,6 +88,7 @@ fn push_rule(out: &mut Vec<u8>, config: &Config, rule: &Rule) -> Result<(), NoMe
     push_verb(out, &rule.action)?;
     push_parameters(out, config, rule.quick, &rule.filter)?;
     push_extras(out, rule.tag, rule.came)?;
+    push_translation(out, rule.translation)?;
     push_state(out, config, &rule.action)?;
     out.extend_from_slice(b"\n")?;
     Ok(())

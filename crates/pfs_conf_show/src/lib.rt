@@ -8,5 +8,6 @@ mod options;
 mod pieces;
 mod settings;
 mod tables;
+mod translations;
 
 pub use items::show;

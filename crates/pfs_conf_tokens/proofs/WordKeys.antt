@@ -91,6 +91,18 @@ pub key_of_ReceivedOn : key_of_text (codes "received-on") ≡ key.ReceivedOn
 unfolding key_of_text
 key_of_ReceivedOn = refl
 
+pub key_of_NatTo : key_of_text (codes "nat-to") ≡ key.NatTo
+unfolding key_of_text
+key_of_NatTo = refl
+
+pub key_of_StaticPort : key_of_text (codes "static-port") ≡ key.StaticPort
+unfolding key_of_text
+key_of_StaticPort = refl
+
+pub key_of_RdrTo : key_of_text (codes "rdr-to") ≡ key.RdrTo
+unfolding key_of_text
+key_of_RdrTo = refl
+
 pub key_of_Table : key_of_text (codes "table") ≡ key.Table
 unfolding key_of_text
 key_of_Table = refl

@@ -31,6 +31,8 @@ is_unsupported_key key.Match = true
 is_unsupported_key key.Tag = true
 is_unsupported_key key.Tagged = true
 is_unsupported_key key.ReceivedOn = true
+is_unsupported_key key.NatTo = true
+is_unsupported_key key.RdrTo = true
 is_unsupported_key _ = false
 
 -- the place of a timeout's name among the sixteen that are kept

@@ -23,7 +23,8 @@ statement_words =
     ∷ (codes "syncookies", key.Syncookies) ∷ (codes "never", key.Never) ∷ (codes "always", key.Always)
     ∷ (codes "adaptive", key.Adaptive) ∷ (codes "start", key.Start) ∷ (codes "end", key.EndWord)
     ∷ (codes "route", key.Route) ∷ (codes "match", key.Match) ∷ (codes "tag", key.Tag) ∷ (codes "tagged", key.Tagged)
-    ∷ (codes "received-on", key.ReceivedOn) ∷ []
+    ∷ (codes "received-on", key.ReceivedOn) ∷ (codes "nat-to", key.NatTo) ∷ (codes "static-port", key.StaticPort)
+    ∷ (codes "rdr-to", key.RdrTo) ∷ []
 
 -- words of the state clause, and the names of timeouts
 abbrev pub option_words : List (List ℕ × Key)
@@ -60,8 +61,7 @@ foreign_words =
     ∷ (codes "icmp6-type", key.Foreign) ∷ (codes "tos", key.Foreign) ∷ (codes "prio", key.Foreign)
     ∷ (codes "label", key.Foreign) ∷ (codes "allow-opts", key.Foreign) ∷ (codes "once", key.Foreign)
     ∷ (codes "probability", key.Foreign) ∷ (codes "rtable", key.Foreign) ∷ (codes "divert-to", key.Foreign)
-    ∷ (codes "divert-reply", key.Foreign) ∷ (codes "divert-packet", key.Foreign) ∷ (codes "nat-to", key.Foreign)
-    ∷ (codes "rdr-to", key.Foreign) ∷ (codes "binat-to", key.Foreign) ∷ (codes "af-to", key.Foreign)
+    ∷ (codes "divert-reply", key.Foreign) ∷ (codes "divert-packet", key.Foreign) ∷ (codes "binat-to", key.Foreign) ∷ (codes "af-to", key.Foreign)
     ∷ (codes "route-to", key.Foreign) ∷ (codes "reply-to", key.Foreign) ∷ (codes "dup-to", key.Foreign)
     ∷ (codes "scrub", key.Foreign) ∷ (codes "fragment", key.Foreign) ∷ (codes "fragments", key.Foreign)
     ∷ (codes "os", key.Foreign) ∷ (codes "modulate", key.Foreign) ∷ (codes "file", key.Foreign)

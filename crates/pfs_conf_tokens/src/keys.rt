@@ -104,6 +104,12 @@ pub enum Key {
     Tagged,
     /// `received-on`
     ReceivedOn,
+    /// `nat-to`
+    NatTo,
+    /// `static-port`
+    StaticPort,
+    /// `rdr-to`
+    RdrTo,
     /// `no`
     No,
     /// `state`
@@ -206,7 +212,7 @@ pub enum Key {
     Http,
     /// `https`
     Https,
-    /// A word of pf's own language that no statement of this profile has, as `queue` or `nat-to`.
+    /// A word of pf's own language that no statement of this profile has, as `queue` or `binat-to`.
     Foreign,
     /// A word that begins with a digit.
     Number,
@@ -285,6 +291,8 @@ impl Key {
                 | Key::Tag
                 | Key::Tagged
                 | Key::ReceivedOn
+                | Key::NatTo
+                | Key::RdrTo
         )
     }
 

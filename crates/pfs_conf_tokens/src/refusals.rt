@@ -44,6 +44,10 @@ pub enum LoadRule {
     GlobalRetention,
     /// One adaptive value without the other, or a start that is not below its end.
     AdaptivePair,
+    /// `nat-to` or `rdr-to` in a rule without `in` and without `out`.
+    TranslationWithoutWay,
+    /// An address of `nat-to` or `rdr-to` of another family than the rule, its hosts, or its other translation.
+    TranslationFamily,
     /// Shares of `set syncookies adaptive` of which the end is not below the start.
     CookiePair,
     /// An anchor inside 16 others.
@@ -54,7 +58,8 @@ pub enum LoadRule {
     ConstOverload,
     /// More tables than `set limit tables`.
     TooManyTables,
-    /// What needs the profile of OpenBSD 7.4, as `synproxy state`, `set syncookies` and `set route`, in a text without it.
+    /// What needs the profile of OpenBSD 7.4, as `synproxy state`, `match`, `nat-to`, `set syncookies` and `set route`, in a text without
+    /// it.
     NeedsProfile,
     /// More entries in all tables than `set limit table-entries`.
     TooManyEntries,

@@ -146,12 +146,12 @@ static SIX: [(&[u8], Key); 13] = [
     (b"anchor", Key::Anchor),
     (b"always", Key::Always),
     (b"tagged", Key::Tagged),
+    (b"nat-to", Key::NatTo),
+    (b"rdr-to", Key::RdrTo),
     (b"global", Key::Global),
     (b"sloppy", Key::Sloppy),
     (b"domain", Key::Domain),
     (b"rtable", Key::Foreign),
-    (b"nat-to", Key::Foreign),
-    (b"rdr-to", Key::Foreign),
     (b"dup-to", Key::Foreign),
 ];
 
@@ -203,10 +203,11 @@ static TEN: [(&[u8], Key); 9] = [
     (b"allow-opts", Key::Foreign),
 ];
 
-static ELEVEN: [(&[u8], Key); 8] = [
+static ELEVEN: [(&[u8], Key); 9] = [
     (b"return-icmp", Key::ReturnIcmp),
     (b"openbsd-7.4", Key::OpenBsd74),
     (b"received-on", Key::ReceivedOn),
+    (b"static-port", Key::StaticPort),
     (b"tcp.opening", Key::TcpOpening),
     (b"tcp.closing", Key::TcpClosing),
     (b"tcp.finwait", Key::TcpFinwait),

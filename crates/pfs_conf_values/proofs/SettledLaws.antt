@@ -10,9 +10,10 @@ use Rattle.std.proofs.lemmas.List.Sums.{take_while-cons}
 use Rattle.pfs_conf_values.specs.Bounds.{broken_rule_pair, is_global}
 use Rattle.pfs_conf_values.specs.Configs.{adds_to_const, has_synproxy, is_match, marks_in, needs_profile, options_in, overloads_const, proxies, rule_in}
 use Rattle.pfs_conf_values.specs.Depths.{is_rule}
-use Rattle.pfs_conf_values.specs.LoadRules.{AreOptions, IsAction, IsCount, IsItem, IsItemAt, IsQuick, IsTimeout}
+use Rattle.pfs_conf_values.specs.LoadRules.{AreOptions, IsAction, IsCount, IsItem, IsItemAt, IsQuick, IsTimeout, MayTranslate}
 use Rattle.pfs_conf_values.specs.Order.{AreNamedOnce, IsPreorder, next_depth, repeats_by, repeats_name}
 use Rattle.pfs_conf_values.specs.Settled.{gives_adaptive, paired, settled_action, settled_item, settled_items, settled_kind, settled_options, with_pair_of_max}
+use Rattle.pfs_conf_values.specs.Translations.{translates_by}
 use Rattle.pfs_conf_values.specs.Siblings.{has_sibling, is_anchor_named, is_this_name, name_of_item}
 use Rattle.pfs_conf_values.specs.declared.actions.Action.{Action}
 use Rattle.pfs_conf_values.specs.declared.actions.Action.TheVariants as action
@@ -24,6 +25,7 @@ use Rattle.pfs_conf_values.specs.declared.items.ItemKind.TheVariants as what
 use Rattle.pfs_conf_values.specs.declared.profiles.Profile.{Profile}
 use Rattle.pfs_conf_values.specs.declared.profiles.Profile.TheVariants as profile
 use Rattle.pfs_conf_values.specs.declared.tables.TableDef.{TableDef}
+use Rattle.pfs_conf_values.specs.declared.translations.Translation.{Translation}
 
 -- ---- the pair of `max`
 
@@ -170,6 +172,12 @@ settled_IsQuick p action.Block quick h = tt
 settled_IsQuick p action.Pass quick h = tt
 settled_IsQuick p (action.Keep o) quick h = tt
 
+settled_MayTranslate : (p : Profile) (a : Action) (t : Translation) → MayTranslate a t → MayTranslate (settled_action p a) t
+settled_MayTranslate p action.Match t h = tt
+settled_MayTranslate p action.Block t h = h
+settled_MayTranslate p action.Pass t h = tt
+settled_MayTranslate p (action.Keep o) t h = tt
+
 settled_IsItem : (p : Profile) (tables : ℕ) (i : Item) → IsItem tables i → IsItem tables (settled_item p i)
 settled_IsItem p tables i h = by i.what h
   where
@@ -180,6 +188,13 @@ settled_IsItem p tables i h = by i.what h
         filter = k.1.filter;
         came = k.1.came;
         tag = k.1.tag;
+        translating = record {
+          translation = k.1.translating.translation;
+          may = settled_MayTranslate p r.action r.translation k.1.translating.may;
+          way = k.1.translating.way;
+          given = k.1.translating.given;
+          families = k.1.translating.families;
+        };
         action = settled_IsAction p tables r.action k.1.action;
         quick = settled_IsQuick p r.action r.quick k.1.quick;
       },
@@ -332,7 +347,7 @@ marks_settled : (p : Profile) (i : Item) → marks_in (rule_in (settled_item p i
 marks_settled p i = by i.what
   where
     by : (w : ItemKind) → marks_in (rule_in (settled_kind p w)) ≡ marks_in (rule_in w)
-    by (what.Rule r) = ap (λ (b : Bool). b || is_some r.tag || is_some r.came.tagged || is_some r.came.received_on) (match_settled p r.action)
+    by (what.Rule r) = ap (λ (b : Bool). b || is_some r.tag || is_some r.came.tagged || is_some r.came.received_on || translates_by r.translation) (match_settled p r.action)
     by (what.Anchor a) = refl
 
 profile_needed : (p q : Profile) (i : Item) → needs_profile q (settled_item p i) ≡ needs_profile q i

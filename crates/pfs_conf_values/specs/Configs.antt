@@ -1,12 +1,13 @@
 -- A configuration: what a rules text says, and what is read of it.
 use Rattle.std.specs.Prelude.{ℕ, ◌==◌, ◌&&◌, ◌||◌, not, nat_lt, max, Bool, true, false, if◌then◌else◌, Option, Some, None, is_some, unwrap_or, List, length, map, option_map, position, slice_get, slice_index, slice_index_or}
-use Rattle.std.specs.List.{sum_by}
+use Rattle.std.specs.List.{list_any, sum_by}
 use Rattle.std.specs.Option.{option_and_then}
 use Rattle.std.specs.Str.{bytes_eq}
 use Rattle.pfs_addr_values.specs.declared.packets.TagNo.{TagNo}
 use Rattle.pfs_conf_values.specs.Limits.{limit_value}
 use Rattle.pfs_conf_values.specs.Profiles.{effective, is_openbsd}
 use Rattle.pfs_conf_values.specs.Timeouts.{place_of, no_timeouts}
+use Rattle.pfs_conf_values.specs.Translations.{no_translation, translates_by}
 use Rattle.pfs_conf_values.specs.declared.actions.Action.{Action}
 use Rattle.pfs_conf_values.specs.declared.actions.Action.TheVariants as action
 use Rattle.pfs_conf_values.specs.declared.actions.Overload.{Overload}
@@ -83,7 +84,7 @@ any_way = record { tagged = None; received_on = None }
 
 -- what is given for a rule where none is
 abbrev pub no_rule : Rule
-no_rule = record { quick = false; filter = any_packet; came = any_way; tag = None; action = action.Block }
+no_rule = record { quick = false; filter = any_packet; came = any_way; tag = None; translation = no_translation; action = action.Block }
 
 -- the rule of a number
 abbrev pub rule_of : Conf → ℕ → Rule
@@ -199,6 +200,17 @@ gives_in name (Some r) = gives name r.tag
 abbrev pub tag_named : List Item → List ℕ → Option TagNo
 tag_named items name = option_map (λ n. record { 0 = n }) (position (λ (i : Item). gives_in name (rule_in i.what)) items)
 
+-- ---- translation (pf.conf(5), TRANSLATION)
+
+-- whether an item is a rule that translates
+abbrev pub translates_in : Option Rule → Bool
+translates_in None = false
+translates_in (Some r) = translates_by r.translation
+
+-- whether some rule does
+abbrev pub translates : Conf → Bool
+translates conf = list_any (λ (i : Item). translates_in (rule_in i.what)) conf.items
+
 -- ---- what its load rules ask of tables and of an adaptive pair
 
 -- the names of tables
@@ -244,9 +256,9 @@ abbrev pub is_match : Action → Bool
 is_match action.Match = true
 is_match _ = false
 
--- whether a rule is a `match` rule, or gives or asks for a tag, or asks for the interface by which a packet came
+-- whether a rule is a `match` rule, or gives or asks for a tag, or asks for the interface by which a packet came, or translates
 abbrev pub marks : Rule → Bool
-marks r = is_match r.action || is_some r.tag || is_some r.came.tagged || is_some r.came.received_on
+marks r = is_match r.action || is_some r.tag || is_some r.came.tagged || is_some r.came.received_on || translates_by r.translation
 
 abbrev pub marks_in : Option Rule → Bool
 marks_in None = false

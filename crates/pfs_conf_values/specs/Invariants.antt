@@ -4,7 +4,7 @@ use Rattle.std.specs.List.{IsDistinct, list_any}
 use Rattle.std.specs.Str.{bytes_eq}
 use Rattle.pfs_addr_values.specs.Names.{is_name}
 use Rattle.pfs_addr_values.specs.Prefixes.{IsNetwork}
-use Rattle.pfs_conf_values.specs.Configs.{Conf, entries_in, entry_count_of, is_adaptive, needs_profile, overloads_const, table_names, timeout_of}
+use Rattle.pfs_conf_values.specs.Configs.{Conf, entries_in, entry_count_of, is_adaptive, needs_profile, overloads_const, table_names, timeout_of, translates}
 use Rattle.pfs_conf_values.specs.Entries.{TextEntry, same_network}
 use Rattle.pfs_conf_values.specs.Hashing.{hasher_of}
 use Rattle.pfs_conf_values.specs.LoadRules.{IsCount, IsItem}
@@ -61,8 +61,9 @@ pub record IsConfig (conf : Conf) : Type 0 where
   pub profiled : list_any (needs_profile conf.profile) conf.items ≡ false
   pub settled : settled_items conf.profile conf.items ≡ conf.items
 
--- a configuration, beside which are the count of its entries, and its hasher
-pub record IsConfigKept (entries : ℕ) (hasher : RulesHasher) (conf : Conf) : Type 0 where
+-- a configuration, beside which are the count of its entries, whether it translates, and its hasher
+pub record IsConfigKept (entries : ℕ) (translating : Bool) (hasher : RulesHasher) (conf : Conf) : Type 0 where
   pub config : IsConfig conf
   pub count : entries ≡ entry_count_of conf
+  pub translates : translating ≡ translates conf
   pub begun : hasher.begun ≡ hasher_of conf

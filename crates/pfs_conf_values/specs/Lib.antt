@@ -13,3 +13,4 @@ pub mod Settled
 pub mod Siblings
 pub mod Syncookies
 pub mod Timeouts
+pub mod Translations

@@ -1,6 +1,7 @@
 -- The load rules of single items: values of limits and timeouts, filters, options, rules and anchors.
 use Rattle.std.specs.Prelude.{ℕ, List, ◌≡◌, ◌≢◌, ◌<◌, ◌≤◌, ◌&&◌, ◌||◌, not, Bool, true, false, None, is_some, is_none, IfSome, length, codes, slice_index_or}
 use Rattle.std.specs.Str.{bytes_eq}
+use Rattle.pfs_addr_values.specs.Addresses.{IsAddr}
 use Rattle.pfs_addr_values.specs.Names.{is_name}
 use Rattle.pfs_addr_values.specs.Prefixes.{IsNetwork}
 use Rattle.pfs_addr_values.specs.declared.flag_sets.Flags.{Flags}
@@ -8,6 +9,7 @@ use Rattle.pfs_addr_values.specs.declared.protocols.Proto.{Proto}
 use Rattle.pfs_addr_values.specs.declared.protocols.Proto.TheVariants as proto
 use Rattle.pfs_conf_values.specs.Bounds.{IsRate, asks_ports, broken_rule_pair, greatest_timeout, is_global, least_timeout}
 use Rattle.pfs_conf_values.specs.Timeouts.{place_of}
+use Rattle.pfs_conf_values.specs.Translations.{family_of_host, given_family, lacks_way, mixes_families, translates_by}
 use Rattle.pfs_conf_values.specs.declared.timeouts.TimeoutName.TheVariants as timeout
 use Rattle.pfs_conf_values.specs.declared.actions.Action.{Action}
 use Rattle.pfs_conf_values.specs.declared.actions.Action.TheVariants as action
@@ -27,6 +29,11 @@ use Rattle.pfs_conf_values.specs.declared.items.Item.{Item}
 use Rattle.pfs_conf_values.specs.declared.items.Rule.{Rule}
 use Rattle.pfs_conf_values.specs.declared.items.ItemKind.{ItemKind}
 use Rattle.pfs_conf_values.specs.declared.items.ItemKind.TheVariants as what
+use Rattle.pfs_conf_values.specs.declared.translations.NatPorts.{NatPorts}
+use Rattle.pfs_conf_values.specs.declared.translations.NatPorts.TheVariants as nat_ports
+use Rattle.pfs_conf_values.specs.declared.translations.NatTo.{NatTo}
+use Rattle.pfs_conf_values.specs.declared.translations.RdrTo.{RdrTo}
+use Rattle.pfs_conf_values.specs.declared.translations.Translation.{Translation}
 
 -- ---- numbers
 
@@ -161,11 +168,45 @@ abbrev pub IsQuick : Action → Bool → Type 0
 IsQuick action.Match quick = quick ≡ false
 IsQuick _ quick = Unit {0}
 
+-- ports that `nat-to` gives
+abbrev pub AreNatPorts : NatPorts → Type 0
+AreNatPorts nat_ports.Usual = Unit {0}
+AreNatPorts (nat_ports.Given ports) = ArePorts ports
+AreNatPorts nat_ports.Static = Unit {0}
+
+-- what is put in place of a source, and of a destination
+pub record IsNatTo (n : NatTo) : Type 0 where
+  pub addr : IsAddr n.addr
+  pub ports : AreNatPorts n.ports
+
+pub record IsRdrTo (r : RdrTo) : Type 0 where
+  pub addr : IsAddr r.addr
+  pub port : IfSome r.port (λ p. p < 65536)
+
+-- a translation
+pub record IsTranslation (t : Translation) : Type 0 where
+  pub nat_to : IfSome t.nat_to IsNatTo
+  pub rdr_to : IfSome t.rdr_to IsRdrTo
+
+-- a `block` rule translates nothing
+abbrev pub MayTranslate : Action → Translation → Type 0
+MayTranslate action.Block t = translates_by t ≡ false
+MayTranslate _ t = Unit {0}
+
+-- what a rule translates: it has a way, and the family of its addresses, which is also that of its hosts
+pub record IsTranslating (r : Rule) : Type 0 where
+  pub translation : IsTranslation r.translation
+  pub may : MayTranslate r.action r.translation
+  pub way : lacks_way r.filter.dir r.translation ≡ false
+  pub given : given_family r.filter.family r.translation ≡ r.filter.family
+  pub families : mixes_families r.filter.family (family_of_host r.filter.from.host) (family_of_host r.filter.to.host) r.translation ≡ false
+
 -- a rule that keeps the load rules, where there are so many tables
 pub record IsRule (tables : ℕ) (r : Rule) : Type 0 where
   pub filter : IsFilter tables r.filter
   pub came : IsCame r.came
   pub tag : IfSome r.tag IsTag
+  pub translating : IsTranslating r
   pub action : IsAction tables r.action
   pub quick : IsQuick r.action r.quick
 

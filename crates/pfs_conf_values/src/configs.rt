@@ -1,8 +1,9 @@
 //! What a rules text says, and how it is read.
 
 ghost use Rattle.std.specs.Prelude.{◌≡◌, ◌<◌, ◌≤◌, ◌-◌, ◌^◌, IfOk, IfSome, IsSome, length, min, position, slice_get};
+ghost use Rattle.std.specs.List.{list_any};
 ghost use Rattle.std.specs.Option.{option_copied};
-ghost use Rattle.pfs_conf_values.specs.Configs.{conf_of, entries_in, entry_count_of, has_name, is_const_table, is_synproxy, limit_of, options_at, rate_seconds, retention_in, retention_of, rule_at, rule_in, rule_retention, rule_timeout_of, scope_of, src_track_or, table_named, tag_named, gives_in, timeout_of, tracks_fully};
+ghost use Rattle.pfs_conf_values.specs.Configs.{conf_of, entries_in, entry_count_of, has_name, is_const_table, is_synproxy, limit_of, options_at, rate_seconds, retention_in, retention_of, rule_at, rule_in, rule_retention, rule_timeout_of, scope_of, src_track_or, table_named, tag_named, gives_in, timeout_of, tracks_fully, translates, translates_in};
 ghost use Rattle.pfs_conf_values.specs.Hashing.{hasher_of};
 ghost use Rattle.pfs_conf_values.specs.Invariants.{IsConfig, IsTable};
 ghost use Rattle.pfs_conf_values.specs.LoadRules.{AreOptions, IsItem, IsRule};
@@ -38,6 +39,7 @@ pub struct Config {
     tables: Vec<TableDef>,
     entries: u64,
     items: Vec<Item>,
+    translates: bool,
     hasher: RulesHasher,
 }
 
@@ -49,12 +51,12 @@ impl Model for Config {
 
     ghost view = { λ c. record { profile = c.profile; syncookies = c.syncookies; routes = c.routes.items; limits = c.limits; timeouts = c.timeouts; tables = c.tables.items; items = c.items.items } };
 
-    ghost invariant = { λ c. IsConfigKept c.entries c.hasher (record { profile = c.profile; syncookies = c.syncookies; routes = c.routes.items; limits = c.limits; timeouts = c.timeouts; tables = c.tables.items; items = c.items.items }) };
+    ghost invariant = { λ c. IsConfigKept c.entries c.translates c.hasher (record { profile = c.profile; syncookies = c.syncookies; routes = c.routes.items; limits = c.limits; timeouts = c.timeouts; tables = c.tables.items; items = c.items.items }) };
 }
 
 impl Config {
-    /// The configuration of these parts, which keep the load rules. It counts the entries, feeds the hasher with all parts, and takes no
-    /// memory.
+    /// The configuration of these parts, which keep the load rules. It counts the entries, looks whether a rule translates,
+    /// feeds the hasher with all parts, and takes no memory.
     pub fn of_parts(
         profile: Profile,
         syncookies: Syncookies,
@@ -68,6 +70,7 @@ impl Config {
         ensures { result ≡ conf_of profile syncookies routes.items limits timeouts tables.items items.items }
     {
         let entries = count_entries(&tables);
+        let translates = translate(&items);
         let hasher = RulesHasher::of_parts(
             profile, syncookies, &routes, &limits, &timeouts, &tables, &items,
         );
@@ -80,6 +83,7 @@ impl Config {
             tables,
             entries,
             items,
+            translates,
             hasher,
         }
     }
@@ -214,6 +218,13 @@ impl Config {
         Some(TagNo(place as u16))
     }
 
+    /// Whether some rule translates: has `nat-to` or `rdr-to`. It looks at no rule. (pf.conf(5), TRANSLATION)
+    pub fn translates(&self) -> bool
+        ensures { result ≡ translates self.now }
+    {
+        self.translates
+    }
+
     /// Whether the table of this number is `const`: then no source is added to it, and no entry leaves it.
     /// (pf.conf(5), TABLES, "const")
     pub fn is_const(&self, number: TableNo) -> bool
@@ -306,6 +317,7 @@ impl Config {
             tables,
             entries: self.entries,
             items,
+            translates: self.translates,
             hasher: self.hasher,
         })
     }
@@ -336,6 +348,22 @@ fn gives(item: &Item, name: &TagName) -> bool
 {
     match &item.what {
         ItemKind::Rule(rule) => rule.tag.is_some_and(|tag| tag == *name),
+        ItemKind::Anchor(_) => false,
+    }
+}
+
+/// Whether some of these items is a rule that translates.
+fn translate(items: &[Item]) -> bool
+    ensures { result ≡ list_any (λ (i : Item). translates_in (rule_in i.what)) items.now }
+{
+    items.iter().any(|item| translates(item))
+}
+
+fn translates(item: &Item) -> bool
+    ensures { result ≡ translates_in (rule_in item.now.what) }
+{
+    match &item.what {
+        ItemKind::Rule(rule) => rule.translation.translates(),
         ItemKind::Anchor(_) => false,
     }
 }

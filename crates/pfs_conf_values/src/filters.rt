@@ -1,6 +1,9 @@
 //! What a rule or an anchor asks of a packet.
 
-use pfs_addr_values::{Dir, Flags, IfName, Name, Prefix, Proto};
+ghost use Rattle.std.specs.Prelude.{◌≡◌};
+ghost use Rattle.pfs_conf_values.specs.Translations.{family_of, family_of_host, is_other};
+
+use pfs_addr_values::{Addr, Dir, Flags, IfName, Name, Prefix, Proto};
 
 /// The number of a table, from 0: tables are numbered by the first place in the text that names them.
 #[derive(Debug, Clone, Copy, PartialEq, Eq, Hash)]
@@ -16,6 +19,28 @@ pub enum Family {
     Inet,
     /// `inet6`: IPv6.
     Inet6,
+}
+
+impl Family {
+    /// The family of an address.
+    pub fn of(addr: Addr) -> Family
+        ensures { result ≡ family_of addr }
+    {
+        match addr {
+            Addr::V4(_) => Family::Inet,
+            Addr::V6(_) => Family::Inet6,
+        }
+    }
+
+    /// Whether a family is given, and is the other one.
+    pub fn is_other(self, given: Option<Family>) -> bool
+        ensures { result ≡ is_other self given }
+    {
+        match (self, given) {
+            (Family::Inet, Some(Family::Inet6)) | (Family::Inet6, Some(Family::Inet)) => true,
+            _ => false,
+        }
+    }
 }
 
 /// `on em0`, or `on ! em0`: the interface that a packet must, or must not, be on. (pf.conf(5), PARAMETERS, "on")
@@ -47,6 +72,18 @@ pub enum Host<T> {
         /// Whether a `!` is before it.
         negated: bool,
     },
+}
+
+impl<T> Host<T> {
+    /// The family of a host that is a prefix, also with a `!`. Another host may have addresses of both.
+    pub fn family(&self) -> Option<Family>
+        ensures { result ≡ family_of_host self.now }
+    {
+        match self {
+            Host::Prefix { prefix, .. } => Some(Family::of(prefix.addr())),
+            Host::Any | Host::Table { .. } => None,
+        }
+    }
 }
 
 /// The ports from `low` to `high`, both included.

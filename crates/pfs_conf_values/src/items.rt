@@ -2,6 +2,7 @@
 
 use crate::actions::Action;
 use crate::filters::{Came, Filter, TagName};
+use crate::translations::Translation;
 use pfs_addr_values::Name;
 
 /// The number of a rule: its place among the items, anchors counted too, from 0.
@@ -22,6 +23,8 @@ pub struct Rule {
     pub came: Came,
     /// The tag that it gives them, whatever decides in the end.
     pub tag: Option<TagName>,
+    /// What it puts in place of their addresses and ports: a `match` rule at once, a `pass` rule where it decides.
+    pub translation: Translation,
     /// What it does with them.
     pub action: Action,
 }

@@ -13,6 +13,7 @@ mod settling;
 mod syncookies;
 mod tables;
 mod timeouts;
+mod translations;
 
 pub use actions::{Action, Overload, Rate, Scope, StateOptions};
 pub use configs::{Config, count_entries, rule_retention};
@@ -29,3 +30,4 @@ pub use settling::settle_items;
 pub use syncookies::Syncookies;
 pub use tables::{Entries, TableDef};
 pub use timeouts::{RuleTimeouts, TimeoutName, Timeouts};
+pub use translations::{NatPorts, NatTo, RdrTo, Translation};

@@ -6,7 +6,7 @@ use Rattle.std.proofs.lemmas.Bool.Decides.{nat_tests}
 use Rattle.std.proofs.lemmas.Bool.{cond-true, false≢true}
 use Rattle.pfs_addr_values.specs.Packets.{PacketView}
 use Rattle.pfs_conf_values.specs.declared.items.Item.{Item}
-use Rattle.pfs_eval.specs.Verdict.{Asking, Place, packet_past, cut, hides, is_hit, is_quick, is_shown, path_from}
+use Rattle.pfs_eval.specs.Verdict.{Asking, Place, packet_past, cut, ends_at_once, hides, is_hit, is_shown, path_from}
 use Rattle.pfs_conf_values.specs.Depths.{is_rule}
 use Rattle.pfs_conf_values.specs.Order.{next_depth, IsPreorder}
 use Rattle.pfs_eval.specs.Visits.{count_at, direct_items, holds_there, opened_items, visit_bound, visit_floor}
@@ -120,7 +120,7 @@ item_step a q None false before n most stop i rest w l ih o = absurd (false≢tr
 item_step a q (Some d) false before n most stop i rest w l ih o =
     rw (open-skip d i rest (grind (arith, nat_tests))) (ih q (Some d) (i ∷ before) (n + 1) (next_depth i) stop o)
 item_step a q h true before n most stop i rest w l ih o =
-    bound_step a (nat_lt i.depth stop) (is_hit a (place_at q before n i rest)) (is_quick i.what)
+    bound_step a (nat_lt i.depth stop) (is_hit a (place_at q before n i rest)) (ends_at_once a (place_at q before n i rest))
     (place_at q before n i rest) _ _ (open_items (deep (hides (a.holds q i) i.depth) (next_depth i)) rest) _
     (rw (open-hit (deep h most) i rest (visible_step h i.depth most w l))
     (cost_step a q before n i rest (a.holds q i) (is_rule i.what) refl refl))

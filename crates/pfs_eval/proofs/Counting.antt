@@ -7,6 +7,7 @@ use Rattle.pfs_addr_values.specs.Packets.{PacketView}
 use Rattle.pfs_conf_values.specs.declared.items.Item.{Item}
 use Rattle.pfs_eval.specs.Entries.{Entry}
 use Rattle.pfs_eval.specs.Asking.{asking}
+use Rattle.pfs_eval.specs.Translating.{Taken}
 use Rattle.pfs_eval.specs.Matching.{filter_of}
 use Rattle.pfs_eval.specs.Parameters.{IsSame, asks_same, failing_at, holds_at}
 use Rattle.pfs_eval.specs.Skips.{IsSkip}
@@ -104,15 +105,15 @@ begins_at a q items stop r y ys e = by (cases_order r (length items))
     by (inr (inr g)) = past (omega (arith, g))
 
 -- all that a skip passes over is left behind with y, and what stands behind the skip is not
-past_skip : (tables : List (List Entry)) (packet : PacketView) (k : Parameter) (items : List Item) (stop p q : ℕ) (i : Item)
+past_skip : (tables : List (List Entry)) (taken : Taken) (packet : PacketView) (k : Parameter) (items : List Item) (stop p q : ℕ) (i : Item)
     → IsSkip k items p i q → slice_get items p ≡ Some i → stop ≤ i.depth → holds_at tables packet k (filter_of i.what) ≡ false
     → (y : Place) → IsLeftWith tables k y i
-    → length (dedup_from (is_left_with tables) y (walked (asking items tables) stop (rest_of (asking items tables) packet items p)))
-    ≡ 1 + length (dedup (is_left_with tables) (walked (asking items tables) stop (rest_of (asking items tables) packet items q)))
-past_skip tables packet k items stop p q i s at d h = over_skip Counts k items p q i last more s at d h
+    → length (dedup_from (is_left_with tables) y (walked (asking items tables taken) stop (rest_of (asking items tables taken) packet items p)))
+    ≡ 1 + length (dedup (is_left_with tables) (walked (asking items tables taken) stop (rest_of (asking items tables taken) packet items q)))
+past_skip tables taken packet k items stop p q i s at d h = over_skip Counts k items p q i last more s at d h
   where
     a : Asking
-    a = asking items tables
+    a = asking items tables taken
 
     same : Place → Place → Bool
     same = is_left_with tables
@@ -160,19 +161,19 @@ same_itself parameter.DestinationPort i = refl
 same_itself parameter.Flags i = refl
 
 -- a visit to an item that fails on a parameter, and the skip from there
-pub skip-counts : (tables : List (List Entry)) (packet : PacketView) (k : Parameter) (items : List Item) (stop p q : ℕ) (i : Item)
+pub skip-counts : (tables : List (List Entry)) (taken : Taken) (packet : PacketView) (k : Parameter) (items : List Item) (stop p q : ℕ) (i : Item)
     → IsSkip k items p i q → slice_get items p ≡ Some i → stop ≤ i.depth → holds_at tables packet k (filter_of i.what) ≡ false
     → failing_at tables packet (filter_of i.what) ≡ Some k
-    → length (dedup (is_left_with tables) (walked (asking items tables) stop (rest_of (asking items tables) packet items p)))
-    ≡ 1 + length (dedup (is_left_with tables) (walked (asking items tables) stop (rest_of (asking items tables) packet items q)))
-skip-counts tables packet k items stop p q i s at d h on =
+    → length (dedup (is_left_with tables) (walked (asking items tables taken) stop (rest_of (asking items tables taken) packet items p)))
+    ≡ 1 + length (dedup (is_left_with tables) (walked (asking items tables taken) stop (rest_of (asking items tables taken) packet items q)))
+skip-counts tables taken packet k items stop p q i s at d h on =
     ap (λ xs. length (dedup same xs)) step
     ∙ ap (λ (xs : List Place). length xs) (sym (cond-true (same x x) _ _ (left_true tables k x x l)))
     ∙ ap (λ xs. length (dedup_from same x xs)) (sym step)
-    ∙ past_skip tables packet k items stop p q i s at d h x l
+    ∙ past_skip tables taken packet k items stop p q i s at d h x l
   where
     a : Asking
-    a = asking items tables
+    a = asking items tables taken
 
     same : Place → Place → Bool
     same = is_left_with tables

@@ -4,7 +4,7 @@ use Rattle.std.specs.List.{list_any}
 use Rattle.std.proofs.lemmas.Bool.Decides.{nat_tests}
 use Rattle.pfs_addr_values.specs.Packets.{PacketView}
 use Rattle.pfs_conf_values.specs.declared.items.Item.{Item}
-use Rattle.pfs_eval.specs.Verdict.{Asking, Place, behind_all, is_quick, is_hit, ends_before, cut_from, cut, last_or, packet_behind, verdict}
+use Rattle.pfs_eval.specs.Verdict.{Asking, Place, behind_all, ends_at_once, is_quick, is_hit, ends_before, cut_from, cut, last_or, packet_at_cut, verdict}
 use Rattle.pfs_eval.specs.Lines.{back, stop_depth_of}
 use Rattle.pfs_eval.proofs.Paths.{same_cond, rest_of}
 
@@ -13,7 +13,7 @@ unfoldable pub walked : Asking → ℕ → List Place → List Place
 walked a stop [] = []
 walked a stop (x ∷ rest) =
     cond (nat_lt x.item.depth stop) [] (x ∷ cond (is_hit a x)
-    (cond (is_quick x.item.what) [] (walked a (max stop (stop_depth_of x.around)) rest)) (walked a stop rest))
+    (cond (ends_at_once a x) [] (walked a (max stop (stop_depth_of x.around)) rest)) (walked a stop rest))
 
 stop_step : (q a l : Bool) (d n k : ℕ) → l ≡ nat_lt d k → ((q && nat_le d n) || l) ≡ nat_lt d (cond q (max (n + 1) k) k)
 stop_step true a l d n k e = grind (arith, nat_tests)
@@ -26,7 +26,7 @@ any-stop d [] = grind (arith, nat_tests)
 any-stop d (a ∷ outer) = stop_step (is_quick a.what) false _ d a.depth (stop_depth_of outer) (any-stop d outer)
 
 abbrev over : Asking → Place → List Place → Bool
-over a x seen = list_any (λ (r : Place). is_hit a r && ends_before x r) seen
+over a x seen = list_any (λ (r : Place). is_hit a r && ends_before a x r) seen
 
 or_true : (h q a o : Bool) → h ≡ true → q ≡ true → ((h && (q || a)) || o) ≡ true
 or_true h q a o e f = grind arith
@@ -43,19 +43,19 @@ cut-over a seen [] h = refl
 cut-over a seen (x ∷ rest) h = rw (h x) refl
 
 cut_behind : (a : Asking) (seen : List Place) (stop : ℕ) (x : Place) (rest : List Place) (h q : Bool) → is_hit a x ≡ h
-    → is_quick x.item.what ≡ q → ((y : Place) → over a y seen ≡ nat_lt y.item.depth stop)
+    → ends_at_once a x ≡ q → ((y : Place) → over a y seen ≡ nat_lt y.item.depth stop)
     → ((seen' : List Place) (stop' : ℕ) → ((y : Place) → over a y seen' ≡ nat_lt y.item.depth stop')
     → cut_from a seen' rest ≡ walked a stop' rest)
     → cut_from a (x ∷ seen) rest ≡ cond h (cond q [] (walked a (max stop (stop_depth_of x.around)) rest))
     (walked a stop rest)
 cut_behind a seen stop x rest true true e f k i = cut-over a (x ∷ seen) rest (λ y. or_true (is_hit a x)
-    (is_quick x.item.what) _ (over a y seen) e f)
+    (ends_at_once a x) _ (over a y seen) e f)
 cut_behind a seen stop x rest true false e f k i =
     i (x ∷ seen) (max stop (stop_depth_of x.around))
     (λ y. or_more (is_hit a x)
-    (is_quick x.item.what) _ (over a y seen) y.item.depth (stop_depth_of x.around) stop e f (any-stop y.item.depth x.around) (k y))
+    (ends_at_once a x) _ (over a y seen) y.item.depth (stop_depth_of x.around) stop e f (any-stop y.item.depth x.around) (k y))
 cut_behind a seen stop x rest false q e f k i = i (x ∷ seen) stop (λ y. or_same (is_hit a x)
-    (is_quick x.item.what) _ (over a y seen) _ e (k y))
+    (ends_at_once a x) _ (over a y seen) _ e (k y))
 
 -- the path before its cut is what the walk visits
 pub cut_from-walked : (a : Asking) (seen : List Place) (stop : ℕ) (xs : List Place)
@@ -66,7 +66,7 @@ cut_from-walked a seen stop (x ∷ rest) k =
     same_cond (over a x seen) (nat_lt x.item.depth stop) _ _ _ _ (k x) (λ w. refl)
     (λ w. ap (λ ys. x ∷ ys)
     (cut_behind a seen stop x rest (is_hit a x)
-    (is_quick x.item.what) refl refl k (λ s l r. cut_from-walked a s l rest r)))
+    (ends_at_once a x) refl refl k (λ s l r. cut_from-walked a s l rest r)))
 
 none_over : (d : ℕ) → false ≡ nat_lt d 0
 none_over d = grind (arith, nat_tests)
@@ -96,8 +96,8 @@ unfolding verdict found_of
 verdict-walked a p items = rw (cut-walked a p items) refl
 
 pub behind-walked : (a : Asking) (p : PacketView) (items : List Item)
-    → packet_behind a p items ≡ behind_all a p (walked a 0 (rest_of a p items 0))
-unfolding packet_behind
+    → packet_at_cut a p items ≡ behind_all a p (walked a 0 (rest_of a p items 0))
+unfolding packet_at_cut
 behind-walked a p items = rw (cut-walked a p items) refl
 
 -- ---- one step of the walk
@@ -109,7 +109,7 @@ walked-less a stop x rest h = let e : nat_lt x.item.depth stop ≡ true = grind 
 
 pub walked-on : (a : Asking) (stop : ℕ) (x : Place) (rest : List Place) → stop ≤ x.item.depth
     → walked a stop (x ∷ rest) ≡ x ∷ cond (is_hit a x)
-    (cond (is_quick x.item.what) [] (walked a (max stop (stop_depth_of x.around)) rest)) (walked a stop rest)
+    (cond (ends_at_once a x) [] (walked a (max stop (stop_depth_of x.around)) rest)) (walked a stop rest)
 unfolding walked
 walked-on a stop x rest h = let e : nat_lt x.item.depth stop ≡ false = grind (arith, nat_tests) in rw e refl
 

@@ -1,7 +1,8 @@
--- The verdict is the number of a rule.
+-- The verdict is the number of a rule; and what that rule makes of the packet.
 use Rattle.std.proofs.Common.{◌≡◌, ℕ, ◌+◌, Bool, true, false, ◌&&◌, cond, List, [], ◌∷◌, filter, map, Option, Some, None, refl, ap, sym, ◌∙◌, arith, subst, suc}
-use Rattle.std.specs.Prelude.{IfSome, IsSome, option_map, slice_get}
+use Rattle.std.specs.Prelude.{IfSome, IsSome, is_none, is_some, option_map, slice_get, unwrap_or}
 use Rattle.std.specs.List.{list_any}
+use Rattle.std.specs.Option.{option_and_then}
 use Rattle.pfs_addr_values.specs.Packets.{PacketView}
 use Rattle.pfs_conf_values.specs.Configs.{rule_in}
 use Rattle.pfs_conf_values.specs.Depths.{is_rule}
@@ -9,7 +10,11 @@ use Rattle.pfs_conf_values.specs.declared.items.Item.{Item}
 use Rattle.pfs_conf_values.specs.declared.items.RuleNo.{RuleNo}
 use Rattle.pfs_conf_values.specs.declared.items.ItemKind.{ItemKind}
 use Rattle.pfs_conf_values.specs.declared.items.ItemKind.TheVariants.{Rule, Anchor}
-use Rattle.pfs_eval.specs.Verdict.{Asking, Place, packet_past, hides, is_shown, path_from, is_hit, ends_before, cut_from, cut, last_or, verdict, IsRuleAt}
+use Rattle.pfs_eval.specs.Asking.{asking}
+use Rattle.pfs_eval.specs.Entries.{Entry}
+use Rattle.pfs_eval.specs.Lines.{passed_at}
+use Rattle.pfs_eval.specs.Translating.{Taken}
+use Rattle.pfs_eval.specs.Verdict.{Asking, Place, packet_past, hides, is_shown, path_from, is_hit, ends_before, cut_from, cut, decider, last_or, lost_by, packet_at_cut, packet_behind, passed_by, verdict, IsRuleAt}
 use Rattle.pfs_eval.proofs.Paths.{place_at}
 
 -- each place has the item of its number
@@ -41,7 +46,7 @@ cut-at : (items : List Item) (a : Asking) (seen xs : List Place) → AreAt items
 unfolding AreAt
 cut-at items a seen [] h = tt
 cut-at items a seen (x ∷ xs) h =
-    cond-at items (list_any (λ (r : Place). is_hit a r && ends_before x r) seen) [] (x ∷ cut_from a (x ∷ seen) xs) tt (h.0, cut-at items a (x ∷ seen) xs h.1)
+    cond-at items (list_any (λ (r : Place). is_hit a r && ends_before a x r) seen) [] (x ∷ cut_from a (x ∷ seen) xs) tt (h.0, cut-at items a (x ∷ seen) xs h.1)
 
 in_rule : (w : ItemKind) → is_rule w ≡ true → IsSome (rule_in w)
 in_rule (Rule r) e = refl
@@ -82,3 +87,57 @@ pub of-number : (P : ℕ → Type 0) (o : Option RuleNo) (v : Option ℕ) → op
     → IfSome v P → IfSome o (λ r. P r.0)
 of-number P None v e h = tt
 of-number P (Some r) v e h = subst (λ (w : Option ℕ). IfSome w P) (sym e) h
+
+-- ---- the rule that decides, and the packet
+
+-- the rule that loses a packet is one of the list
+pub lost-rule : (a : Asking) (p : PacketView) (items : List Item) → IfSome (lost_by a p items) (IsRuleAt items)
+unfolding lost_by
+lost-rule a p items = by (is_none (passed_by a (packet_at_cut a p items) (decider a p items)))
+  where
+    by : (b : Bool) → IfSome (cond b (verdict a p items) None) (IsRuleAt items)
+    by true = verdict-rule a p items
+    by false = tt
+
+-- what the item that decides makes of a packet, as a walk finds it
+passed-is : (items : List Item) (tables : List (List Entry)) (taken : Taken) (q : PacketView) (o : Option Item)
+    → passed_by (asking items tables taken) q o ≡ passed_at taken q o
+passed-is items tables taken q None = refl
+passed-is items tables taken q (Some i) = refl
+
+-- the rule found and the packet at the end of a walk, with what that rule made of it
+pub record IsDecided (a : Asking) (p : PacketView) (items : List Item) (found : Option ℕ) (q : PacketView) : Type 0 where
+  pub verdict : found ≡ verdict a p items
+  pub packet : q ≡ packet_at_cut a p items
+
+decided-as : (items : List Item) (tables : List (List Entry)) (taken : Taken) (p : PacketView) (found : Option ℕ) (q : PacketView)
+    → IsDecided (asking items tables taken) p items found q
+    → passed_by (asking items tables taken) (packet_at_cut (asking items tables taken) p items) (decider (asking items tables taken) p items)
+    ≡ passed_at taken q (option_and_then (slice_get items) found)
+decided-as items tables taken p found q h =
+    ap (λ r. passed_by (asking items tables taken) r (decider (asking items tables taken) p items)) (sym h.packet)
+    ∙ ap (λ f. passed_by (asking items tables taken) q (option_and_then (slice_get items) f)) (sym h.verdict)
+    ∙ passed-is items tables taken q (option_and_then (slice_get items) found)
+
+pub behind-is : (items : List Item) (tables : List (List Entry)) (taken : Taken) (p : PacketView) (found : Option ℕ) (q : PacketView)
+    → IsDecided (asking items tables taken) p items found q
+    → unwrap_or (passed_at taken q (option_and_then (slice_get items) found)) q ≡ packet_behind (asking items tables taken) p items
+unfolding packet_behind
+behind-is items tables taken p found q h =
+    ap (λ o. unwrap_or o q) (sym (decided-as items tables taken p found q h))
+    ∙ ap (λ r. unwrap_or (passed_by (asking items tables taken) (packet_at_cut (asking items tables taken) p items) (decider (asking items tables taken) p items)) r) h.packet
+
+pub lost-is : (items : List Item) (tables : List (List Entry)) (taken : Taken) (p : PacketView) (found : Option ℕ) (q : PacketView)
+    → IsDecided (asking items tables taken) p items found q → (goes_on : Bool)
+    → goes_on ≡ is_some (passed_at taken q (option_and_then (slice_get items) found))
+    → cond goes_on None found ≡ lost_by (asking items tables taken) p items
+unfolding lost_by
+lost-is items tables taken p found q h goes_on e =
+    ap (λ b. cond b None found) e
+    ∙ turned (passed_at taken q (option_and_then (slice_get items) found)) found
+    ∙ ap (λ o. cond (is_none o) found None) (sym (decided-as items tables taken p found q h))
+    ∙ ap (λ v. cond (is_none (passed_by (asking items tables taken) (packet_at_cut (asking items tables taken) p items) (decider (asking items tables taken) p items))) v None) h.verdict
+  where
+    turned : (o : Option PacketView) (v : Option ℕ) → cond (is_some o) None v ≡ cond (is_none o) v None
+    turned None v = refl
+    turned (Some r) v = refl

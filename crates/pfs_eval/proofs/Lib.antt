@@ -15,4 +15,5 @@ pub mod SameAsked
 pub mod SameFlags
 pub mod Skipping
 pub mod TextTables
+pub mod Translations
 pub mod Visiting

@@ -1,18 +1,19 @@
 -- What a walk has left behind each visit.
-use Rattle.std.proofs.Common.{◌≡◌, ℕ, ◌+◌, ◌<◌, ◌≤◌, max, Bool, true, false, ◌&&◌, cond, List, [], ◌∷◌, length, filter, slice_get, Option, Some, None, MatchOption, refl, ap, sym, ◌∙◌, arith, subst, ◌⊎◌, inl, inr}
+use Rattle.std.proofs.Common.{◌≡◌, ℕ, ◌+◌, ◌<◌, ◌≤◌, max, Bool, true, false, ◌&&◌, ◌||◌, not, cond, List, [], ◌∷◌, length, filter, slice_get, Option, Some, None, MatchOption, refl, ap, sym, ◌∙◌, arith, subst, ◌⊎◌, inl, inr}
 use Rattle.std.specs.List.{dedup}
 use Rattle.std.proofs.lemmas.Option.{slice_get_within}
 use Rattle.std.proofs.lemmas.Bool.{cond-true, cond-false}
 use Rattle.pfs_addr_values.specs.Packets.{PacketView}
 use Rattle.pfs_conf_values.specs.Depths.{is_rule}
 use Rattle.pfs_conf_values.specs.declared.items.Item.{Item}
-use Rattle.pfs_eval.specs.Asking.{asking, marked_by}
+use Rattle.pfs_eval.specs.Asking.{asking, given_tag, is_lost_at_once, made_by}
 use Rattle.pfs_eval.specs.Entries.{Entry}
-use Rattle.pfs_eval.specs.Lines.{AreLines, IsLine, is_matched, packet_after, stop_depth_of, walk_after}
+use Rattle.pfs_eval.specs.Lines.{AreLines, IsLine, is_deciding, is_matched, packet_after, stop_depth_of, walk_after}
 use Rattle.pfs_eval.specs.Matching.{filter_holds, filter_of, matches_item}
 use Rattle.pfs_eval.specs.Parameters.{failing_at, holds_at}
 use Rattle.pfs_eval.specs.Skips.{AreSkipsOf, skip_of}
-use Rattle.pfs_eval.specs.Verdict.{Asking, Place, packet_past, behind_all, can_decide, cut, is_hit, is_quick, matches_rule, packet_behind, verdict}
+use Rattle.pfs_eval.specs.Translating.{Taken}
+use Rattle.pfs_eval.specs.Verdict.{Asking, Place, packet_past, behind_all, can_decide, cut, ends_at_once, is_hit, is_quick, matches_rule, packet_at_cut, verdict}
 use Rattle.pfs_eval.specs.Visits.{holds_there, is_left_with, visit_floor, visits_of}
 use Rattle.pfs_eval.specs.declared.comparing.Parameter.{Parameter}
 use Rattle.pfs_eval.specs.declared.lines.Line.{Line}
@@ -22,6 +23,7 @@ use Rattle.pfs_eval.proofs.Cuts.{walked, behind-walked, cut-walked, verdict-walk
 use Rattle.pfs_eval.proofs.LinesMade.{depth_of, item_of}
 use Rattle.pfs_eval.proofs.Counting.{behind_none, none_left, skip-counts}
 use Rattle.pfs_eval.proofs.Skipping.{MayGoOn, here, matching, skip-on, walked-miss}
+use Rattle.pfs_eval.proofs.Translations.{keeps, next_at_end, next_on}
 
 -- ---- what a walk has left
 
@@ -34,7 +36,7 @@ left_of a items w q = walked a w.stop_depth (rest_of a q items w.place)
 pub record IsLeft (same : Place → Place → Bool) (a : Asking) (items : List Item) (p : PacketView) (w : Walk) (q : PacketView) (count first : ℕ) : Type 0 where
   pub visits : count + length (dedup same (left_of a items w q)) ≡ first + length (dedup same (cut a p items))
   pub verdict : found_of a w.found (left_of a items w q) ≡ verdict a p items
-  pub packet : behind_all a q (left_of a items w q) ≡ packet_behind a p items
+  pub packet : behind_all a q (left_of a items w q) ≡ packet_at_cut a p items
   pub most : count + length (left_of a items w q) ≤ first + length (cut a p items)
   pub least : first + visit_floor a p items ≤ count + matching a (left_of a items w q)
 
@@ -50,20 +52,20 @@ left-start same a items p count = record {
 }
 
 -- what the walk has found, what became of the packet, and how many items were compared
-pub record IsFound (tables : List (List Entry)) (p : PacketView) (items : List Item) (found : Option ℕ) (q : PacketView) (count first : ℕ) : Type 0 where
-  pub verdict : found ≡ verdict (asking items tables) p items
-  pub packet : q ≡ packet_behind (asking items tables) p items
-  pub visits : count ≡ first + visits_of tables p items
-  pub most : count ≤ first + length (cut (asking items tables) p items)
-  pub least : first + visit_floor (asking items tables) p items ≤ count
+pub record IsFound (tables : List (List Entry)) (taken : Taken) (p : PacketView) (items : List Item) (found : Option ℕ) (q : PacketView) (count first : ℕ) : Type 0 where
+  pub verdict : found ≡ verdict (asking items tables taken) p items
+  pub packet : q ≡ packet_at_cut (asking items tables taken) p items
+  pub visits : count ≡ first + visits_of tables taken p items
+  pub most : count ≤ first + length (cut (asking items tables taken) p items)
+  pub least : first + visit_floor (asking items tables taken) p items ≤ count
 
 -- the walk is over
-left-end : (tables : List (List Entry)) (items : List Item) (p : PacketView) (w : Walk) (q : PacketView) (count first : ℕ)
-    → left_of (asking items tables) items w q ≡ []
-    → IsLeft (is_left_with tables) (asking items tables) items p w q count first → IsFound tables p items w.found q count first
+left-end : (tables : List (List Entry)) (taken : Taken) (items : List Item) (p : PacketView) (w : Walk) (q : PacketView) (count first : ℕ)
+    → left_of (asking items tables taken) items w q ≡ []
+    → IsLeft (is_left_with tables) (asking items tables taken) items p w q count first → IsFound tables taken p items w.found q count first
 unfolding matching visits_of
-left-end tables items p w q count first e h =
-    let a = asking items tables in
+left-end tables taken items p w q count first e h =
+    let a = asking items tables taken in
     record {
       verdict = sym (found-end a w.found) ∙ sym (ap (found_of a w.found) e) ∙ h.verdict;
       packet = sym (ap (behind_all a q) e) ∙ h.packet;
@@ -115,96 +117,88 @@ left-skip same a items p w q r count first k c h = record {
 -- ---- one visit
 
 walked-quick : (a : Asking) (stop : ℕ) (x : Place) (rest : List Place) → stop ≤ x.item.depth → is_hit a x ≡ true
-    → is_quick x.item.what ≡ true → walked a stop (x ∷ rest) ≡ x ∷ []
+    → ends_at_once a x ≡ true → walked a stop (x ∷ rest) ≡ x ∷ []
 walked-quick a stop x rest d e f = walked-on a stop x rest d
-    ∙ ap (λ t. x ∷ t) (cond-true (is_hit a x) _ _ e ∙ cond-true (is_quick x.item.what) _ _ f)
+    ∙ ap (λ t. x ∷ t) (cond-true (is_hit a x) _ _ e ∙ cond-true (ends_at_once a x) _ _ f)
 
 walked-hit : (a : Asking) (stop : ℕ) (x : Place) (rest : List Place) → stop ≤ x.item.depth → is_hit a x ≡ true
-    → is_quick x.item.what ≡ false → walked a stop (x ∷ rest) ≡ x ∷ walked a (max stop (stop_depth_of x.around)) rest
+    → ends_at_once a x ≡ false → walked a stop (x ∷ rest) ≡ x ∷ walked a (max stop (stop_depth_of x.around)) rest
 walked-hit a stop x rest d e f = walked-on a stop x rest d
-    ∙ ap (λ t. x ∷ t) (cond-true (is_hit a x) _ _ e ∙ cond-false (is_quick x.item.what) _ _ f)
-
-and_true : (r b : Bool) → r ≡ true → b ≡ true → (r && b) ≡ true
-and_true r b e f = grind arith
-
-and_false : (r b : Bool) → b ≡ false → (r && b) ≡ false
-and_false r b e = grind arith
-
-rule_of_hit : (r h c d : Bool) → ((r && h && c) && d) ≡ true → r ≡ true
-rule_of_hit r h c d e = grind arith
+    ∙ ap (λ t. x ∷ t) (cond-true (is_hit a x) _ _ e ∙ cond-false (ends_at_once a x) _ _ f)
 
 with_holds : (r h c : Bool) → h ≡ true → (r && c) ≡ (r && h && c)
 with_holds r h c e = grind arith
 
 -- the rule of a line matches a packet, of which its filter holds, where the item does
-matched-is : (tables : List (List Entry)) (items : List Item) (n : ℕ) (i : Item) (line : Line) (q : PacketView) → IsLine items n i line
-    → matches_item tables q i ≡ true → is_matched line q ≡ matches_rule (asking items tables) q i
-matched-is tables items n i line q l e = rw (l.item, l.asked) (with_holds _ _ _ e)
+matched-is : (tables : List (List Entry)) (taken : Taken) (items : List Item) (n : ℕ) (i : Item) (line : Line) (q : PacketView) → IsLine items n i line
+    → matches_item tables q i ≡ true → is_matched line q ≡ matches_rule (asking items tables taken) q i
+matched-is tables taken items n i line q l e = rw (l.item, l.asked) (with_holds _ _ _ e)
 
 -- then it becomes what it is behind the item
-packet-is : (tables : List (List Entry)) (items : List Item) (n : ℕ) (i : Item) (line : Line) (q : PacketView) → IsLine items n i line
-    → matches_item tables q i ≡ true → packet_after q line None ≡ packet_past (asking items tables) q i
-packet-is tables items n i line q l e =
-    ap (λ b. cond b (marked_by line.given q) q) (matched-is tables items n i line q l e)
-    ∙ ap (λ g. cond (matches_rule (asking items tables) q i) (marked_by g q) q) l.given
+packet-is : (tables : List (List Entry)) (taken : Taken) (items : List Item) (n : ℕ) (i : Item) (line : Line) (q : PacketView) → IsLine items n i line
+    → matches_item tables q i ≡ true → packet_after taken q line None ≡ packet_past (asking items tables taken) q i
+packet-is tables taken items n i line q l e =
+    ap (λ b. cond b (made_by taken line.given line.item.what q) q) (matched-is tables taken items n i line q l e)
+    ∙ ap (λ g. cond (matches_rule (asking items tables taken) q i) (made_by taken g line.item.what q) q) l.given
+    ∙ ap (λ (y : Item). cond (matches_rule (asking items tables taken) q i) (made_by taken (given_tag items i.what) y.what q) q) l.item
 
 -- and the rule is found, where the place is a hit
-hit-is : (tables : List (List Entry)) (items : List Item) (n : ℕ) (i : Item) (line : Line) (q : PacketView) → IsLine items n i line
+hit-is : (tables : List (List Entry)) (taken : Taken) (items : List Item) (n : ℕ) (i : Item) (line : Line) (q : PacketView) → IsLine items n i line
     → matches_item tables q i ≡ true
-    → (is_matched line q && can_decide line.item.what) ≡ is_hit (asking items tables) (here q items n i)
-hit-is tables items n i line q l e =
-    ap (λ b. b && can_decide line.item.what) (matched-is tables items n i line q l e)
-    ∙ ap (λ (y : Item). matches_rule (asking items tables) q i && can_decide y.what) l.item
+    → (is_matched line q && is_deciding taken line q) ≡ is_hit (asking items tables taken) (here q items n i)
+hit-is tables taken items n i line q l e =
+    ap (λ b. b && is_deciding taken line q) (matched-is tables taken items n i line q l e)
+    ∙ ap (λ g. matches_rule (asking items tables taken) q i && (can_decide line.item.what || is_lost_at_once taken g line.item.what q)) l.given
+    ∙ ap (λ (y : Item). matches_rule (asking items tables taken) q i && (can_decide y.what || is_lost_at_once taken (given_tag items i.what) y.what q)) l.item
 
 -- a visit to an item that holds keeps what is left: by whether it is a hit, and quick
-match_cases : (same : Place → Place → Bool) (tables : List (List Entry)) (items : List Item) (p : PacketView) (w : Walk) (q : PacketView)
+match_cases : (same : Place → Place → Bool) (tables : List (List Entry)) (taken : Taken) (items : List Item) (p : PacketView) (w : Walk) (q : PacketView)
     (i : Item) (line : Line) (count first : ℕ)
     → ((y : Place) → same y (here q items w.place i) ≡ false) → slice_get items w.place ≡ Some i → IsLine items w.place i line → w.stop_depth ≤ i.depth
-    → matches_item tables q i ≡ true → IsLeft same (asking items tables) items p w q count first
-    → (b c : Bool) → is_hit (asking items tables) (here q items w.place i) ≡ b → is_quick i.what ≡ c
-    → IsLeft same (asking items tables) items p (walk_after w q line None) (packet_past (asking items tables) q i) (count + 1) first
-match_cases same tables items p w q i line count first alone at l d e h true true f g =
-    let a = asking items tables in
+    → matches_item tables q i ≡ true → IsLeft same (asking items tables taken) items p w q count first
+    → (b c : Bool) → is_hit (asking items tables taken) (here q items w.place i) ≡ b → ends_at_once (asking items tables taken) (here q items w.place i) ≡ c
+    → IsLeft same (asking items tables taken) items p (walk_after taken w q line None) (packet_past (asking items tables taken) q i) (count + 1) first
+match_cases same tables taken items p w q i line count first alone at l d e h true true f g =
+    let a = asking items tables taken in
     let x = here q items w.place i in
     let q' = packet_past a q i in
     let w' : Walk = record { place = line.next; stop_depth = max w.stop_depth line.stop_depth; found = Some w.place } in
-    let is : walk_after w q line None ≡ w' = cond-true _ _ _ (hit-is tables items w.place i line q l e ∙ f) in
-    let rule : is_rule i.what ≡ true = rule_of_hit (is_rule i.what) (a.holds q i) (a.came q i) (can_decide i.what) f in
-    let out : line.next ≡ length items = l.next ∙ cond-true _ _ _ (and_true (is_rule i.what) (is_quick i.what) rule g) in
+    let is : walk_after taken w q line None ≡ w' = cond-true _ _ _ (hit-is tables taken items w.place i line q l e ∙ f) in
+    let out : line.next ≡ length items = l.next ∙ next_at_end items w.place i.what (a.holds q i) (a.came q i) (a.lost q i) f g (keeps taken (given_tag items i.what) i.what q) in
     let ends : left_of a items w' q' ≡ [] = ap (walked a w'.stop_depth)
     (rest-end a q' items line.next (omega (arith, out))) ∙ walked-end a w'.stop_depth in
     let next = ap (walked a w.stop_depth) (rest-next a q items w.place i at e)
     ∙ walked-quick a w.stop_depth x _ d f g ∙ ap (λ t. x ∷ t) (sym ends) in
     subst (λ (v : Walk). IsLeft same a items p v q' (count + 1) first) (sym is)
     (left-step same a items p w w' q q' count first x alone next (sym (cond-true _ _ _ f)) refl h)
-match_cases same tables items p w q i line count first alone at l d e h true false f g =
-    let a = asking items tables in
+match_cases same tables taken items p w q i line count first alone at l d e h true false f g =
+    let a = asking items tables taken in
     let x = here q items w.place i in
     let q' = packet_past a q i in
     let w' : Walk = record { place = line.next; stop_depth = max w.stop_depth line.stop_depth; found = Some w.place } in
-    let is : walk_after w q line None ≡ w' = cond-true _ _ _ (hit-is tables items w.place i line q l e ∙ f) in
-    let on : line.next ≡ w.place + 1 = l.next ∙ cond-false _ _ _ (and_false _ _ g) in
+    let is : walk_after taken w q line None ≡ w' = cond-true _ _ _ (hit-is tables taken items w.place i line q l e ∙ f) in
+    let on : line.next ≡ w.place + 1 = l.next ∙ next_on items w.place i.what (a.holds q i) (a.came q i) (a.lost q i) f g in
     let next = ap (walked a w.stop_depth) (rest-next a q items w.place i at e)
     ∙ walked-hit a w.stop_depth x _ d f g
     ∙ ap (λ k. x ∷ walked a (max w.stop_depth k) (rest_of a q' items (w.place + 1))) (sym l.stop)
     ∙ ap (λ n. x ∷ walked a (max w.stop_depth line.stop_depth) (rest_of a q' items n)) (sym on) in
     subst (λ (v : Walk). IsLeft same a items p v q' (count + 1) first) (sym is)
     (left-step same a items p w w' q q' count first x alone next (sym (cond-true _ _ _ f)) refl h)
-match_cases same tables items p w q i line count first alone at l d e h false c f g =
-    let a = asking items tables in
+match_cases same tables taken items p w q i line count first alone at l d e h false c f g =
+    let a = asking items tables taken in
     let x = here q items w.place i in
     let q' = packet_past a q i in
     let w' : Walk = record { place = w.place + 1; stop_depth = w.stop_depth; found = w.found } in
-    let is : walk_after w q line None ≡ w' = cond-false _ _ _ (hit-is tables items w.place i line q l e ∙ f) in
+    let is : walk_after taken w q line None ≡ w' = cond-false _ _ _ (hit-is tables taken items w.place i line q l e ∙ f) in
     let next = ap (walked a w.stop_depth) (rest-next a q items w.place i at e) ∙ walked-miss a w.stop_depth x _ d f in
     subst (λ (v : Walk). IsLeft same a items p v q' (count + 1) first) (sym is)
     (left-step same a items p w w' q q' count first x alone next (sym (cond-false _ _ _ f)) refl h)
 
-further : (items : List Item) (w : Walk) (q : PacketView) (i : Item) (line : Line) → IsLine items w.place i line → w.place < length items
-    → w.place < (walk_after w q line None).place
-further items w q i line l n = by (is_matched line q && can_decide line.item.what)
+further : (taken : Taken) (items : List Item) (w : Walk) (q : PacketView) (i : Item) (line : Line) → IsLine items w.place i line → w.place < length items
+    → w.place < (walk_after taken w q line None).place
+further taken items w q i line l n = by (is_matched line q && is_deciding taken line q)
   where
-    ahead : (c : Bool) → (is_rule i.what && is_quick i.what) ≡ c → w.place < line.next
+    ahead : (c : Bool) → (is_rule i.what && (is_quick i.what || not (can_decide i.what))) ≡ c → w.place < line.next
     ahead true k = let out : line.next ≡ length items = l.next ∙ cond-true _ _ _ k in omega (arith, out)
     ahead false k = let on : line.next ≡ w.place + 1 = l.next ∙ cond-false _ _ _ k in omega (arith, on)
 
@@ -233,41 +227,41 @@ matching_item : (tables : List (List Entry)) (packet : PacketView) (i : Item) �
 unfolding matches_item
 matching_item tables packet i e = e
 
-visit_by : (tables : List (List Entry)) (items : List Item) (p : PacketView) (w : Walk) (q : PacketView) (i : Item) (line : Line)
+visit_by : (tables : List (List Entry)) (taken : Taken) (items : List Item) (p : PacketView) (w : Walk) (q : PacketView) (i : Item) (line : Line)
     (failed : Option Parameter) (count first : ℕ) → slice_get items w.place ≡ Some i → IsLine items w.place i line
     → w.stop_depth ≤ i.depth → AreSkipsOf items w.place line.skips → Tells tables q line failed
-    → IsLeft (is_left_with tables) (asking items tables) items p w q count first
-    → IsVisit (is_left_with tables) (asking items tables) items p w (walk_after w q line failed) (packet_after q line failed) (count + 1) first
-visit_by tables items p w q i line None count first at l d s t h =
-    let a = asking items tables in
+    → IsLeft (is_left_with tables) (asking items tables taken) items p w q count first
+    → IsVisit (is_left_with tables) (asking items tables taken) items p w (walk_after taken w q line failed) (packet_after taken q line failed) (count + 1) first
+visit_by tables taken items p w q i line None count first at l d s t h =
+    let a = asking items tables taken in
     let same = is_left_with tables in
     let e = matching_item tables q i (subst (λ (x : Item). filter_holds tables q (filter_of x.what) ≡ true) l.item t.answer) in
     let on = sym (t.first ∙ ap (λ (x : Item). failing_at tables q (filter_of x.what)) l.item) in
     let alone : (y : Place) → same y (here q items w.place i) ≡ false = λ y. none_left tables y (here q items w.place i) on in
     record {
-      left = subst (λ r. IsLeft same a items p (walk_after w q line None) r (count + 1) first) (sym (packet-is tables items w.place i line q l e))
-          (match_cases same tables items p w q i line count first alone at l d e h (is_hit a (here q items w.place i)) (is_quick i.what) refl refl);
-      forward = further items w q i line l (slice_get_within items w.place i at);
+      left = subst (λ r. IsLeft same a items p (walk_after taken w q line None) r (count + 1) first) (sym (packet-is tables taken items w.place i line q l e))
+          (match_cases same tables taken items p w q i line count first alone at l d e h (is_hit a (here q items w.place i)) (ends_at_once a (here q items w.place i)) refl refl);
+      forward = further taken items w q i line l (slice_get_within items w.place i at);
     }
-visit_by tables items p w q i line (Some k) count first at l d s t h =
-    let a = asking items tables in
+visit_by tables taken items p w q i line (Some k) count first at l d s t h =
+    let a = asking items tables taken in
     let same = is_left_with tables in
     let r = skip_of line.skips k in
     let e = subst (λ (x : Item). holds_at tables q k (filter_of x.what) ≡ false) l.item t.answer in
-    let on = skip-on tables q k items w.stop_depth w.place r i (s i at k) at d e in
-    let counts = skip-counts tables q k items w.stop_depth w.place r i (s i at k) at d e (sym (t.first ∙ ap (λ (x : Item). failing_at tables q (filter_of x.what)) l.item)) in
+    let on = skip-on tables taken q k items w.stop_depth w.place r i (s i at k) at d e in
+    let counts = skip-counts tables taken q k items w.stop_depth w.place r i (s i at k) at d e (sym (t.first ∙ ap (λ (x : Item). failing_at tables q (filter_of x.what)) l.item)) in
     record { left = left-skip same a items p w q r count first on counts h; forward = on.forward }
 
-pub visit : (tables : List (List Entry)) (items : List Item) (p : PacketView) (lines : List Line) (w w' : Walk) (q q' : PacketView)
+pub visit : (tables : List (List Entry)) (taken : Taken) (items : List Item) (p : PacketView) (lines : List Line) (w w' : Walk) (q q' : PacketView)
     (tested line : Line) (failed : Option Parameter) (count count' first : ℕ)
     → AreLines items lines → slice_get lines w.place ≡ Some tested → slice_get lines w.place ≡ Some line
-    → w.stop_depth ≤ tested.item.depth → Tells tables q line failed → w' ≡ walk_after w q line failed → q' ≡ packet_after q line failed
-    → count' ≡ count + 1 → IsLeft (is_left_with tables) (asking items tables) items p w q count first
-    → IsVisit (is_left_with tables) (asking items tables) items p w w' q' count' first
-visit tables items p lines w w' q q' tested line failed count count' first a there at deep t ew eq ec h =
+    → w.stop_depth ≤ tested.item.depth → Tells tables q line failed → w' ≡ walk_after taken w q line failed → q' ≡ packet_after taken q line failed
+    → count' ≡ count + 1 → IsLeft (is_left_with tables) (asking items tables taken) items p w q count first
+    → IsVisit (is_left_with tables) (asking items tables taken) items p w w' q' count' first
+visit tables taken items p lines w w' q q' tested line failed count count' first a there at deep t ew eq ec h =
     let i = item_of items lines w.place line a at in
     let d : w.stop_depth ≤ line.item.depth = subst (λ (l : Line). w.stop_depth ≤ l.item.depth) (some_same (sym there ∙ at)) deep in
-    rw (ew, eq, ec) (visit_by tables items p w q i.item line failed count first i.at i.is (omega (arith, d, depth_of i.is)) (a.skips w.place line (omega arith) at) t h)
+    rw (ew, eq, ec) (visit_by tables taken items p w q i.item line failed count first i.at i.is (omega (arith, d, depth_of i.is)) (a.skips w.place line (omega arith) at) t h)
 
 -- ---- the end
 
@@ -284,11 +278,11 @@ nothing_left a items lines w q are (inr k) =
     ap (walked a w.stop_depth) (rest-at a q items w.place i.item i.at)
     ∙ walked-less a w.stop_depth _ _ (omega (arith, k.2, depth_of i.is))
 
-pub walk_end : {tables : List (List Entry)} {p q : PacketView} {items : List Item} {lines : List Line} {w : Walk} {count first : ℕ}
-    → AreLines items lines → IsEnd lines w → IsLeft (is_left_with tables) (asking items tables) items p w q count first
-    → IsFound tables p items w.found q count first
-walk_end {tables} {p} {q} {items} {lines} {w} {count} {first} a ends h =
-    left-end tables items p w q count first (nothing_left (asking items tables) items lines w q a ends) h
+pub walk_end : {tables : List (List Entry)} {taken : Taken} {p q : PacketView} {items : List Item} {lines : List Line} {w : Walk} {count first : ℕ}
+    → AreLines items lines → IsEnd lines w → IsLeft (is_left_with tables) (asking items tables taken) items p w q count first
+    → IsFound tables taken p items w.found q count first
+walk_end {tables} {taken} {p} {q} {items} {lines} {w} {count} {first} a ends h =
+    left-end tables taken items p w q count first (nothing_left (asking items tables taken) items lines w q a ends) h
 
 -- the lines of a book, as a loop reads them, are those of its items, as clauses see them
 pub lines_of : {inside items : List Item} {kept lines : List Line} → AreLines inside kept → inside ≡ items → lines ≡ kept → AreLines items lines

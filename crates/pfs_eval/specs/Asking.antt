@@ -1,10 +1,13 @@
 -- What the rules of a text ask of a packet, and what they make of it.
-use Rattle.std.specs.Prelude.{ℕ, ◌==◌, ◌&&◌, Bool, true, false, Option, Some, None, List}
+use Rattle.std.specs.Prelude.{ℕ, ◌==◌, ◌&&◌, Bool, true, false, Option, Some, None, is_none, unwrap_or, List}
 use Rattle.std.specs.Option.{option_and_then, option_or}
 use Rattle.std.specs.Str.{bytes_eq}
 use Rattle.pfs_addr_values.specs.Packets.{PacketView, came_in_on, with_tag}
 use Rattle.pfs_addr_values.specs.declared.packets.TagNo.{TagNo}
 use Rattle.pfs_conf_values.specs.Configs.{rule_in, tag_named}
+use Rattle.pfs_conf_values.specs.Translations.{no_translation}
+use Rattle.pfs_conf_values.specs.declared.actions.Action.{Action}
+use Rattle.pfs_conf_values.specs.declared.actions.Action.TheVariants as action
 use Rattle.pfs_conf_values.specs.declared.filters.Came.{Came}
 use Rattle.pfs_conf_values.specs.declared.filters.Interface.{Interface}
 use Rattle.pfs_conf_values.specs.declared.filters.Tagged.{Tagged}
@@ -12,8 +15,10 @@ use Rattle.pfs_conf_values.specs.declared.items.Item.{Item}
 use Rattle.pfs_conf_values.specs.declared.items.ItemKind.{ItemKind}
 use Rattle.pfs_conf_values.specs.declared.items.ItemKind.TheVariants as what
 use Rattle.pfs_conf_values.specs.declared.items.Rule.{Rule}
+use Rattle.pfs_conf_values.specs.declared.translations.Translation.{Translation}
 use Rattle.pfs_eval.specs.Entries.{Entry}
 use Rattle.pfs_eval.specs.Matching.{matches_item, turned_if}
+use Rattle.pfs_eval.specs.Translating.{Taken, translated}
 use Rattle.pfs_eval.specs.Verdict.{Asking}
 
 -- ---- the tags of a rule; a tag that no rule gives is not known
@@ -62,11 +67,43 @@ came_to asked p (what.Anchor a) = true
 abbrev pub marked_by : Option TagNo → PacketView → PacketView
 marked_by given p = with_tag p (option_or given p.tag)
 
--- ---- what all items of a text ask, where the tables have these entries
+-- and then, if it is a `match` rule, translates it (pf.conf(5), TRANSLATION)
+abbrev pub by_match : Action → Translation → Translation
+by_match action.Match t = t
+by_match _ t = no_translation
 
-abbrev pub asking : List Item → List (List Entry) → Asking
-asking items tables = record {
+abbrev pub translation_at_once : ItemKind → Translation
+translation_at_once (what.Rule r) = by_match r.action r.translation
+translation_at_once (what.Anchor a) = no_translation
+
+-- so it loses it, where no port is left; then the packet has its tag, and its own addresses
+abbrev pub is_lost_at_once : Taken → Option TagNo → ItemKind → PacketView → Bool
+is_lost_at_once taken given kind p = is_none (translated taken (translation_at_once kind) (marked_by given p))
+
+abbrev pub made_by : Taken → Option TagNo → ItemKind → PacketView → PacketView
+made_by taken given kind p = let q = marked_by given p in unwrap_or (translated taken (translation_at_once kind) q) q
+
+-- ---- what the rule that decides makes of a packet
+
+-- a `pass` rule translates it, a `block` rule leaves it as it is, and a `match` rule decides only where it lost it
+abbrev pub by_decision : Taken → Action → Translation → PacketView → Option PacketView
+by_decision taken action.Match t p = None
+by_decision taken action.Block t p = Some p
+by_decision taken action.Pass t p = translated taken t p
+by_decision taken (action.Keep o) t p = translated taken t p
+
+-- an anchor decides nothing
+abbrev pub decided_by : Taken → ItemKind → PacketView → Option PacketView
+decided_by taken (what.Rule r) p = by_decision taken r.action r.translation p
+decided_by taken (what.Anchor a) p = Some p
+
+-- ---- what all items of a text ask, where the tables have these entries, and states these keys
+
+abbrev pub asking : List Item → List (List Entry) → Taken → Asking
+asking items tables taken = record {
   holds = λ p i. matches_item tables p i;
   came = λ p i. came_to (asked_tag items i.what) p i.what;
-  marked = λ p i. marked_by (given_tag items i.what) p;
+  marked = λ p i. made_by taken (given_tag items i.what) i.what p;
+  lost = λ p i. is_lost_at_once taken (given_tag items i.what) i.what p;
+  passed = λ p i. decided_by taken i.what p;
 }

@@ -11,5 +11,6 @@ pub mod RouteSteps
 pub mod Routing
 pub mod Skips
 pub mod Tables
+pub mod Translating
 pub mod Verdict
 pub mod Visits

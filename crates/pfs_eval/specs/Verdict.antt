@@ -1,6 +1,6 @@
--- Which rule decides on a packet: the path of the items that it is asked of, its cut by `quick`, and the last matching rule before it; and
--- what the rules before it made of the packet.
-use Rattle.std.specs.Prelude.{ℕ, ◌+◌, Bool, true, false, ◌&&◌, ◌||◌, not, nat_lt, nat_le, if◌then◌else◌, Option, Some, None, List, [], ◌∷◌, IsSome, filter, map, slice_get}
+-- Which rule decides on a packet: the path of the items that it is asked of, its cut by `quick`, and the last matching rule before it; what
+-- the rules make of the packet, and which of them loses it.
+use Rattle.std.specs.Prelude.{ℕ, ◌+◌, Bool, true, false, ◌&&◌, ◌||◌, not, nat_lt, nat_le, if◌then◌else◌, Option, Some, None, List, [], ◌∷◌, IsSome, filter, is_none, map, slice_get, unwrap_or}
 use Rattle.std.specs.List.{list_any}
 use Rattle.std.specs.Option.{option_and_then}
 use Rattle.pfs_addr_values.specs.Packets.{PacketView}
@@ -11,11 +11,14 @@ use Rattle.pfs_conf_values.specs.declared.items.ItemKind.{ItemKind}
 use Rattle.pfs_conf_values.specs.declared.items.ItemKind.TheVariants.{Rule, Anchor}
 
 -- All that follows is over these: whether what an item asks in its filter holds of a packet; whether what it asks of how the packet came
--- does; and the packet as it is behind an item that matches it.
+-- does; the packet as it is behind an item that matches it; whether such an item loses the packet at once; and the packet as it is behind the
+-- rule that decided on it, if that rule does not lose it.
 pub record Asking : Type 0 where
   pub holds : PacketView → Item → Bool
   pub came : PacketView → Item → Bool
   pub marked : PacketView → Item → PacketView
+  pub lost : PacketView → Item → Bool
+  pub passed : PacketView → Item → Option PacketView
 
 -- whether it has `quick`
 abbrev pub is_quick : ItemKind → Bool
@@ -27,7 +30,7 @@ abbrev pub can_decide : ItemKind → Bool
 can_decide (Rule r) = not (is_match r.action)
 can_decide (Anchor a) = false
 
--- ---- the path (pf.conf(5), ANCHORS; a `match` rule, and a tag, has effect at once)
+-- ---- the path (pf.conf(5), ANCHORS; a `match` rule, its translation, and a tag have effect at once)
 
 -- a rule matches a packet
 abbrev pub matches_rule : Asking → PacketView → Item → Bool
@@ -75,19 +78,23 @@ path a p items = path_from a p None [] 0 items
 
 -- ---- the cut (pf.conf(5), PACKET FILTERING, "quick"; ANCHORS)
 
--- a rule that decides, if none behind it does, is at this place
+-- a rule that decides, if none behind it does, is at this place: one that matches, and can decide or loses the packet
 abbrev pub is_hit : Asking → Place → Bool
-is_hit a x = matches_rule a x.packet x.item && can_decide x.item.what
+is_hit a x = matches_rule a x.packet x.item && (can_decide x.item.what || a.lost x.packet x.item)
 
--- the rule at r, where it matches, ends the evaluation before x: it is quick, or a quick anchor around it is left at x
-abbrev pub ends_before : Place → Place → Bool
-ends_before x r = is_quick r.item.what || list_any (λ (a : Item). is_quick a.what && nat_le x.item.depth a.depth) r.around
+-- such a rule ends the evaluation at once: it is quick, or it loses the packet
+abbrev pub ends_at_once : Asking → Place → Bool
+ends_at_once a x = is_quick x.item.what || a.lost x.packet x.item
 
--- the places up to the first one before which a matching rule ends the evaluation. seen: those in front
+-- the rule at r, where it decides, ends the evaluation before x: it does so at once, or a quick anchor around it is left at x
+abbrev pub ends_before : Asking → Place → Place → Bool
+ends_before a x r = ends_at_once a r || list_any (λ (i : Item). is_quick i.what && nat_le x.item.depth i.depth) r.around
+
+-- the places up to the first one before which a rule ends the evaluation. seen: those in front
 abbrev pub cut_from : Asking → List Place → List Place → List Place
 cut_from a seen [] = []
 cut_from a seen (x ∷ rest) =
-    if list_any (λ (r : Place). is_hit a r && ends_before x r) seen then [] else x ∷ cut_from a (x ∷ seen) rest
+    if list_any (λ (r : Place). is_hit a r && ends_before a x r) seen then [] else x ∷ cut_from a (x ∷ seen) rest
 
 -- the path before its cut: what the packet is compared with
 abbrev pub cut : Asking → PacketView → List Item → List Place
@@ -100,7 +107,7 @@ abbrev pub last_or : Option ℕ → List ℕ → Option ℕ
 last_or found [] = found
 last_or found (n ∷ ns) = last_or (Some n) ns
 
--- the number of the last rule before the cut that matches and can decide, or none
+-- the number of the last rule before the cut that decides, or none
 unfoldable pub verdict : Asking → PacketView → List Item → Option ℕ
 verdict a p items = last_or None (map (λ (x : Place). x.no) (filter (is_hit a) (cut a p items)))
 
@@ -110,8 +117,25 @@ behind_all a p [] = p
 behind_all a p (x ∷ xs) = behind_all a (packet_past a x.packet x.item) xs
 
 -- the packet as the rules before the cut leave it
+unfoldable pub packet_at_cut : Asking → PacketView → List Item → PacketView
+packet_at_cut a p items = behind_all a p (cut a p items)
+
+-- the rule that decides
+abbrev pub decider : Asking → PacketView → List Item → Option Item
+decider a p items = option_and_then (slice_get items) (verdict a p items)
+
+-- a packet behind the rule that decides on it, if one does and it does not lose it (a `pass` rule translates when it has decided)
+abbrev pub passed_by : Asking → PacketView → Option Item → Option PacketView
+passed_by a q None = Some q
+passed_by a q (Some i) = a.passed q i
+
+-- the packet as the rules leave it: behind the rule that decides, or as it was when that lost it
 unfoldable pub packet_behind : Asking → PacketView → List Item → PacketView
-packet_behind a p items = behind_all a p (cut a p items)
+packet_behind a p items = let q = packet_at_cut a p items in unwrap_or (passed_by a q (decider a p items)) q
+
+-- the number of the rule that loses the packet, if one does: it decides
+unfoldable pub lost_by : Asking → PacketView → List Item → Option ℕ
+lost_by a p items = if is_none (passed_by a (packet_at_cut a p items) (decider a p items)) then verdict a p items else None
 
 -- the item of this number is a rule
 abbrev pub IsRuleAt : List Item → ℕ → Type 0

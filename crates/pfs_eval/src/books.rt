@@ -1,17 +1,20 @@
 //! The book of a configuration's rules, and what they make of a packet.
 
-ghost use Rattle.std.specs.Prelude.{◌≡◌, ◌+◌, ◌-◌, ◌≤◌, ◌<◌, ◌^◌, All, IfOk, IfSome, length, option_map};
+ghost use Rattle.std.specs.Prelude.{◌≡◌, ◌+◌, ◌-◌, ◌≤◌, ◌<◌, ◌^◌, All, None, IfOk, IfSome, if◌then◌else◌, is_some, length, option_map, slice_get, unwrap_or};
+ghost use Rattle.std.specs.Option.{option_and_then};
 ghost use Rattle.pfs_conf_values.specs.Order.{IsPreorder};
-ghost use Rattle.pfs_eval.specs.Asking.{asking};
-ghost use Rattle.pfs_eval.specs.Verdict.{IsRuleAt, cut, packet_behind, verdict};
+ghost use Rattle.pfs_eval.specs.Asking.{asking, decided_by};
+ghost use Rattle.pfs_eval.specs.Lines.{passed_at};
+ghost use Rattle.pfs_eval.specs.Verdict.{IsRuleAt, cut, lost_by, packet_at_cut, packet_behind, verdict};
 ghost use Rattle.pfs_eval.specs.Visits.{visit_bound, visit_floor, visits_of};
 
 use crate::comparing::failing;
 use crate::lines::{Line, lines};
 use crate::tables::Tables;
+use crate::translating::{Sides, translate};
 use crate::walks::Walk;
 use pfs_addr_values::{Meter, NoMemory, Packet};
-use pfs_conf_values::{Config, RuleNo};
+use pfs_conf_values::{Action, Config, ItemKind, RuleNo};
 use std::alloc::Global;
 use std::marker::Model;
 
@@ -39,8 +42,10 @@ impl Model for Book {
 pub struct Decision {
     /// The rule that decides, if one does.
     pub rule: Option<RuleNo>,
-    /// The packet as the rules leave it: with the tag of the last rule that matched and gives one.
+    /// The packet as the rules leave it: with the tag of the last rule that matched and gives one, and translated.
     pub packet: Packet,
+    /// The rule that loses the packet, if one does: it is the one that decides, and its `nat-to` finds no port.
+    pub lost: Option<RuleNo>,
 }
 
 impl Book {
@@ -60,39 +65,72 @@ impl Book {
     /// A rule matches a packet if its filter holds, and what it asks of how the packet came: `tagged`, of the tag that the packet has by
     /// then, and `received-on`. One that matches and has a `tag` gives it to the packet at once, whether or not it decides.
     ///
+    /// A `match` rule that matches translates the packet at once, so that the rules behind it see what it made; a `pass` rule does where
+    /// it has decided. Where `nat-to` finds no port whose key is not taken, the packet is lost: its rule decides, and ends the
+    /// evaluation.
+    ///
     /// An item that fails on a parameter is left behind together with those after it, in the same body, that ask the same
     /// there. With one that `tagged` or `received-on` alone does not hold of, none is left behind.
     ///
     /// The meter rises by one for each item that is compared with the packet, which are all before the end but those left
     /// behind: at most by the number of main items and of the direct items of each anchor that matches before the end, at
-    /// least by the number of items before it whose filter holds. It takes no memory. (pf.conf(5), PACKET FILTERING, PARAMETERS and
-    /// ANCHORS; the visits are own to this profile)
+    /// least by the number of items before it whose filter holds. It takes no memory. (pf.conf(5), PACKET FILTERING, PARAMETERS,
+    /// ANCHORS and TRANSLATION; the visits are own to this profile)
     #[tactic(auto, using(crate::proofs::Bounds::bounds))]
-    pub fn decide(&self, tables: &Tables, packet: &Packet, meter: &mut Meter) -> Decision
+    pub fn decide<S: Sides>(
+        &self,
+        tables: &Tables,
+        sides: &S,
+        packet: &Packet,
+        meter: &mut Meter,
+    ) -> Decision
         requires { meter.old ≤ 2 ^ 63 }
-        ensures verdict { option_map (λ r. r.0) result.rule ≡ verdict (asking self.now tables.now.entries) packet.now self.now }
-        ensures packet { result.packet ≡ packet_behind (asking self.now tables.now.entries) packet.now self.now }
+        ensures verdict { option_map (λ r. r.0) result.rule ≡ verdict (asking self.now tables.now.entries (S.taken sides.now)) packet.now self.now }
+        ensures packet { result.packet ≡ packet_behind (asking self.now tables.now.entries (S.taken sides.now)) packet.now self.now }
+        ensures lost { option_map (λ r. r.0) result.lost ≡ lost_by (asking self.now tables.now.entries (S.taken sides.now)) packet.now self.now }
         ensures rule { IfSome result.rule (λ r. IsRuleAt self.now r.0) }
-        ensures visits { meter.new ≡ meter.old + visits_of tables.now.entries packet.now self.now }
-        ensures least { meter.old + visit_floor (asking self.now tables.now.entries) packet.now self.now ≤ meter.new }
-        ensures most { meter.new ≤ meter.old + visit_bound (asking self.now tables.now.entries) packet.now self.now }
+        ensures visits { meter.new ≡ meter.old + visits_of tables.now.entries (S.taken sides.now) packet.now self.now }
+        ensures least { meter.old + visit_floor (asking self.now tables.now.entries (S.taken sides.now)) packet.now self.now ≤ meter.new }
+        ensures most { meter.new ≤ meter.old + visit_bound (asking self.now tables.now.entries (S.taken sides.now)) packet.now self.now }
     {
         let mut seen = *packet;
-        let found = self.walk(tables, &mut seen, meter);
+        let found = self.walk(tables, sides, &mut seen, meter);
+        let passed = self.pass(found, sides, &mut seen);
         Decision {
             rule: rule_no(found),
             packet: seen,
+            lost: rule_lost(found, passed),
         }
     }
 
-    /// The place of the rule that decides. The packet becomes what the rules make of it.
-    fn walk(&self, tables: &Tables, packet: &mut Packet, meter: &mut Meter) -> Option<u32>
+    /// Makes of a packet what the rule at this place makes of it, where it decides. The answer is whether it goes on.
+    fn pass<S: Sides>(&self, found: Option<u32>, sides: &S, packet: &mut Packet) -> bool
+        ensures goes_on { result ≡ is_some (passed_at (S.taken sides.now) packet.old (option_and_then (slice_get self.now) found)) }
+        ensures packet { packet.new ≡ unwrap_or (passed_at (S.taken sides.now) packet.old (option_and_then (slice_get self.now) found)) packet.old }
+    {
+        let Some(place) = found else {
+            return true;
+        };
+        match self.lines.get(place as usize) {
+            Some(line) => passes(&line.item.what, sides, packet),
+            None => true,
+        }
+    }
+
+    /// The place of the rule that decides. The packet becomes what the rules before that made of it.
+    fn walk<S: Sides>(
+        &self,
+        tables: &Tables,
+        sides: &S,
+        packet: &mut Packet,
+        meter: &mut Meter,
+    ) -> Option<u32>
         requires { meter.old ≤ 2 ^ 63 }
-        ensures verdict { result ≡ verdict (asking self.now tables.now.entries) packet.old self.now }
-        ensures packet { packet.new ≡ packet_behind (asking self.now tables.now.entries) packet.old self.now }
-        ensures visits { meter.new ≡ meter.old + visits_of tables.now.entries packet.old self.now }
-        ensures least { meter.old + visit_floor (asking self.now tables.now.entries) packet.old self.now ≤ meter.new }
-        ensures most { meter.new ≤ meter.old + length (cut (asking self.now tables.now.entries) packet.old self.now) }
+        ensures verdict { result ≡ verdict (asking self.now tables.now.entries (S.taken sides.now)) packet.old self.now }
+        ensures packet { packet.new ≡ packet_at_cut (asking self.now tables.now.entries (S.taken sides.now)) packet.old self.now }
+        ensures visits { meter.new ≡ meter.old + visits_of tables.now.entries (S.taken sides.now) packet.old self.now }
+        ensures least { meter.old + visit_floor (asking self.now tables.now.entries (S.taken sides.now)) packet.old self.now ≤ meter.new }
+        ensures most { meter.new ≤ meter.old + length (cut (asking self.now tables.now.entries (S.taken sides.now)) packet.old self.now) }
         ensures preorder { IsPreorder 0 self.now }
     {
         let lines = self.lines.as_slice();
@@ -106,10 +144,33 @@ impl Book {
         {
             let line = &lines[walk.place as usize];
             let failed = failing(&line.item.what, tables, packet, meter);
-            walk = walk.on(line, failed, packet);
+            walk = walk.on(line, failed, sides, packet);
         }
         walk.found
     }
+}
+
+/// Makes of a packet what an item makes of it that decides: a `pass` rule translates it. The answer is whether it goes on: a `match` rule
+/// decides only where it lost it.
+fn passes<S: Sides>(what: &ItemKind, sides: &S, packet: &mut Packet) -> bool
+    ensures goes_on { result ≡ is_some (decided_by (S.taken sides.now) what.now packet.old) }
+    ensures packet { packet.new ≡ unwrap_or (decided_by (S.taken sides.now) what.now packet.old) packet.old }
+{
+    match what {
+        ItemKind::Rule(rule) => match &rule.action {
+            Action::Match => false,
+            Action::Block => true,
+            Action::Pass | Action::Keep(_) => translate(&rule.translation, sides, packet),
+        },
+        ItemKind::Anchor(_) => true,
+    }
+}
+
+/// The number of the rule that loses a packet, where it does not go on.
+fn rule_lost(found: Option<u32>, goes_on: bool) -> Option<RuleNo>
+    ensures { option_map (λ r. r.0) result ≡ (if goes_on then None else found) }
+{
+    if goes_on { None } else { rule_no(found) }
 }
 
 fn rule_no(found: Option<u32>) -> Option<RuleNo>

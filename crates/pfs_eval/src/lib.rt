@@ -10,9 +10,11 @@ mod lines;
 mod routing;
 mod skips;
 mod tables;
+mod translating;
 mod walks;
 
 pub use books::{Book, Decision};
 pub use entries::{Mark, TableEntry};
 pub use routing::interface_to;
 pub use tables::{Added, Entered, Tables};
+pub use translating::{NoSides, Sides};

@@ -23,8 +23,8 @@ use std::alloc::{AllocError, Global};
 pub struct Line {
     /// Where a walk goes on if one of the item's parameters fails.
     pub skips: Skips,
-    /// Where a walk goes on if the item is a rule that matches and can decide: at the next item, or after the last one where it is
-    /// quick.
+    /// Where a walk goes on if the item is a rule that matches and decides: at the next item, or after the last one where it is quick, or
+    /// a `match` rule, which decides only where it loses the packet.
     pub next: u32,
     /// If it is such a rule, the walk ends at the first item of lesser depth than this: one more than the depth of the innermost
     /// quick anchor around the item, or 0 if none is quick.
@@ -149,13 +149,13 @@ fn tag_asked(config: &Config, tagged: &Option<Tagged>) -> Option<TagNo>
     }
 }
 
-/// Where a walk goes on after a rule that decides.
+/// Where a walk goes on after a rule that decides: a quick one ends it, and a `match` rule, which lost the packet.
 fn next_place(config: &Config, place: u32, what: &ItemKind) -> u32
     requires { place < length config.now.items }
     ensures { result ≡ next_place config.now.items place what.now }
 {
     let count = config.item_count();
-    if is_rule(what) && is_quick(what) {
+    if is_rule(what) && (is_quick(what) || !can_decide(what)) {
         count
     } else {
         place + 1

@@ -6,10 +6,10 @@ use Rattle.pfs_eval.proofs.Visiting.{IsLeft}
 use Rattle.pfs_eval.proofs.books.Book.walk.Given as goal
 
 abbrev pub invariant-loop-walk : goal.invariant-loop-walk
-invariant-loop-walk l = record {
-  left : IsLeft (is_left_with l.tables.entries) (asking l.self l.tables.entries) l.self l.fn.packet l.walk l.packet l.meter l.fn.meter;
+invariant-loop-walk g l = record {
+  left : IsLeft (is_left_with l.tables.entries) (asking l.self l.tables.entries (g.S.Sides.taken l.sides)) l.self l.fn.packet l.walk l.packet l.meter l.fn.meter;
   few : l.meter ≤ l.fn.meter + l.walk.place;
 }
 
 abbrev pub decreases-loop-walk : goal.decreases-loop-walk
-decreases-loop-walk l = length l.lines - l.walk.place
+decreases-loop-walk g l = length l.lines - l.walk.place
