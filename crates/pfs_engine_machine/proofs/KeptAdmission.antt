@@ -253,6 +253,7 @@ source_first conf number rule now p going cookie = by p.dir
 
 -- a packet goes on from the rules in its own direction and protocol, and where none translates under its own key
 pub record IsLedOn (conf : Conf) (p going : PacketView) : Type 0 where
+  pub dir : going.dir ≡ p.dir
   pub proto : going.proto ≡ p.proto
   pub key : translates conf ≡ false → key_of going ≡ key_of p
 

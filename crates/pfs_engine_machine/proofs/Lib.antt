@@ -11,11 +11,12 @@ pub mod GuardTurns
 mod Hearing
 mod HeldNumbers
 mod Histories
-mod KeptAdmission
+pub mod KeptAdmission
 pub mod KeptHandshakes
 pub mod KeptPackets
 pub mod KeptTime
 mod Keys
+pub mod Leading
 mod Limits
 mod Lists
 pub mod Numbers
