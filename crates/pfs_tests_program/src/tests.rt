@@ -18,5 +18,6 @@ mod synproxies;
 mod tags;
 mod tallies;
 mod traces;
+mod translations;
 mod verdicts;
 mod words;
