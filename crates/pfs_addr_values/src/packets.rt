@@ -288,7 +288,8 @@ impl Packet {
 
     /// The port that sends the packet, 0 where the protocol has no ports.
     pub fn sport(&self) -> u16
-        ensures { result ≡ self.now.source.port }
+        ensures value { result ≡ self.now.source.port }
+        ensures portless { has_ports self.now.proto ≡ false → result ≡ 0 }
     {
         self.source.port
     }
@@ -302,7 +303,8 @@ impl Packet {
 
     /// The port to which the packet goes, 0 where the protocol has no ports.
     pub fn dport(&self) -> u16
-        ensures { result ≡ self.now.destination.port }
+        ensures value { result ≡ self.now.destination.port }
+        ensures portless { has_ports self.now.proto ≡ false → result ≡ 0 }
     {
         self.destination.port
     }

@@ -1,5 +1,5 @@
 -- What a rule translates, and the family of its addresses. (pf.conf(5), TRANSLATION)
-use Rattle.std.specs.Prelude.{ℕ, ◌&&◌, ◌||◌, Bool, true, false, Option, Some, None, is_some, is_none}
+use Rattle.std.specs.Prelude.{◌&&◌, ◌||◌, Bool, true, false, Option, Some, None, is_some, is_none}
 use Rattle.std.specs.Option.{option_or}
 use Rattle.pfs_addr_values.specs.declared.addresses.Addr.{Addr}
 use Rattle.pfs_addr_values.specs.declared.addresses.Addr.TheVariants.{V4, V6}

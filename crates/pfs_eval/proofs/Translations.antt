@@ -1,5 +1,5 @@
 -- What translates nothing, which items lose a packet, and the least port that is free.
-use Rattle.std.proofs.Common.{◌≡◌, ℕ, Bool, true, false, ◌&&◌, ◌||◌, not, cond, Option, Some, None, is_none, is_some, List, ◌∷◌, length, ◌+◌, ◌-◌, ◌<◌, suc, refl, ap, ◌∙◌, arith}
+use Rattle.std.proofs.Common.{◌≡◌, ℕ, Bool, true, false, ◌&&◌, ◌||◌, not, Option, Some, None, is_none, is_some, List, ◌∷◌, length, ◌+◌, ◌-◌, ◌<◌, suc, refl, ap, ◌∙◌, arith}
 use Rattle.std.specs.List.{find, range_with_len}
 use Rattle.std.proofs.lemmas.Bool.{cond-true, cond-false}
 use Rattle.pfs_addr_values.specs.Packets.{PacketView}

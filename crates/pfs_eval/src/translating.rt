@@ -1,6 +1,6 @@
 //! What the translation of a rule makes of a packet.
 
-ghost use Rattle.std.specs.Prelude.{◌≡◌, ◌<◌, ◌^◌, Bool, false, true, is_some, not, unwrap_or};
+ghost use Rattle.std.specs.Prelude.{◌≡◌, ◌<◌, ◌^◌, Bool, IfSome, false, true, is_some, not, unwrap_or};
 ghost use Rattle.std.specs.List.{find};
 ghost use Rattle.pfs_addr_values.specs.Protocols.{has_ports};
 ghost use Rattle.pfs_addr_values.specs.declared.packets.Dir.{Dir};
@@ -90,6 +90,7 @@ fn is_behind(nat_to: &NatTo, packet: &Packet) -> bool
 /// The port of the source behind `nat-to`.
 fn nat_port<S: Sides>(nat_to: &NatTo, sides: &S, packet: &Packet) -> Option<u16>
     ensures port { result ≡ nat_port (S.taken sides.now) nat_to.now packet.now }
+    ensures portless { has_ports packet.now.proto ≡ false → IfSome result (λ p. p ≡ 0) }
 {
     if !packet.proto().has_ports() {
         return Some(packet.sport());
@@ -148,6 +149,7 @@ fn rdr(rdr_to: &Option<RdrTo>, packet: &Packet) -> Packet
 /// The port of the destination behind `rdr-to`.
 fn rdr_port(rdr_to: &RdrTo, packet: &Packet) -> u16
     ensures port { result ≡ rdr_port rdr_to.now packet.now }
+    ensures portless { has_ports packet.now.proto ≡ false → result ≡ 0 }
 {
     if packet.proto().has_ports() {
         rdr_to.port.unwrap_or(packet.dport())

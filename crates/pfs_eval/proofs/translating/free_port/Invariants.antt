@@ -6,5 +6,5 @@ use Rattle.pfs_eval.proofs.translating.free_port.Given as goal
 
 abbrev pub invariant-loop-port : goal.invariant-loop-port
 invariant-loop-port g l =
-    find (λ port. not (is_taken_at (g.S.Sides.taken l.sides) l.packet l.addr port)) (range_with_len l.port (l.ports.high + 1 - l.port))
-    ≡ find (λ port. not (is_taken_at (g.S.Sides.taken l.sides) l.packet l.addr port)) (ports_in l.ports)
+    find (λ port. not (is_taken_at (g.S.Sides.taken l.sides) l.packet l.addr port)) (range_with_len l.port (l.fn.ports.high + 1 - l.port))
+    ≡ find (λ port. not (is_taken_at (g.S.Sides.taken l.sides) l.packet l.addr port)) (ports_in l.fn.ports)

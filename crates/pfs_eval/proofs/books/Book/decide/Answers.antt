@@ -2,7 +2,7 @@
 use Rattle.std.proofs.Common.{◌∙◌}
 use Rattle.pfs_eval.specs.Asking.{asking}
 use Rattle.pfs_eval.specs.Verdict.{IsRuleAt}
-use Rattle.pfs_eval.proofs.Deciding.{IsDecided, behind-is, lost-is, of-number, verdict-rule}
+use Rattle.pfs_eval.proofs.Deciding.{behind-is, lost-is, of-number, verdict-rule}
 use Rattle.pfs_eval.proofs.books.Book.decide.Goals as goal
 
 pub returns-clause-rule : goal.returns-clause-rule
