@@ -18,8 +18,8 @@ use Rattle.pfs_conf_values.specs.declared.limits.LimitName.TheVariants as limit_
 use Rattle.pfs_store_contract.proofs.MomentLaws.{left-up_to_now, world_touched-up_to_now}
 use Rattle.pfs_store_contract.specs.Counts.{has_node, is_of_node, is_of_rule, node_connections, node_scope_of, node_states, rule_states, scope_nodes}
 use Rattle.pfs_store_contract.specs.Handshakes.{flush_of, hits_connections, hits_rate, stays_at_kill}
-use Rattle.pfs_store_contract.specs.Leaving.{world_without}
-use Rattle.pfs_store_contract.specs.Touching.{completes_at, is_asking, is_taken, goes_forward, nodes_touched, numbered_state_after, world_after_touch}
+use Rattle.pfs_store_contract.specs.Leaving.{world_without, end_on, sent_on_side}
+use Rattle.pfs_store_contract.specs.Touching.{completes_at, is_asking, is_taken, goes_forward, nodes_touched, numbered_state_after, world_after_touch, state_after_packet}
 use Rattle.pfs_store_contract.specs.Worlds.{IsUpToNow, World, inner_key}
 use Rattle.pfs_store_contract.specs.declared.records.Node.{Node}
 use Rattle.pfs_store_contract.specs.declared.records.NodeScope.{NodeScope}
@@ -39,6 +39,8 @@ use Rattle.pfs_engine_machine.proofs.Keys.{keys-filter, keys-map, found-by}
 use Rattle.pfs_engine_machine.proofs.KeptTime.{within_less}
 use Rattle.pfs_engine_machine.proofs.Numbers.{Rise-alone, Rise-filter, Rise-map}
 use Rattle.pfs_engine_machine.proofs.Renewals.{is_tcp-completes, renewed-phase, renewed-same}
+use Rattle.pfs_addr_values.specs.declared.packets.Dir.{Dir}
+use Rattle.pfs_addr_values.specs.declared.packets.Dir.TheVariants as dir
 
 -- what a machine keeps while a handshake is looked at: all but that connections are within `max-src-conn`
 record IsKeptBut (conf : Conf) (m : Held) (now : ℕ) : Type 0 where
@@ -102,10 +104,22 @@ renewed-of_node : (conf : Conf) (scope : NodeScope) (source : Addr) (number : �
 renewed-of_node conf scope source number p now s = let same = renewed-same number p now s in rw (same.rule, same.source)
 
 renewed-source : (number : ℕ) (p : PacketView) (now : ℕ) (s : State) → HasSource s → HasSource (numbered_state_after number p now s)
-renewed-source number p now s h = let same = renewed-same number p now s in rw (same.dir, same.key, same.inner, same.source) h
+renewed-source number p now s h = go (s.number == number)
+  where
+    by : (d : Dir) → (end_on d (sent_on_side d s)).addr ≡ s.source → (end_on d (sent_on_side d (state_after_packet p now s))).addr ≡ s.source
+    by dir.In k = k
+    by dir.Out k = k
+
+    go : (b : Bool) → HasSource (if b then state_after_packet p now s else s)
+    go true = by s.dir h
+    go false = h
 
 renewed-inner : (number : ℕ) (p : PacketView) (now : ℕ) (s : State) → inner_key (numbered_state_after number p now s) ≡ inner_key s
-renewed-inner number p now s = let same = renewed-same number p now s in rw (same.inner, same.key) refl
+renewed-inner number p now s = go (s.number == number)
+  where
+    go : (b : Bool) → inner_key (if b then state_after_packet p now s else s) ≡ inner_key s
+    go true = refl
+    go false = refl
 
 kept_but_touched : (conf : Conf) (m : Held) (p : PacketView) (now : ℕ) (s : State) → IsKept conf m now
     → IsKeptBut conf (held_of (world_after_touch conf m.world s p now) m.tables) now

@@ -49,22 +49,27 @@ on-path : (a : Asking) (P : PacketView → Type 0) (R : Item → Type 0) → Are
     → AllByRecursion R items → P q → AllByRecursion (IsKeptAt P R) (path_from a q hidden before n items)
 unfolding path_from
 on-path a P R k q hidden before n [] all h = tt
-on-path a P R k q hidden before n (i ∷ rest) all h = by (is_shown hidden i.depth)
+on-path a P R k q hidden before n (i ∷ rest) all h =
+    by (is_shown hidden i.depth)
+    (on-path a P R k (packet_past a q i) (hides (a.holds q i) i.depth) (i ∷ before) (n + 1) rest all.1 (past a P R k q i all.0 h))
+    (on-path a P R k q hidden (i ∷ before) (n + 1) rest all.1 h)
   where
-    by : (b : Bool) → AllByRecursion (IsKeptAt P R) (if b
-        then record { no = n; item = i; packet = q; around = enclosing i.depth before; after = rest }
-        ∷ path_from a (packet_past a q i) (hides (a.holds q i) i.depth) (i ∷ before) (n + 1) rest
-        else path_from a q hidden (i ∷ before) (n + 1) rest)
-    by true = ((h, all.0), on-path a P R k (packet_past a q i) (hides (a.holds q i) i.depth) (i ∷ before) (n + 1) rest all.1 (past a P R k q i all.0 h))
-    by false = on-path a P R k q hidden (i ∷ before) (n + 1) rest all.1 h
+    shown hidden_too : List Place
+    shown = path_from a (packet_past a q i) (hides (a.holds q i) i.depth) (i ∷ before) (n + 1) rest
+    hidden_too = path_from a q hidden (i ∷ before) (n + 1) rest
+
+    by : (b : Bool) → AllByRecursion (IsKeptAt P R) shown → AllByRecursion (IsKeptAt P R) hidden_too
+        → AllByRecursion (IsKeptAt P R) (if b then record { no = n; item = i; packet = q; around = enclosing i.depth before; after = rest } ∷ shown else hidden_too)
+    by true there elsewhere = ((h, all.0), there)
+    by false there elsewhere = elsewhere
 
 on-cut : (a : Asking) (Q : Place → Type 0) (seen xs : List Place) → AllByRecursion Q xs → AllByRecursion Q (cut_from a seen xs)
 on-cut a Q seen [] all = tt
-on-cut a Q seen (x ∷ rest) all = by (list_any (λ (r : Place). is_hit a r && ends_before a x r) seen)
+on-cut a Q seen (x ∷ rest) all = by (list_any (λ (r : Place). is_hit a r && ends_before a x r) seen) (on-cut a Q (x ∷ seen) rest all.1)
   where
-    by : (b : Bool) → AllByRecursion Q (if b then [] else x ∷ cut_from a (x ∷ seen) rest)
-    by true = tt
-    by false = (all.0, on-cut a Q (x ∷ seen) rest all.1)
+    by : (b : Bool) → AllByRecursion Q (cut_from a (x ∷ seen) rest) → AllByRecursion Q (if b then [] else x ∷ cut_from a (x ∷ seen) rest)
+    by true more = tt
+    by false more = (all.0, more)
 
 behind : (a : Asking) (P : PacketView → Type 0) (R : Item → Type 0) → AreKept a P R → (q : PacketView) (xs : List Place) → P q → AllByRecursion (IsKeptAt P R) xs
     → P (behind_all a q xs)
@@ -114,13 +119,13 @@ unfolding nat_by
 nat-alike taken None p q m e h = let same : q ≡ m = cc in same-alike p q m same h
 nat-alike taken (Some n) p q m e h = by (is_behind n q) e
   where
-    port : (o : Option ℕ) → option_map (sent_from q n.addr) o ≡ Some m → IsAlike p m
-    port None e = cc
-    port (Some port) e = let same : sent_from q n.addr port ≡ m = cc in same-alike p (sent_from q n.addr port) m same h
+    from : (o : Option ℕ) → option_map (sent_from q n.addr) o ≡ Some m → IsAlike p m
+    from None e = cc
+    from (Some port) e = let same : sent_from q n.addr port ≡ m = cc in same-alike p (sent_from q n.addr port) m same h
 
     by : (b : Bool) → (if b then Some q else option_map (sent_from q n.addr) (nat_port taken n q)) ≡ Some m → IsAlike p m
     by true e = let same : q ≡ m = cc in same-alike p q m same h
-    by false e = port (nat_port taken n q) e
+    by false e = from (nat_port taken n q) e
 
 rdr-alike : (r : Option RdrTo) (p q : PacketView) → IsAlike p q → IsAlike p (rdr_by r q)
 unfolding rdr_by
@@ -177,11 +182,14 @@ IsUntranslating i = translates_in (rule_in i.what) ≡ false
 
 each-untranslating : (items : List Item) → list_any (λ (i : Item). translates_in (rule_in i.what)) items ≡ false → AllByRecursion IsUntranslating items
 each-untranslating [] h = tt
-each-untranslating (i ∷ is) h = by (translates_in (rule_in i.what)) refl h
+each-untranslating (i ∷ is) h = by (translates_in (rule_in i.what)) refl h (each-untranslating is)
   where
-    by : (b : Bool) → translates_in (rule_in i.what) ≡ b → (b || list_any (λ (j : Item). translates_in (rule_in j.what)) is) ≡ false → AllByRecursion IsUntranslating (i ∷ is)
-    by true e h = absurd cc
-    by false e h = (e, each-untranslating is h)
+    some : Bool
+    some = list_any (λ (j : Item). translates_in (rule_in j.what)) is
+
+    by : (b : Bool) → translates_in (rule_in i.what) ≡ b → (b || some) ≡ false → (some ≡ false → AllByRecursion IsUntranslating is) → AllByRecursion IsUntranslating (i ∷ is)
+    by true e h rest = absurd cc
+    by false e h rest = (e, rest h)
 
 key-marked : (given : Option TagNo) (q : PacketView) → key_of (marked_by given q) ≡ key_of q
 key-marked given q = by q.dir

@@ -1,5 +1,5 @@
 -- What a packet may do to what is held: nothing, make a state, leave a node at a refusal, renew a state, and kill some.
-use Rattle.std.proofs.Common.{◌≡◌, ◌∙◌, ℕ, Bool, if◌then◌else◌, Option, Some, None, refl, subst, sym}
+use Rattle.std.proofs.Common.{◌≡◌, ◌∙◌, ℕ, Bool, true, if◌then◌else◌, Option, Some, None, refl, subst, sym}
 use Rattle.pfs_addr_values.specs.Packets.{PacketView}
 use Rattle.pfs_conf_values.specs.Configs.{Conf, options_of}
 use Rattle.pfs_store_contract.specs.Admission.{world_after_admission, world_after_refusal}

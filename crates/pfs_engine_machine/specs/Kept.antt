@@ -1,6 +1,6 @@
 -- What every machine keeps: the limits, and each rule and source its maxima. (pf.conf(5), OPTIONS, "set limit", and STATEFUL
 -- TRACKING OPTIONS)
-use Rattle.std.specs.Prelude.{ℕ, ◌≡◌, ◌≤◌, ◌<◌, true, false, Option, Some, List, [], ◌∷◌, All, length, unwrap_or}
+use Rattle.std.specs.Prelude.{ℕ, ◌≡◌, ◌≤◌, ◌<◌, true, false, Option, Some, List, [], ◌∷◌, All, length, unwrap_or, None}
 use Rattle.std.specs.List.{AllByRecursion}
 use Rattle.std.specs.Option.{ForSome}
 use Rattle.pfs_addr_values.specs.Sameness.{same_key}
