@@ -31,10 +31,11 @@ use Rattle.pfs_track.specs.Scores.{score_after}
 use Rattle.pfs_track.specs.declared.scores.Score.{Score}
 use Rattle.pfs_engine_machine.proofs.Counts.{any-map, count-map}
 use Rattle.pfs_engine_machine.specs.Kept.{TracksAlone, own_scope}
-use Rattle.pfs_engine_machine.specs.Sides.{state_for}
+use Rattle.pfs_engine_machine.specs.Sides.{state_for, met_key}
 use Rattle.pfs_engine_machine.proofs.Lists.{both, count-found, each-map}
 use Rattle.pfs_store_contract.proofs.ScopeLaws.{same_scope_true}
 use Rattle.pfs_engine_machine.proofs.Remembering.{IsKnown, Knows, Remembers}
+use Rattle.pfs_engine_machine.proofs.Keys.{found-by}
 
 -- ---- a rule with a rate
 
@@ -174,7 +175,8 @@ states-touched conf scope source number p now ss = count-map (is_of_node conf sc
 -- a state that is found is counted
 pub found-count : (conf : Conf) (rule : ℕ) (source : Addr) (p : PacketView) (w : World) (s : State) → state_for w p ≡ Some s → is_of rule source s ≡ true
     → 0 < node_states conf (own_scope rule) source w.states
-found-count conf rule source p w s e f = count-found (λ (t : State). same_key t.key (key_of p)) (is_of_node conf (own_scope rule) source) s w.states e f
+found-count conf rule source p w s e f =
+    count-found (λ (t : State). same_key (met_key p t) (key_of p)) (is_of_node conf (own_scope rule) source) s w.states (sym (found-by w p) ∙ e) f
 
 -- what the handshake of a state does to the nodes
 pub scored-in : (conf : Conf) (rule : ℕ) (source : Addr) (x : Rate) (now : ℕ) (history : Score) (count : ℕ) (nodes : List Node) (s : State) → IsRated conf rule x

@@ -37,7 +37,7 @@ use Rattle.pfs_engine_machine.proofs.Keys.{keys-push}
 use Rattle.pfs_engine_machine.proofs.Limits.{MeetsNone, held_free, meets_none, new_free, nodes_room, not_reached, refused_has, world_with_stray}
 use Rattle.pfs_engine_machine.proofs.Numbers.{Rise-more, Rise-push}
 use Rattle.pfs_engine_machine.proofs.Scopes.{IsScopeOf, global-IsScopeOf, none_without_node, own_scope-IsScopeOf, scope-alone, scope-shared}
-use Rattle.pfs_engine_machine.specs.Kept.{HasNode, HasSource, IsKept, IsPhaseOf, IsWithinShared, TracksAlone, own_scope, IsPlain, outer_key}
+use Rattle.pfs_engine_machine.specs.Kept.{HasNode, HasSource, IsKept, IsPhaseOf, IsWithinShared, TracksAlone, own_scope, IsPlain, outer_key, HasPhase}
 use Rattle.std.proofs.lemmas.Bool.{and_parts, and_right, false≢true}
 use Rattle.pfs_store_contract.proofs.ScopeLaws.{same_scope_self, same_scope_true}
 use Rattle.pfs_engine_machine.specs.Machine.{Held, held_of, held_refused}
@@ -264,6 +264,24 @@ proto_new conf p going led = by p.dir
     by dir.In = refl
     by dir.Out = led.proto
 
+proto_inside : (conf : Conf) (p going : PacketView) → IsLedOn conf p going → (key_inside p going).proto ≡ p.proto
+proto_inside conf p going led = by p.dir
+  where
+    by : (d : Dir) → (inner_side d (key_of p) (key_of going)).proto ≡ p.proto
+    by dir.In = led.proto
+    by dir.Out = refl
+
+phase_of_new : (conf : Conf) (number rule now : ℕ) (p going : PacketView) (cookie : Bool) → IsTcpWith cookie p.proto → IsLedOn conf p going
+    → HasPhase (new_state conf number p going rule cookie now)
+phase_of_new conf number rule now p going cookie tcp led =
+    let phase = new_phase conf rule p cookie in
+    let is : IsPhaseOf p.proto phase = phase_new conf rule p cookie tcp in
+    (
+      subst (λ (q : Proto). IsPhaseOf q phase) (sym (proto_new conf p going led)) is,
+      subst (λ (q : Proto). IsPhaseOf q phase)
+      (sym (ap (λ (k : FlowKey). k.proto) (inner_new conf number rule now p going cookie) ∙ proto_inside conf p going led)) is,
+    )
+
 plain_new : (conf : Conf) (number rule now : ℕ) (p going : PacketView) (cookie : Bool) → IsLedOn conf p going → IsPlain conf (new_state conf number p going rule cookie now)
 plain_new conf number rule now p going cookie led none = by p.dir
   where
@@ -314,8 +332,7 @@ kept_admitted conf m p going cookie rule now sound tcp led unheld met k =
       plain = All-push (IsPlain conf) w.states new k.plain (plain_new conf (w.made + 1) rule now p going cookie led);
       noded = noded_with conf w p going cookie rule now k.noded;
       sources = All-push HasSource w.states new k.sources (source_first conf (w.made + 1) rule now p going cookie);
-      phases = All-push (λ (s : State). IsPhaseOf s.key.proto s.phase) w.states new k.phases
-          (subst (λ (q : Proto). IsPhaseOf q new.phase) (sym (proto_new conf p going led)) (phase_new conf rule p cookie tcp));
+      phases = All-push HasPhase w.states new k.phases (phase_of_new conf (w.made + 1) rule now p going cookie tcp led);
       tables = k.tables;
       moments = world_at-up_to_now conf w p going rule cookie now None k.moments;
     }

@@ -1,10 +1,10 @@
 -- A packet of a held state keeps what a machine keeps: it is within `max-src-conn`, or states are killed for it.
-use Rattle.std.proofs.Common.{◌≡◌, ◌≤◌, ◌⊎◌, inl, inr, ℕ, Bool, true, false, if◌then◌else◌, Option, None, Some, List, All, filter, length, map, refl, ap, sym, ◌∙◌, arith}
+use Rattle.std.proofs.Common.{◌≡◌, ◌≤◌, ◌⊎◌, inl, inr, ℕ, Bool, true, false, if◌then◌else◌, Option, None, Some, List, All, filter, length, map, refl, ap, sym, ◌∙◌, arith, ◌==◌}
 use Rattle.std.proofs.lemmas.List.{length-map}
 use Rattle.std.proofs.lemmas.List.Elements.{All-filter, All-map, All-weaker}
 use Rattle.pfs_addr_values.proofs.SameLaws.{same_key_true}
 use Rattle.pfs_addr_values.specs.Keys.{key_of}
-use Rattle.pfs_addr_values.specs.Packets.{PacketView}
+use Rattle.pfs_addr_values.specs.Packets.{PacketView, is_from_inside}
 use Rattle.pfs_addr_values.specs.Sameness.{same_key}
 use Rattle.pfs_addr_values.specs.declared.addresses.Addr.{Addr}
 use Rattle.pfs_addr_values.specs.declared.packets.FlowKey.{FlowKey}
@@ -24,7 +24,7 @@ use Rattle.pfs_store_contract.specs.Worlds.{IsUpToNow, World, inner_key}
 use Rattle.pfs_store_contract.specs.declared.records.Node.{Node}
 use Rattle.pfs_store_contract.specs.declared.records.NodeScope.{NodeScope}
 use Rattle.pfs_store_contract.specs.declared.records.State.{State}
-use Rattle.pfs_engine_machine.specs.Kept.{HasNode, HasSource, IsKept, IsPhaseOf, IsWithin, KeysDiffer, Rise, TracksAlone, own_scope, IsPlain, outer_key}
+use Rattle.pfs_engine_machine.specs.Kept.{HasNode, HasSource, IsKept, IsPhaseOf, IsWithin, KeysDiffer, Rise, TracksAlone, own_scope, IsPlain, outer_key, HasPhase}
 use Rattle.pfs_engine_machine.specs.Machine.{Held, answer_of_exceeded, answer_of_state, exceeded_of, held_of, answer_of_kill, outcome_of_held, tables_after_addition}
 use Rattle.pfs_engine_machine.specs.Refusals.{is_tcp}
 use Rattle.pfs_engine_machine.specs.declared.events.Exceeded.{Exceeded}
@@ -55,7 +55,7 @@ record IsKeptBut (conf : Conf) (m : Held) (now : ℕ) : Type 0 where
   inner_keys : KeysDiffer inner_key m.world.states
   plain : All (IsPlain conf) m.world.states
   noded : All (HasNode conf m.world.nodes) m.world.states
-  phases : All (λ (s : State). IsPhaseOf s.key.proto s.phase) m.world.states
+  phases : All HasPhase m.world.states
   sources : All HasSource m.world.states
   tables : length m.tables ≡ length conf.tables
   moments : IsUpToNow now m.world
@@ -147,8 +147,7 @@ kept_but_touched conf m p now s k =
           (λ t h. renewed-noded conf nodes s.number p now t (HasNode-alike conf w.nodes nodes alike t h)) w.states k.noded);
       sources = All-map HasSource f w.states
           (All-weaker HasSource (λ (t : State). HasSource (f t)) (λ t h. renewed-source s.number p now t h) w.states k.sources);
-      phases = All-map (λ (t : State). IsPhaseOf t.key.proto t.phase) f w.states
-          (All-weaker (λ (t : State). IsPhaseOf t.key.proto t.phase) (λ (t : State). IsPhaseOf (f t).key.proto (f t).phase) (renewed-phase s.number p now) w.states k.phases);
+      phases = All-map HasPhase f w.states (All-weaker HasPhase (λ (t : State). HasPhase (f t)) (renewed-phase s.number p now) w.states k.phases);
       tables = k.tables;
       moments = world_touched-up_to_now conf w p now (Some s) k.moments;
     }
@@ -207,7 +206,7 @@ kept_but_without conf m stays at now k =
       plain = All-filter stays (IsPlain conf) w.states k.plain;
       noded = All-filter stays (HasNode conf nodes) w.states (All-weaker (HasNode conf w.nodes) (HasNode conf nodes) (HasNode-alike conf w.nodes nodes alike) w.states k.noded);
       sources = All-filter stays HasSource w.states k.sources;
-      phases = All-filter stays (λ (t : State). IsPhaseOf t.key.proto t.phase) w.states k.phases;
+      phases = All-filter stays HasPhase w.states k.phases;
       tables = k.tables;
       moments = left-up_to_now conf w (filter stays w.states) (world_without conf w stays at).pending_states at now k.moments;
     }
@@ -293,10 +292,19 @@ made_held conf m p cookie now s = by (if completes_at p s then exceeded_of (hits
 
 -- ---- of a state that is held
 
+-- its phase is one of the protocol of the key that a packet meets
+met-phase : (p : PacketView) (s : State) → HasPhase s → IsPhaseOf (met_key p s).proto s.phase
+met-phase p s both = by (is_from_inside p)
+  where
+    by : (b : Bool) → IsPhaseOf (if b then inner_key s else s.key).proto s.phase
+    by true = both.1
+    by false = both.0
+
 -- only TCP completes
 pub proto_of_completed : (conf : Conf) (m : Held) (p : PacketView) (now : ℕ) (s : State) → IsKept conf m now → state_for m.world p ≡ Some s
     → completes_at p s ≡ true → is_tcp p.proto ≡ true
 proto_of_completed conf m p now s k found done =
-    let key : s.key ≡ key_of p = same_key_true s.key (key_of p) (find-passes (λ (t : State). same_key t.key (key_of p)) m.world.states s found) in
-    let own : IsPhaseOf s.key.proto s.phase = find-all (λ (t : State). IsPhaseOf t.key.proto t.phase) (λ (t : State). same_key t.key (key_of p)) m.world.states s k.phases found in
-    ap (λ (f : FlowKey). is_tcp f.proto) (sym key) ∙ is_tcp-completes s.key.proto s.phase (goes_forward p s) p.flags own done
+    let there = sym (found-by m.world p) ∙ found in
+    let key : met_key p s ≡ key_of p = same_key_true (met_key p s) (key_of p) (find-passes (λ (t : State). same_key (met_key p t) (key_of p)) m.world.states s there) in
+    let both : HasPhase s = find-all HasPhase (λ (t : State). same_key (met_key p t) (key_of p)) m.world.states s k.phases there in
+    ap (λ (f : FlowKey). is_tcp f.proto) (sym key) ∙ is_tcp-completes (met_key p s).proto s.phase (goes_forward p s) p.flags (met-phase p s both) done

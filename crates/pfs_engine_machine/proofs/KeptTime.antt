@@ -30,7 +30,7 @@ use Rattle.pfs_engine_machine.proofs.Keys.{keys-filter}
 use Rattle.pfs_engine_machine.proofs.Numbers.{Rise-filter}
 use Rattle.pfs_engine_machine.proofs.Counts.{any-filter, any-map, count-at, count-filter_le, count-map, count_le}
 use Rattle.pfs_engine_machine.proofs.Scopes.{is_of_node-own}
-use Rattle.pfs_engine_machine.specs.Kept.{HasNode, HasSource, IsKept, IsPhaseOf, IsWithin, moment_of, own_scope, IsPlain, outer_key}
+use Rattle.pfs_engine_machine.specs.Kept.{HasNode, HasSource, IsKept, IsPhaseOf, IsWithin, moment_of, own_scope, IsPlain, outer_key, HasPhase}
 use Rattle.std.proofs.lemmas.Bool.{and_parts}
 use Rattle.pfs_store_contract.proofs.ScopeLaws.{same_scope_true}
 use Rattle.pfs_engine_machine.specs.declared.events.Command.{Command}
@@ -55,7 +55,7 @@ kept_start conf sound = record {
   inner_keys = tt;
   plain = All-nil (IsPlain conf);
   noded = All-nil (HasNode conf []);
-  phases = All-nil (λ (s : State). IsPhaseOf s.key.proto s.phase);
+  phases = All-nil HasPhase;
   sources = All-nil HasSource;
   tables = length-map conf.tables (λ (t : TableDef). map entry_of_text t.entries);
   moments = empty_world-up_to_now 0;
@@ -102,7 +102,7 @@ kept_left conf m p pending at now k =
       noded = All-weaker (HasNode conf w.nodes) (HasNode conf (map change w.nodes))
           (λ s h scope is. any-map (is_node scope s.source) change (left-is_node conf w.states (filter p w.states) at scope s.source) w.nodes ∙ h scope is)
           (filter p w.states) (All-filter p (HasNode conf w.nodes) w.states k.noded);
-      phases = All-filter p (λ (s : State). IsPhaseOf s.key.proto s.phase) w.states k.phases;
+      phases = All-filter p HasPhase w.states k.phases;
       sources = All-filter p HasSource w.states k.sources;
       tables = k.tables;
       moments = left-up_to_now conf w (filter p w.states) pending at now k.moments;

@@ -54,8 +54,10 @@ on-path a P R k q hidden before n (i ∷ rest) all h =
     (on-path a P R k (packet_past a q i) (hides (a.holds q i) i.depth) (i ∷ before) (n + 1) rest all.1 (past a P R k q i all.0 h))
     (on-path a P R k q hidden (i ∷ before) (n + 1) rest all.1 h)
   where
-    shown hidden_too : List Place
+    shown : List Place
     shown = path_from a (packet_past a q i) (hides (a.holds q i) i.depth) (i ∷ before) (n + 1) rest
+
+    hidden_too : List Place
     hidden_too = path_from a q hidden (i ∷ before) (n + 1) rest
 
     by : (b : Bool) → AllByRecursion (IsKeptAt P R) shown → AllByRecursion (IsKeptAt P R) hidden_too

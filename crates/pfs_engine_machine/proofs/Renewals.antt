@@ -15,8 +15,9 @@ use Rattle.pfs_track.specs.declared.proxies.ProxyPhase.{ProxyPhase}
 use Rattle.pfs_track.specs.declared.tcp_phases.TcpPhase.{TcpPhase}
 use Rattle.pfs_track.specs.declared.state_phases.StatePhase.{StatePhase}
 use Rattle.pfs_track.specs.declared.state_phases.StatePhase.TheVariants as phase
-use Rattle.pfs_engine_machine.specs.Kept.{IsPhaseOf}
+use Rattle.pfs_engine_machine.specs.Kept.{IsPhaseOf, HasPhase}
 use Rattle.pfs_engine_machine.specs.Refusals.{is_tcp}
+use Rattle.pfs_store_contract.specs.Worlds.{inner_key}
 
 -- ---- phases
 
@@ -87,10 +88,9 @@ renewed-same number p now s = go (s.number == number)
     go true = record { number = refl; key = refl; inner = refl; dir = refl; source = refl; rule = refl }
     go false = record { number = refl; key = refl; inner = refl; dir = refl; source = refl; rule = refl }
 
-pub renewed-phase : (number : ℕ) (p : PacketView) (now : ℕ) (s : State) → IsPhaseOf s.key.proto s.phase
-    → IsPhaseOf (numbered_state_after number p now s).key.proto (numbered_state_after number p now s).phase
+pub renewed-phase : (number : ℕ) (p : PacketView) (now : ℕ) (s : State) → HasPhase s → HasPhase (numbered_state_after number p now s)
 renewed-phase number p now s h = go (s.number == number)
   where
-    go : (b : Bool) → IsPhaseOf (if b then state_after_packet p now s else s).key.proto (if b then state_after_packet p now s else s).phase
-    go true = IsPhaseOf-after s.key.proto s.phase (goes_forward p s) p.flags h
+    go : (b : Bool) → HasPhase (if b then state_after_packet p now s else s)
+    go true = (IsPhaseOf-after s.key.proto s.phase (goes_forward p s) p.flags h.0, IsPhaseOf-after (inner_key s).proto s.phase (goes_forward p s) p.flags h.1)
     go false = h

@@ -40,6 +40,7 @@ use Rattle.pfs_engine_machine.specs.declared.events.Outcome.{Outcome}
 use Rattle.pfs_engine_machine.specs.declared.events.Outcome.TheVariants as outcome
 use Rattle.pfs_engine_machine.specs.declared.events.Arrival.TheVariants.{Held, Packet, Skip, Table}
 use Rattle.pfs_engine_machine.specs.declared.events.Command.TheVariants as command
+use Rattle.pfs_conf_values.specs.Translations.{no_translation}
 
 -- ---- configurations: limits of states and nodes, the timeouts that differ, tables and items
 
@@ -70,7 +71,7 @@ abbrev of_openbsd : Conf → Conf
 of_openbsd c = record c { profile = profile.OpenBsd74 }
 
 abbrev rule : Bool → Filter → Action → Item
-rule quick filter does = record { depth = 0; what = item.Rule (record { quick = quick; filter = filter; came = any_way; tag = None; action = does }) }
+rule quick filter does = record { depth = 0; what = item.Rule (record { quick = quick; filter = filter; came = any_way; tag = None; translation = no_translation; action = does }) }
 
 abbrev of_proto : Proto → Filter
 of_proto p = record any_packet { dir = Some In; proto = Some p }

@@ -69,6 +69,10 @@ IsPhaseOf _ (phase.FullTcp p) = ⊥
 IsPhaseOf _ (phase.Proxied p) = ⊥
 IsPhaseOf _ _ = Unit {0}
 
+-- the phase of a state is one of the protocol of both its keys
+abbrev pub HasPhase : State → Type 0
+HasPhase s = IsPhaseOf s.key.proto s.phase × IsPhaseOf (inner_key s).proto s.phase
+
 -- the source of a state is the end of the key of the packet that made it, as it was sent, on the side from which packets of its direction
 -- come
 abbrev pub HasSource : State → Type 0
@@ -101,7 +105,7 @@ pub record IsKept (conf : Conf) (h : Held) (now : ℕ) : Type 0 where
   pub inner_keys : KeysDiffer inner_key h.world.states
   pub plain : All (IsPlain conf) h.world.states
   pub noded : All (HasNode conf h.world.nodes) h.world.states
-  pub phases : All (λ (s : State). IsPhaseOf s.key.proto s.phase) h.world.states
+  pub phases : All HasPhase h.world.states
   pub sources : All HasSource h.world.states
   pub tables : length h.tables ≡ length conf.tables
   pub moments : IsUpToNow now h.world
