@@ -11,7 +11,7 @@ use Rattle.pfs_addr_values.specs.declared.protocols.Proto.{Proto}
 use Rattle.pfs_addr_values.specs.declared.protocols.Proto.TheVariants.{Tcp, Udp}
 use Rattle.pfs_eval.specs.Matching.{matches_item}
 use Rattle.pfs_eval.specs.Tables.{table_answer}
-use Rattle.pfs_eval.specs.Verdict.{packet_behind, path_from, verdict}
+use Rattle.pfs_eval.specs.Verdict.{packet_behind, path_from, verdict, packet_at_cut, lost_by}
 use Rattle.pfs_eval.specs.declared.tables.Added.{Added}
 use Rattle.pfs_eval.specs.declared.tables.Added.TheVariants as added
 use Rattle.pfs_eval.specs.declared.entries.TableEntry.{TableEntry}
@@ -41,6 +41,7 @@ use Rattle.pfs_engine_machine.specs.declared.events.Outcome.TheVariants as outco
 use Rattle.pfs_engine_machine.specs.declared.events.Arrival.TheVariants.{Held, Packet, Skip, Table}
 use Rattle.pfs_engine_machine.specs.declared.events.Command.TheVariants as command
 use Rattle.pfs_conf_values.specs.Translations.{no_translation}
+use Rattle.pfs_eval.specs.Translating.{translated, nat_by, rdr_by}
 
 -- ---- configurations: limits of states and nodes, the timeouts that differ, tables and items
 
@@ -166,7 +167,7 @@ one_source =
 
 one_source_after : run_of one_source (udp 0 1 1 ∷ udp 10 2 1 ∷ udp 30 2 1 ∷ [])
     ≡ (made 0 ∷ dropped 0 limit.MaxSrcNodes ∷ made 0 ∷ [], (1, 1, 0))
-unfolding outcomes_of machine_after step verdict packet_behind path_from matches_item table_answer
+unfolding outcomes_of machine_after step verdict packet_behind packet_at_cut lost_by translated nat_by rdr_by path_from matches_item table_answer
 one_source_after = refl
 
 -- ---- `max-src-conn` with `overload` and `flush`: the source is blocked, and its states of the rule are killed
@@ -196,12 +197,12 @@ guarded_outcomes killed =
 
 flushed_by_rule : run_of (guarded (Some (record { table = record { 0 = 0 }; flush = Some scope.Rule }))) two_handshakes
     ≡ (guarded_outcomes 2, (1, 1, 1))
-unfolding outcomes_of machine_after step verdict packet_behind path_from matches_item table_answer covers cleared_addr
+unfolding outcomes_of machine_after step verdict packet_behind packet_at_cut lost_by translated nat_by rdr_by path_from matches_item table_answer covers cleared_addr
 flushed_by_rule = refl
 
 flushed_by_source : run_of (guarded (Some (record { table = record { 0 = 0 }; flush = Some scope.Global }))) two_handshakes
     ≡ (guarded_outcomes 3, (0, 1, 1))
-unfolding outcomes_of machine_after step verdict packet_behind path_from matches_item table_answer covers cleared_addr
+unfolding outcomes_of machine_after step verdict packet_behind packet_at_cut lost_by translated nat_by rdr_by path_from matches_item table_answer covers cleared_addr
 flushed_by_source = refl
 
 -- ---- the rate of a source outlives its states
@@ -217,20 +218,20 @@ abbrev before_again : List Outcome
 before_again = made 0 ∷ of_state 0 ∷ of_state 0 ∷ of_state 0 ∷ made 0 ∷ of_state 0 ∷ []
 
 again_soon : run_of (rated 1 4) (again 3) ≡ (before_again ++ outcome.Kill (number 0) exceeded.Rate None 1 ∷ [], (0, 1, 0))
-unfolding outcomes_of machine_after step verdict packet_behind path_from matches_item table_answer
+unfolding outcomes_of machine_after step verdict packet_behind packet_at_cut lost_by translated nat_by rdr_by path_from matches_item table_answer
 again_soon = refl
 
 again_later : run_of (rated 1 4) (again 4) ≡ (before_again ++ of_state 0 ∷ [], (1, 1, 0))
-unfolding outcomes_of machine_after step verdict packet_behind path_from matches_item table_answer
+unfolding outcomes_of machine_after step verdict packet_behind packet_at_cut lost_by translated nat_by rdr_by path_from matches_item table_answer
 again_later = refl
 
 again_long_after : run_of (rated 1 4) (again 5) ≡ (before_again ++ of_state 0 ∷ [], (1, 1, 0))
-unfolding outcomes_of machine_after step verdict packet_behind path_from matches_item table_answer
+unfolding outcomes_of machine_after step verdict packet_behind packet_at_cut lost_by translated nat_by rdr_by path_from matches_item table_answer
 again_long_after = refl
 
 -- the history of its handshakes has the same score
 history_soon : (history_score (rated 1 4) 0 (source 1) (again 3)).value ≡ 1250
-unfolding step verdict packet_behind path_from matches_item table_answer
+unfolding step verdict packet_behind packet_at_cut lost_by translated nat_by rdr_by path_from matches_item table_answer
 history_soon = refl
 
 -- ---- a flood against rounds: what came later does not wait in the round of what came before
@@ -272,7 +273,7 @@ flooded : run_of slow
           ∷ [],
       (4, 0, 0),
     )
-unfolding outcomes_of machine_after step verdict packet_behind path_from matches_item table_answer
+unfolding outcomes_of machine_after step verdict packet_behind packet_at_cut lost_by translated nat_by rdr_by path_from matches_item table_answer
 flooded = refl
 
 -- ---- a slice of the nodes does not go on into the next round
@@ -309,14 +310,14 @@ rounds_of_nodes : run_of four_nodes
           ∷ [],
       (1, 4, 0),
     )
-unfolding outcomes_of machine_after step verdict packet_behind path_from matches_item table_answer
+unfolding outcomes_of machine_after step verdict packet_behind packet_at_cut lost_by translated nat_by rdr_by path_from matches_item table_answer
 rounds_of_nodes = refl
 
 -- ---- a state that has expired and was not purged is matched still
 
 expired_matches : run_of (conf 100 100 (record usual { udp = 0 }) [] (rule false (of_proto Udp) (action.Keep no_options) ∷ [])) (udp 0 1 1 ∷ udp 0 1 1 ∷ [])
     ≡ (made 0 ∷ of_state 0 ∷ [], (1, 0, 0))
-unfolding outcomes_of machine_after step verdict packet_behind path_from matches_item table_answer
+unfolding outcomes_of machine_after step verdict packet_behind packet_at_cut lost_by translated nat_by rdr_by path_from matches_item table_answer
 expired_matches = refl
 
 -- ---- table entries expire: an entry of the text counts from the first event, one that was added from its packet, and one that
@@ -351,15 +352,15 @@ entries_expire : run_of expiring
           ∷ [],
       (1, 1, 0),
     )
-unfolding outcomes_of machine_after step verdict packet_behind path_from matches_item table_answer covers cleared_addr
+unfolding outcomes_of machine_after step verdict packet_behind packet_at_cut lost_by translated nat_by rdr_by path_from matches_item table_answer covers cleared_addr
 entries_expire = refl
 
 text_entries_stay : run_of expiring (nothing 100 ∷ expire 100 0 5 ∷ []) ≡ (outcome.Skip ∷ outcome.Expire 0 ∷ [], (0, 0, 1))
-unfolding outcomes_of machine_after step verdict packet_behind path_from matches_item table_answer
+unfolding outcomes_of machine_after step verdict packet_behind packet_at_cut lost_by translated nat_by rdr_by path_from matches_item table_answer
 text_entries_stay = refl
 
 first_expires : run_of expiring (expire 100 0 0 ∷ []) ≡ (outcome.Expire 1 ∷ [], (0, 0, 0))
-unfolding outcomes_of machine_after step verdict packet_behind path_from matches_item table_answer
+unfolding outcomes_of machine_after step verdict packet_behind packet_at_cut lost_by translated nat_by rdr_by path_from matches_item table_answer
 first_expires = refl
 
 -- ---- entries are added and taken out: one with the other sign is a conflict, the same one is held and keeps its age
@@ -404,7 +405,7 @@ added_ages = refl
 held_after_purges : run_of (conf 100 100 (record usual { udp = 2; interval = 1 }) [] (rule false (of_proto Udp) (action.Keep no_options) ∷ []))
     (udp 5 1 1 ∷ ask 5 ∷ ask 7 ∷ [])
     ≡ (made 0 ∷ amounts 1 0 0 ∷ amounts 0 0 0 ∷ [], (0, 0, 0))
-unfolding outcomes_of machine_after step verdict packet_behind path_from matches_item table_answer
+unfolding outcomes_of machine_after step verdict packet_behind packet_at_cut lost_by translated nat_by rdr_by path_from matches_item table_answer
 held_after_purges = refl
 
 -- ---- under OpenBSD's profile the node that `max` leaves is held until a slice of the nodes examines it
@@ -419,11 +420,11 @@ two_sources = udp 0 1 1 ∷ udp 0 2 1 ∷ ask 0 ∷ ask 1 ∷ []
 
 node_left_by_max : run_of (of_openbsd (one_state None)) two_sources
     ≡ (made 0 ∷ dropped 0 limit.Max ∷ amounts 1 2 0 ∷ amounts 1 1 0 ∷ [], (1, 1, 0))
-unfolding outcomes_of machine_after step verdict packet_behind path_from matches_item table_answer
+unfolding outcomes_of machine_after step verdict packet_behind packet_at_cut lost_by translated nat_by rdr_by path_from matches_item table_answer
 node_left_by_max = refl
 
 no_node_left : run_of (one_state None) two_sources ≡ (made 0 ∷ dropped 0 limit.Max ∷ amounts 1 1 0 ∷ amounts 1 1 0 ∷ [], (1, 1, 0))
-unfolding outcomes_of machine_after step verdict packet_behind path_from matches_item table_answer
+unfolding outcomes_of machine_after step verdict packet_behind packet_at_cut lost_by translated nat_by rdr_by path_from matches_item table_answer
 no_node_left = refl
 
 -- unless a state is made for it before
@@ -436,18 +437,18 @@ shared_nodes =
 
 left_node_taken : run_of (of_openbsd shared_nodes) (udp 0 1 1 ∷ udp 0 2 1 ∷ syn 0 2 1 ∷ ask 1 ∷ [])
     ≡ (made 0 ∷ dropped 0 limit.Max ∷ made 1 ∷ amounts 2 2 0 ∷ [], (2, 2, 0))
-unfolding outcomes_of machine_after step verdict packet_behind path_from matches_item table_answer
+unfolding outcomes_of machine_after step verdict packet_behind packet_at_cut lost_by translated nat_by rdr_by path_from matches_item table_answer
 left_node_taken = refl
 
 -- and `max` is asked behind the maximum of nodes
 max_asked_last : run_of (of_openbsd (one_state (Some 1))) (udp 0 1 1 ∷ udp 0 2 1 ∷ udp 0 1 2 ∷ [])
     ≡ (made 0 ∷ dropped 0 limit.MaxSrcNodes ∷ dropped 0 limit.Max ∷ [], (1, 1, 0))
-unfolding outcomes_of machine_after step verdict packet_behind path_from matches_item table_answer
+unfolding outcomes_of machine_after step verdict packet_behind packet_at_cut lost_by translated nat_by rdr_by path_from matches_item table_answer
 max_asked_last = refl
 
 max_asked_first : run_of (one_state (Some 1)) (udp 0 1 1 ∷ udp 0 2 1 ∷ udp 0 1 2 ∷ [])
     ≡ (made 0 ∷ dropped 0 limit.Max ∷ dropped 0 limit.Max ∷ [], (1, 1, 0))
-unfolding outcomes_of machine_after step verdict packet_behind path_from matches_item table_answer
+unfolding outcomes_of machine_after step verdict packet_behind packet_at_cut lost_by translated nat_by rdr_by path_from matches_item table_answer
 max_asked_first = refl
 
 -- ---- there a SYN of the ports of a connection that was reset begins another, which the rate counts too
@@ -456,12 +457,12 @@ abbrev reset_and_again : List Event
 reset_and_again = handshake 0 1 1 ++ (reset 0 1 1 ∷ handshake 0 1 1)
 
 begun_again : run_of (of_openbsd (rated 1 4)) reset_and_again ≡ (before_again ++ outcome.Kill (number 0) exceeded.Rate None 1 ∷ [], (0, 1, 0))
-unfolding outcomes_of machine_after step verdict packet_behind path_from matches_item table_answer
+unfolding outcomes_of machine_after step verdict packet_behind packet_at_cut lost_by translated nat_by rdr_by path_from matches_item table_answer
 begun_again = refl
 
 not_begun_again : run_of (rated 1 4) reset_and_again
     ≡ (made 0 ∷ of_state 0 ∷ of_state 0 ∷ of_state 0 ∷ of_state 0 ∷ of_state 0 ∷ of_state 0 ∷ [], (1, 1, 0))
-unfolding outcomes_of machine_after step verdict packet_behind path_from matches_item table_answer
+unfolding outcomes_of machine_after step verdict packet_behind packet_at_cut lost_by translated nat_by rdr_by path_from matches_item table_answer
 not_begun_again = refl
 
 -- ---- there a flush takes the states to the source too, whose keys have it at the end from which its packet came
@@ -483,11 +484,11 @@ flushed_global killed =
     made 0 ∷ made 0 ∷ made 1 ∷ of_state 1 ∷ of_state 1 ∷ made 1 ∷ of_state 1 ∷ outcome.Kill (number 1) exceeded.Connections (Some added.New) killed ∷ []
 
 flushed_by_side : run_of (of_openbsd both_ways) to_and_from ≡ (flushed_global 4, (0, 1, 1))
-unfolding outcomes_of machine_after step verdict packet_behind path_from matches_item table_answer covers cleared_addr
+unfolding outcomes_of machine_after step verdict packet_behind packet_at_cut lost_by translated nat_by rdr_by path_from matches_item table_answer covers cleared_addr
 flushed_by_side = refl
 
 flushed_of_source : run_of both_ways to_and_from ≡ (flushed_global 3, (1, 1, 1))
-unfolding outcomes_of machine_after step verdict packet_behind path_from matches_item table_answer covers cleared_addr
+unfolding outcomes_of machine_after step verdict packet_behind packet_at_cut lost_by translated nat_by rdr_by path_from matches_item table_answer covers cleared_addr
 flushed_of_source = refl
 
 -- ---- SYN cookies: at most ten states, of which adaptive begins above two
@@ -501,19 +502,19 @@ answer now n port = comes now (from_server n port (flagged true true false))
 -- nothing is held of a SYN
 always_given : run_of (cookies_by syncookies.Always) (syn 0 1 1 ∷ ask 0 ∷ syn 1 1 1 ∷ [])
     ≡ (outcome.Cookie ∷ amounts 0 0 0 ∷ outcome.Cookie ∷ [], (0, 0, 0))
-unfolding outcomes_of machine_after step verdict packet_behind path_from matches_item table_answer
+unfolding outcomes_of machine_after step verdict packet_behind packet_at_cut lost_by translated nat_by rdr_by path_from matches_item table_answer
 always_given = refl
 
 -- the fourth comes while three are half open
 adaptive_begun : run_of (cookies_by (syncookies.Adaptive 20 10)) (syn 0 1 1 ∷ syn 0 1 2 ∷ syn 0 1 3 ∷ syn 0 1 4 ∷ syn 0 1 5 ∷ [])
     ≡ (made 0 ∷ made 0 ∷ made 0 ∷ outcome.Cookie ∷ outcome.Cookie ∷ [], (3, 0, 0))
-unfolding outcomes_of machine_after step verdict packet_behind path_from matches_item table_answer
+unfolding outcomes_of machine_after step verdict packet_behind packet_at_cut lost_by translated nat_by rdr_by path_from matches_item table_answer
 adaptive_begun = refl
 
 -- a connection that the server has answered is not half open
 adaptive_calm : run_of (cookies_by (syncookies.Adaptive 20 10)) (syn 0 1 1 ∷ syn 0 1 2 ∷ syn 0 1 3 ∷ answer 0 1 3 ∷ syn 0 1 4 ∷ [])
     ≡ (made 0 ∷ made 0 ∷ made 0 ∷ of_state 0 ∷ made 0 ∷ [], (4, 0, 0))
-unfolding outcomes_of machine_after step verdict packet_behind path_from matches_item table_answer
+unfolding outcomes_of machine_after step verdict packet_behind packet_at_cut lost_by translated nat_by rdr_by path_from matches_item table_answer
 adaptive_calm = refl
 
 -- ---- pf leads the handshakes of a connection: at the maker's packets it asks the server, from the ACK on that completes the first one
@@ -535,5 +536,5 @@ proxied = of_openbsd (conf 10 100 usual [] (rule false (of_proto Tcp) (action.Ke
 
 server_asked : run_of proxied (syn 0 1 1 ∷ syn 0 1 1 ∷ answer 0 1 1 ∷ ack 0 1 1 ∷ ack 0 1 1 ∷ answer 0 1 1 ∷ ack 0 1 1 ∷ [])
     ≡ (answered 0 ∷ taken 0 ∷ taken 0 ∷ asking 0 ∷ asking 0 ∷ taken 0 ∷ of_state 0 ∷ [], (1, 0, 0))
-unfolding outcomes_of machine_after step verdict packet_behind path_from matches_item table_answer
+unfolding outcomes_of machine_after step verdict packet_behind packet_at_cut lost_by translated nat_by rdr_by path_from matches_item table_answer
 server_asked = refl
