@@ -10,7 +10,7 @@ ghost use Rattle.pfs_engine_machine.specs.Kept.{IsWithinLimits, moment_of};
 ghost use Rattle.pfs_engine_machine.specs.Refusals.{IsFree};
 ghost use Rattle.pfs_engine_machine.specs.Machine.{machine_at_moment, amounts_of, answer_to_command, answer_to_kill, due, entries_held, going_behind_guard, sent_on, nodes_held, start, states_held, step, machine_after, outcomes_of};
 ghost use Rattle.pfs_engine_machine.specs.Runs.{MayChange, MayCome, AreAllowed, IsInOrder, IsPacket, IsRefusedIn, IsStopped, NeedsMemory, packets_in, packets_of};
-ghost use Rattle.pfs_engine_machine.specs.Ways.{IsRefusedOnWay, events_of_record, way, way_on};
+ghost use Rattle.pfs_engine_machine.specs.Ways.{IsRefusedOnWay, events_of_record, first_event, way, way_on};
 ghost use Rattle.pfs_engine.specs.Calls.{CountsEvent, CountsPacket, IsAnsweredBy, IsAt, IsLimited, IsWorkBehind, IsWorkOfEvent, IsWorkOfPacket, IsWorkOfSeconds, Keeps, StaysWithin, answer_at_last, met_held};
 ghost use Rattle.pfs_engine.specs.Ways.{GoesAlone, HasRoutes, IsWorkBehindFirst, IsWorkOfWay, packet_at};
 
@@ -437,10 +437,8 @@ impl<S: Store> Engine<S> {
         ensures few { self.new.taken ≤ self.old.taken + 2 }
         ensures work { IsWorkOfWay S.counts self.old.config self.old.machine (packet_at time packet.now) result self.new.work }
     {
-        self.advance(time);
-        let purges = self.work();
-        let first = first_packet(&self.held, packet);
-        let outcome = self.take(&first, purges)?;
+        let mut first = *packet;
+        let outcome = self.go_in(time, &mut first)?;
         match second_packet(self.config(), packet, &first, &outcome, self.going()) {
             None => Ok(Way {
                 first: outcome,
@@ -454,6 +452,26 @@ impl<S: Store> Engine<S> {
                 },
             ),
         }
+    }
+
+    /// Takes the packet of a record at a moment, where it is asked first. The packet becomes the one that is asked there.
+    #[tactic(auto, unfolding(pfs_engine_machine::specs::Machine::step))]
+    fn go_in(&mut self, time: u64, packet: &mut Packet) -> Result<Outcome, NoMemory>
+        requires order { ForSome self.old.machine.last (λ m. m ≤ time) }
+        requires moment { time < 2 ^ 32 }
+        requires room { self.old.taken < run_limit }
+        ensures packet { packet_at time packet.new ≡ first_event self.old.config self.old.machine (packet_at time packet.old) }
+        ensures ok { IfOk result (λ o. (o, self.new.machine) ≡ step self.old.config self.old.machine (packet_at time packet.new)) }
+        ensures err { OnErr result (IsRefusedIn self.old.config self.old.machine (packet_at time packet.new) self.new.machine) }
+        ensures keeps { IsAt time self.old self.new }
+        ensures taken { CountsEvent result 1 self.old.taken self.new.taken }
+        ensures work { IsWorkOfEvent S.counts self.old.config self.old.machine (packet_at time packet.new) result self.new.work }
+        ensures going { OnOk result (HasRoutes self.old.config → self.new.going ≡ sent_on self.old.config self.old.machine (packet_at time packet.new)) }
+    {
+        self.advance(time);
+        let purges = self.work();
+        *packet = first_packet(&self.held, packet);
+        self.take(packet, purges)
     }
 
     /// Takes the second event of a record, at the last moment, behind what came of the first.
