@@ -1,7 +1,6 @@
 -- A packet of a held state: there is room in the overload table where it completes a handshake, and what comes of its touch.
-use Rattle.std.proofs.Common.{◌≡◌, ℕ, Bool, true, false, Option, None, Some, ap, ◌∙◌, sym, subst, refl}
+use Rattle.std.proofs.Common.{◌≡◌, ℕ, Bool, true, false, Option, None, Some, ap, ◌∙◌, sym, subst, refl, ◌+◌, ◌==◌, not, filter, length, map, List, [], ◌∷◌, arith}
 use Rattle.std.specs.Prelude.{option_map}
-use Rattle.pfs_addr_values.specs.Keys.{key_of}
 use Rattle.pfs_addr_values.specs.Packets.{PacketView}
 use Rattle.pfs_addr_values.specs.Sameness.{same_addr}
 use Rattle.pfs_addr_values.specs.declared.addresses.Addr.{Addr}
@@ -12,10 +11,10 @@ use Rattle.pfs_conf_values.specs.Configs.{Conf, options_of}
 use Rattle.pfs_conf_values.specs.declared.items.RuleNo.{RuleNo}
 use Rattle.pfs_conf_values.specs.declared.profiles.Profile.{Profile}
 use Rattle.pfs_conf_values.specs.declared.profiles.Profile.TheVariants as profile
-use Rattle.pfs_store_contract.specs.Calls.{renewal_of, source_states, told_at, touch_of, world_touched, state_number, state_rule}
+use Rattle.pfs_store_contract.specs.Calls.{renewal_of, source_states, told_at, touch_of, world_touched, state_number, state_rule, other_than}
 use Rattle.pfs_store_contract.specs.Leaving.{end_on, is_beside}
 use Rattle.pfs_store_contract.specs.Touching.{completes_at, numbered_state_after, world_after_touch}
-use Rattle.pfs_store_contract.specs.Worlds.{World, state_with}
+use Rattle.pfs_store_contract.specs.Worlds.{World}
 use Rattle.pfs_store_contract.specs.declared.records.State.{State}
 use Rattle.pfs_store_contract.specs.declared.records.StateNo.{StateNo}
 use Rattle.pfs_store_contract.specs.declared.records.Touched.{Touched}
@@ -29,6 +28,7 @@ use Rattle.pfs_engine.specs.Rooms.{HasRoomFor}
 use Rattle.pfs_engine_machine.proofs.Counts.{count-map}
 use Rattle.pfs_engine_machine.proofs.Renewals.{renewed-same}
 use Rattle.pfs_engine_machine.proofs.KeptHandshakes.{proto_of_completed}
+use Rattle.pfs_engine_machine.specs.Sides.{state_for}
 
 -- the state that was found
 pub found_state : (o : Option State) (number : StateNo) → option_map state_number o ≡ Some number → (s : State) × (o ≡ Some s) × (s.number ≡ number.0)
@@ -36,13 +36,13 @@ found_state None number e = cc
 found_state (Some s) number e = let same : state_number s ≡ number = cc in (s, refl, ap (λ (n : StateNo). n.0) same)
 
 pub room_after : (conf store_conf : Conf) (m : Held) (p : PacketView) (now : ℕ) (number : StateNo) (t : Touched) (rule : RuleNo) (tables : Holdings)
-    → IsKept conf m now → option_map state_number (state_with (key_of p) m.world) ≡ Some number
-    → option_map state_rule (state_with (key_of p) m.world) ≡ Some rule
-    → Some t ≡ option_map (renewal_of store_conf m.world p now) (state_with (key_of p) m.world)
+    → IsKept conf m now → option_map state_number (state_for m.world p) ≡ Some number
+    → option_map state_rule (state_for m.world p) ≡ Some rule
+    → Some t ≡ option_map (renewal_of store_conf m.world p now) (state_for m.world p)
     → (is_tcp p.proto ≡ true → HasRoomFor tables (options_of conf rule.0).overload)
     → t.completed ≡ true → HasRoomFor tables (options_of conf t.rule.0).overload
 room_after conf store_conf m p now number t rule tables kept e rule_is touch_is room done =
-    let (s, found, same) = found_state (state_with (key_of p) m.world) number e in
+    let (s, found, same) = found_state (state_for m.world p) number e in
     let told : Some t ≡ Some (renewal_of store_conf m.world p now s) = touch_is ∙ ap (option_map (renewal_of store_conf m.world p now)) found in
     let t_is : t ≡ renewal_of store_conf m.world p now s = cc in
     let completes : completes_at p s ≡ true = sym (ap (λ (x : Touched). x.completed) t_is) ∙ done in
@@ -57,21 +57,36 @@ renewed-beside : (profile : Profile) (dir : Dir) (source : Addr) (number : ℕ) 
 renewed-beside profile.Own dir source number p now x = ap (λ (a : Addr). same_addr a source) (renewed-same number p now x).source
 renewed-beside profile.OpenBsd74 dir source number p now x = ap (λ (k : FlowKey). same_addr (end_on dir k).addr source) (renewed-same number p now x).key
 
--- the source of the state has as many states as before
+-- nor which others end there
+others-after : (profile : Profile) (dir : Dir) (source : Addr) (number : ℕ) (p : PacketView) (now : ℕ) (ss : List State)
+    → 1 + source_states profile dir source (filter (other_than number) (map (numbered_state_after number p now) ss))
+    ≡ 1 + source_states profile dir source (filter (other_than number) ss)
+others-after profile dir source number p now ss = ap (λ n. 1 + n) (go ss)
+  where
+    go : (xs : List State) → length (filter (is_beside profile dir source) (filter (other_than number) (map (numbered_state_after number p now) xs)))
+        ≡ length (filter (is_beside profile dir source) (filter (other_than number) xs))
+    go [] = refl
+    go (x ∷ xs) =
+        let same = ap (λ n. not (n == number)) (renewed-same number p now x).number in
+        let alike = renewed-beside profile dir source number p now x in
+        let rest = go xs in
+        grind (arith, same, alike, rest)
+
+-- the state, and the others of its source, are as many as before
 pub beside_after : (profile : Profile) (store_conf : Conf) (w after : World) (p : PacketView) (now : ℕ) (number : StateNo) (t : Touched)
-    → option_map state_number (state_with (key_of p) w) ≡ Some number → after ≡ world_touched store_conf w p now (state_with (key_of p) w)
-    → Some t ≡ option_map (renewal_of store_conf w p now) (state_with (key_of p) w)
-    → source_states profile t.dir t.source after.states ≡ states_beside profile w (state_with (key_of p) w)
+    → option_map state_number (state_for w p) ≡ Some number → after ≡ world_touched store_conf w p now (state_for w p)
+    → Some t ≡ option_map (renewal_of store_conf w p now) (state_for w p)
+    → 1 + source_states profile t.dir t.source (filter (other_than number.0) after.states) ≡ states_beside profile w (state_for w p)
 beside_after profile store_conf w after p now number t e is touch_is =
-    let (s, found, same) = found_state (state_with (key_of p) w) number e in
+    let (s, found, same) = found_state (state_for w p) number e in
     let told : Some t ≡ Some (renewal_of store_conf w p now s) = touch_is ∙ ap (option_map (renewal_of store_conf w p now)) found in
     let t_is : t ≡ renewal_of store_conf w p now s = cc in
     let after_is : after ≡ world_after_touch store_conf w s p now = is ∙ ap (world_touched store_conf w p now) found in
-    let at : source_states profile t.dir t.source after.states ≡ source_states profile s.dir s.source after.states =
-    ap (λ (x : Touched). source_states profile x.dir x.source after.states) t_is in
-    at ∙ (ap (λ (v : World). source_states profile s.dir s.source v.states) after_is
-    ∙ (count-map (is_beside profile s.dir s.source) (numbered_state_after s.number p now) (λ (x : State). renewed-beside profile s.dir s.source s.number p now x) w.states
-    ∙ sym (ap (states_beside profile w) found)))
+    let others : Touched → ℕ → World → ℕ = λ x n v. 1 + source_states profile x.dir x.source (filter (other_than n) v.states) in
+    let at : others t number.0 after ≡ others (renewal_of store_conf w p now s) s.number after =
+    ap (λ (x : Touched). others x number.0 after) t_is ∙ ap (λ n. others (renewal_of store_conf w p now s) n after) (sym same) in
+    at ∙ (ap (others (renewal_of store_conf w p now s) s.number) after_is
+    ∙ (others-after profile s.dir s.source s.number p now w.states ∙ sym (ap (states_beside profile w) found)))
 
 -- what is not told of a packet that completes no handshake, the answer does not ask
 told_where : (conf : Conf) (h : Held) (number now : ℕ) (done : Bool) (t : Touched) → t.completed ≡ done → answer_of_touch conf h number now (told_at done t) ≡ answer_of_touch conf h number now t
@@ -80,11 +95,11 @@ told_where conf h number now false t e = rw e refl
 
 -- what a packet of the state makes of the machine is what comes of its touch
 pub told_after : (conf store_conf : Conf) (m : Held) (after : World) (p : PacketView) (cookie : Bool) (now : ℕ) (number : StateNo) (t : Touched) → store_conf ≡ conf
-    → option_map state_number (state_with (key_of p) m.world) ≡ Some number → after ≡ world_touched store_conf m.world p now (state_with (key_of p) m.world)
-    → Some t ≡ option_map (renewal_of store_conf m.world p now) (state_with (key_of p) m.world)
+    → option_map state_number (state_for m.world p) ≡ Some number → after ≡ world_touched store_conf m.world p now (state_for m.world p)
+    → Some t ≡ option_map (renewal_of store_conf m.world p now) (state_for m.world p)
     → answer_of_touch conf (held_of after m.tables) number.0 now t ≡ answer_of_key conf m p cookie now
 told_after conf store_conf m after p cookie now number t made_for e is touch_is =
-    let (s, found, same) = found_state (state_with (key_of p) m.world) number e in
+    let (s, found, same) = found_state (state_for m.world p) number e in
     let told : Some t ≡ Some (renewal_of store_conf m.world p now s) = touch_is ∙ ap (option_map (renewal_of store_conf m.world p now)) found in
     let t_is : t ≡ renewal_of store_conf m.world p now s = cc in
     let after_is : after ≡ world_after_touch store_conf m.world s p now = is ∙ ap (world_touched store_conf m.world p now) found in

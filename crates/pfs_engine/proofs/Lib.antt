@@ -5,6 +5,7 @@ mod Fewer
 mod Keeping
 mod Killing
 mod Metering
+mod Numbered
 mod Rows
 mod Watching
 mod Turning

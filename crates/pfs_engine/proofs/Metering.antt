@@ -1,17 +1,16 @@
 -- What the meters of a packet show where no held state has its key, so that the rules decide.
 use Rattle.std.proofs.Common.{◌≡◌, ◌∙◌, ◌-◌, ℕ, Bool, Option, None, Some, Result, Ok, Err, IfOk, OnErr, ap, arith, refl, subst, sym}
 use Rattle.std.specs.Prelude.{option_map}
-use Rattle.pfs_addr_values.specs.Keys.{key_of}
 use Rattle.pfs_addr_values.specs.Packets.{PacketView}
 use Rattle.pfs_conf_values.specs.Configs.{Conf}
 use Rattle.pfs_store_contract.specs.Calls.{state_number}
-use Rattle.pfs_store_contract.specs.Worlds.{state_with}
 use Rattle.pfs_store_contract.specs.declared.records.State.{State}
 use Rattle.pfs_engine_machine.specs.Looks.{AreLooks, AreLooksBehind, states_beside}
 use Rattle.pfs_engine_machine.specs.Machine.{Held}
 use Rattle.pfs_engine_machine.specs.Visits.{AreVisits}
 use Rattle.pfs_engine_machine.specs.declared.events.Outcome.{Outcome}
 use Rattle.pfs_engine.specs.Meters.{AreFirstLooks, AreMetersOf}
+use Rattle.pfs_engine_machine.specs.Sides.{state_for}
 
 -- where no number was found, there is no state
 pub none_found : (o : Option State) → option_map state_number o ≡ None → o ≡ None
@@ -34,14 +33,14 @@ where_refused (Ok o) first = tt
 where_refused (Err x) first = refl
 
 pub meters_by_rules : {E : Type 0} (counts : Bool) (conf : Conf) (h met : Held) (p : PacketView) (cookie : Bool) (answer : Result Outcome E) (first compared : ℕ)
-    → state_with (key_of p) met.world ≡ None → AreVisits conf met p cookie None compared → AreFirstLooks counts conf h.world p first
+    → state_for met.world p ≡ None → AreVisits conf met p cookie None compared → AreFirstLooks counts conf h.world p first
     → IfOk answer (λ o. AreLooks conf 0 o 0) → AreMetersOf counts conf h met p cookie answer compared first
 meters_by_rules counts conf h met p cookie answer first compared none visits firsts no_looks = record {
   visits = subst (λ (s : Option State). AreVisits conf met p cookie s compared) (sym none) visits;
   first = first;
   first_looks = firsts;
   looks = record {
-    counted = λ on. behind_first answer conf (states_beside conf.profile met.world) (state_with (key_of p) met.world) first refl none no_looks;
+    counted = λ on. behind_first answer conf (states_beside conf.profile met.world) (state_for met.world p) first refl none no_looks;
     refused = λ on. where_refused answer first;
     uncounted = λ off. refl;
   };

@@ -1,5 +1,5 @@
 -- What an engine makes of a packet, by what its store reports of it, and which packets need no memory before they are answered.
-use Rattle.std.specs.Prelude.{ℕ, Bool, true, false, if◌then◌else◌, Option, Some, None}
+use Rattle.std.specs.Prelude.{ℕ, Bool, true, false, if◌then◌else◌, Option, Some, None, ◌≡◌}
 use Rattle.pfs_addr_values.specs.Packets.{PacketView}
 use Rattle.pfs_conf_values.specs.Configs.{Conf, options_of, rule_of}
 use Rattle.pfs_conf_values.specs.declared.actions.Action.{Action}
@@ -10,10 +10,12 @@ use Rattle.pfs_store_contract.specs.Handshakes.{over_rate}
 use Rattle.pfs_store_contract.specs.declared.records.State.{State}
 use Rattle.pfs_store_contract.specs.declared.records.Touched.{Touched}
 use Rattle.pfs_engine_machine.specs.Guards.{Guard, asked, brings_cookie, gets_cookie}
-use Rattle.pfs_engine_machine.specs.Machine.{Held, answer_of_exceeded, deciding_rule, exceeded_of, held_for, losing_rule, outcome_of_held}
+use Rattle.pfs_engine_machine.specs.Machine.{Held, answer_of_exceeded, deciding_rule, exceeded_of, held_for, losing_rule, outcome_of_held, packet_ruled}
 use Rattle.pfs_engine_machine.specs.Refusals.{IsFreeOf}
-use Rattle.pfs_engine_machine.specs.Sides.{state_for}
+use Rattle.pfs_engine_machine.specs.Sides.{state_for, are_free}
 use Rattle.pfs_engine_machine.specs.declared.events.Outcome.{Outcome}
+use Rattle.pfs_store_contract.specs.Worlds.{World}
+use Rattle.pfs_store_contract.specs.declared.records.Limit.{Limit}
 
 -- a packet touched the state of this number
 abbrev pub answer_of_touch : Conf → Held → ℕ → ℕ → Touched → Outcome × Held
@@ -22,25 +24,31 @@ answer_of_touch conf h number now t =
     let limits = exceeded_of (exceeds_maximum o.max_src_conn t.connections) (over_rate o.max_src_conn_rate t.score.value) in
     answer_of_exceeded conf h number t.dir t.rule t.source now (outcome_of_held t.rule t.taken t.asks) (if t.completed then limits else None)
 
--- a rule makes no state, or the state is refused, and no node is left
-abbrev pub NeedsNoneAt : Conf → Held → PacketView → ℕ → Action → Type 0
-NeedsNoneAt conf h p rule action.Match = Unit {0}
-NeedsNoneAt conf h p rule action.Block = Unit {0}
-NeedsNoneAt conf h p rule action.Pass = Unit {0}
-NeedsNoneAt conf h p rule (action.Keep o) = IsFreeRefusal conf h.world p rule (packet_limit conf h.world p rule)
+-- where no limit is met, another state has a key of the state, so that none is made; where one is, no node is left
+abbrev pub NeedsNoneAtLimits : Conf → World → PacketView → PacketView → ℕ → Option Limit → Type 0
+NeedsNoneAtLimits conf w p going rule None = are_free w p going ≡ false
+NeedsNoneAtLimits conf w p going rule (Some l) = IsFreeRefusal conf w p rule (Some l)
 
-abbrev pub NeedsNoneBy : Conf → Held → PacketView → Option ℕ → Type 0
-NeedsNoneBy conf h p None = Unit {0}
-NeedsNoneBy conf h p (Some rule) = NeedsNoneAt conf h p rule (rule_of conf rule).action
+-- a rule makes no state of a packet, which goes on as another
+abbrev pub NeedsNoneAt : Conf → Held → PacketView → PacketView → ℕ → Action → Type 0
+NeedsNoneAt conf h p going rule action.Match = Unit {0}
+NeedsNoneAt conf h p going rule action.Block = Unit {0}
+NeedsNoneAt conf h p going rule action.Pass = Unit {0}
+NeedsNoneAt conf h p going rule (action.Keep o) = NeedsNoneAtLimits conf h.world p going rule (packet_limit conf h.world p rule)
+
+abbrev pub NeedsNoneBy : Conf → Held → PacketView → PacketView → Option ℕ → Type 0
+NeedsNoneBy conf h p going None = Unit {0}
+NeedsNoneBy conf h p going (Some rule) = NeedsNoneAt conf h p going rule (rule_of conf rule).action
 
 -- a packet that is lost needs none
-abbrev pub NeedsNoneUnlessLost : Conf → Held → PacketView → Option ℕ → Option ℕ → Type 0
-NeedsNoneUnlessLost conf h p decides None = NeedsNoneBy conf h p decides
-NeedsNoneUnlessLost conf h p decides (Some rule) = Unit {0}
+abbrev pub NeedsNoneUnlessLost : Conf → Held → PacketView → PacketView → Option ℕ → Option ℕ → Type 0
+NeedsNoneUnlessLost conf h p going decides None = NeedsNoneBy conf h p going decides
+NeedsNoneUnlessLost conf h p going decides (Some rule) = Unit {0}
 
 -- a packet of this state needs none, or, where there is none, by the rule that decides
 abbrev pub NeedsNone : Conf → Held → PacketView → Bool → Option State → Type 0
-NeedsNone conf h p cookie None = NeedsNoneUnlessLost conf h p (deciding_rule conf h (asked p cookie)) (losing_rule conf h (asked p cookie))
+NeedsNone conf h p cookie None =
+    NeedsNoneUnlessLost conf h p (packet_ruled conf h (asked p cookie)) (deciding_rule conf h (asked p cookie)) (losing_rule conf h (asked p cookie))
 NeedsNone conf h p cookie (Some s) = IsFreeOf conf p s.rule
 
 -- a packet that meets this, and brings a cookie, or not, needs none

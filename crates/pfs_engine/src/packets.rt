@@ -5,7 +5,7 @@ ghost use Rattle.pfs_addr_values.specs.Packets.{run_limit};
 ghost use Rattle.pfs_eval.specs.Verdict.{IsRuleAt};
 ghost use Rattle.pfs_store_contract.specs.Admission.{is_answered};
 ghost use Rattle.pfs_conf_values.specs.Configs.{options_at, translates};
-ghost use Rattle.pfs_store_contract.specs.Calls.{IsFreeRefusal, packet_limit, state_number, state_rule};
+ghost use Rattle.pfs_store_contract.specs.Calls.{packet_limit, state_number, state_rule};
 ghost use Rattle.pfs_store_contract.specs.Touching.{may_reopen, reopens};
 ghost use Rattle.pfs_engine_machine.specs.Guards.{asked, guard_after_packet, guard_for};
 ghost use Rattle.pfs_engine_machine.specs.Kept.{IsKept};
@@ -16,7 +16,7 @@ ghost use Rattle.pfs_engine_machine.specs.Visits.{AreVisits};
 ghost use Rattle.pfs_engine.specs.Ways.{HasRoutes};
 ghost use Rattle.pfs_engine.specs.Held.{Holds, IsAnswered, IsAnsweredBehindGuard, IsAnsweredTo, IsReachedBy};
 ghost use Rattle.pfs_engine.specs.Meters.{AreFirstLooks, AreMetersBehindGuard, AreMetersOf};
-ghost use Rattle.pfs_engine.specs.Packets.{NeedsNone, NeedsNoneBehindGuard, NeedsNoneBy, NeedsNoneOf};
+ghost use Rattle.pfs_engine.specs.Packets.{NeedsNone, NeedsNoneAtLimits, NeedsNoneBehindGuard, NeedsNoneBy, NeedsNoneOf};
 
 use crate::guard::Guard;
 use crate::handshakes::take_packet_of_state;
@@ -205,7 +205,7 @@ fn by_action<S: Store>(
     requires known { IsRuleAt held.old.config.items rule.0 }
     requires room { held.old.held.world.made < run_limit }
     ensures answered { IsAnswered result (answer_of_rule held.old.config held.old.held packet.now going.now cookie now (Some rule.0)) held.old held.new }
-    ensures free { NeedsNoneBy held.old.config held.old.held packet.now (Some rule.0) → IsOk result }
+    ensures free { NeedsNoneBy held.old.config held.old.held packet.now going.now (Some rule.0) → IsOk result }
     ensures no_looks { IfOk result (λ o. AreLooks held.old.config 0 o 0) }
 {
     let Some(found) = held.config.rule(rule) else {
@@ -234,7 +234,7 @@ fn by_limits<S: Store>(
     requires room { held.old.held.world.made < run_limit }
     ensures answered { IsAnswered result (answer_of_limits held.old.config held.old.held packet.now going.now cookie now rule.0
         (packet_limit held.old.config held.old.held.world packet.now rule.0)) held.old held.new }
-    ensures free { IsFreeRefusal held.old.config held.old.held.world packet.now rule.0
+    ensures free { NeedsNoneAtLimits held.old.config held.old.held.world packet.now going.now rule.0
         (packet_limit held.old.config held.old.held.world packet.now rule.0) → IsOk result }
     ensures no_looks { IfOk result (λ o. AreLooks held.old.config 0 o 0) }
 {

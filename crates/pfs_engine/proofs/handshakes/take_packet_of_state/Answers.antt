@@ -11,6 +11,7 @@ use Rattle.pfs_engine.specs.Held.{HeldView, tables_held, view_of}
 use Rattle.pfs_engine.specs.Rooms.{HasRoomFor}
 use Rattle.pfs_engine.proofs.Belonging.{beside_after, opened, room_after, told_after}
 use Rattle.pfs_engine.proofs.handshakes.take_packet_of_state.Goals as goal
+use Rattle.pfs_engine_machine.specs.Sides.{state_for}
 
 pub renew-touched-requires-clause-held : goal.renew-touched-requires-clause-held
 renew-touched-requires-clause-held g c =
@@ -34,7 +35,7 @@ complete_handshake-requires-clause-room g c =
     let p = c.args.packet.now in
     let t = c.renew-touched.result in
     let same = opened was c.make_room.new.held inside.config inside.store w inside.tables c.held.view_is c.in_ok-make_room.ensures.same in
-    let answer = subst (λ (h : Held). Some t ≡ option_map (renewal_of store_conf h.world p c.args.now) (state_with (key_of p) h.world)) same.1 c.renew-touched.ensures.answer in
+    let answer = subst (λ (h : Held). Some t ≡ option_map (renewal_of store_conf h.world p c.args.now) (state_for h.world p)) same.1 c.renew-touched.ensures.answer in
     let room = room_after was.config store_conf was.held p c.args.now c.args.found.number t c.args.found.rule (tables_held c.make_room.new.held) c.requires.kept c.requires.found.number c.requires.found.rule answer c.in_ok-make_room.ensures.room in
     λ done. subst (λ (k : Conf). HasRoomFor (tables_held (view_of inside.config inside.store w inside.tables)) (options_of k t.rule.0).overload) (sym same.0)
     (subst (λ (v : HeldView _). HasRoomFor (tables_held v) (options_of was.config t.rule.0).overload) (sym c.held.view_is) (room done))
@@ -49,7 +50,7 @@ returns-clause-answered g c = λ cookie.
     let t = c.renew-touched in
     let same = opened was c.make_room.new.held inside.config inside.store w inside.tables c.held.view_is c.in_ok-make_room.ensures.same in
     let m = held_of w inside.tables.entries in
-    let found = subst (λ (h : Held). option_map state_number (state_with (key_of p) h.world) ≡ Some c.args.found.number) (sym same.1) c.requires.found.number in
+    let found = subst (λ (h : Held). option_map state_number (state_for h.world p) ≡ Some c.args.found.number) (sym same.1) c.requires.found.number in
     let told = told_after inside.config store_conf m (g.S.Store.world t.new.self) p cookie c.args.now c.args.found.number t.result c.held.invariant.store found t.ensures.world t.ensures.answer in
     record {
       ok = c.complete_handshake.ensures.told.told ∙ (told ∙ (λ i. answer_of_key (same.0 i) (same.1 i) p cookie c.args.now));
@@ -66,8 +67,8 @@ returns-clause-looks g c =
     let p = c.args.packet.now in
     let t = c.renew-touched in
     let same = opened was c.make_room.new.held inside.config inside.store w inside.tables c.held.view_is c.in_ok-make_room.ensures.same in
-    let is = subst (λ (h : Held). g.S.Store.world t.new.self ≡ world_touched store_conf h.world p c.args.now (state_with (key_of p) h.world)) same.1 t.ensures.world in
-    let answer = subst (λ (h : Held). Some t.result ≡ option_map (renewal_of store_conf h.world p c.args.now) (state_with (key_of p) h.world)) same.1 t.ensures.answer in
+    let is = subst (λ (h : Held). g.S.Store.world t.new.self ≡ world_touched store_conf h.world p c.args.now (state_for h.world p)) same.1 t.ensures.world in
+    let answer = subst (λ (h : Held). Some t.result ≡ option_map (renewal_of store_conf h.world p c.args.now) (state_for h.world p)) same.1 t.ensures.answer in
     let beside = beside_after inside.config.profile store_conf was.held.world (g.S.Store.world t.new.self) p c.args.now c.args.found.number t.result c.requires.found.number is answer in
     let further = c.complete_handshake.ensures.looks in
     record {
@@ -77,7 +78,7 @@ returns-clause-looks g c =
           let o = c.complete_handshake.result in
           let looks = c.complete_handshake.new.looks in
           let beside_touched = source_states inside.config.profile t.result.dir t.result.source (g.S.Store.world t.new.self).states in
-          subst (λ (k : Conf). AreLooksBehind c.args.looks.now (AreLooks k (states_beside k.profile was.held.world (state_with (key_of p) was.held.world)) o) looks) same.0
+          subst (λ (k : Conf). AreLooksBehind c.args.looks.now (AreLooks k (states_beside k.profile was.held.world (state_for was.held.world p)) o) looks) same.0
           (subst (λ (n : ℕ). AreLooksBehind c.args.looks.now (AreLooks inside.config n o) looks) beside
           (subst (λ (n : ℕ). AreLooksBehind n (AreLooks inside.config beside_touched o) looks) first (further.counted on one)));
       refused = λ on. tt;

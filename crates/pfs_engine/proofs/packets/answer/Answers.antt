@@ -2,9 +2,7 @@
 -- meters show where the rules decide (`meters`).
 use Rattle.std.proofs.Common.{◌≡◌, ◌∙◌, None, IfOk, OnErr, ap, subst, sym}
 use Rattle.std.specs.Prelude.{option_map}
-use Rattle.pfs_addr_values.specs.Keys.{key_of}
 use Rattle.pfs_conf_values.specs.Configs.{Conf}
-use Rattle.pfs_store_contract.specs.Worlds.{state_with}
 use Rattle.pfs_engine_machine.specs.Kept.{IsKept}
 use Rattle.pfs_engine_machine.specs.Looks.{AreLooks}
 use Rattle.pfs_engine_machine.specs.Machine.{Held, answer_of_key, held_for}
@@ -12,6 +10,7 @@ use Rattle.pfs_engine_machine.specs.Visits.{AreVisits}
 use Rattle.pfs_engine_machine.proofs.Reopening.{kept_met}
 use Rattle.pfs_engine.proofs.Metering.{meters_by_rules, none_found}
 use Rattle.pfs_engine.proofs.packets.answer.Goals as goal
+use Rattle.pfs_engine_machine.specs.Sides.{state_for}
 
 pub take_packet_of_state-requires-clause-kept : goal.take_packet_of_state-requires-clause-kept
 take_packet_of_state-requires-clause-kept g c =
@@ -42,8 +41,8 @@ returns-in-None-clause-meters g c =
     let p = c.args.packet.now in
     let found = held_for was.config was.held p c.args.now in
     let same = c.meet.ensures.held in
-    let none = none_found (state_with (key_of p) c.meet.new.held.held.world) (sym c.meet.ensures.number ∙ ap (option_map _) c.in-None.is) in
-    let none_met = subst (λ (h : Held). state_with (key_of p) h.world ≡ None) same.held none in
+    let none = none_found (state_for c.meet.new.held.held.world p) (sym c.meet.ensures.number ∙ ap (option_map _) c.in-None.is) in
+    let none_met = subst (λ (h : Held). state_for h.world p ≡ None) same.held none in
     let visits = subst (λ (h : Held). AreVisits was.config h p c.args.cookie None c.by_rules.new.visits) same.held
     (subst (λ (k : Conf). AreVisits k c.meet.new.held.held p c.args.cookie None c.by_rules.new.visits) same.config c.by_rules.ensures.visits) in
     let no_looks = subst (λ (k : Conf). IfOk c.by_rules.result (λ o. AreLooks k 0 o 0)) same.config c.by_rules.ensures.no_looks in
