@@ -1,7 +1,7 @@
 -- A packet of a held state: there is room in the overload table where it completes a handshake, and what comes of its touch.
 use Rattle.std.proofs.Common.{◌≡◌, ℕ, Bool, true, false, Option, None, Some, ap, ◌∙◌, sym, subst, refl, ◌+◌, ◌==◌, not, filter, length, map, List, [], ◌∷◌, arith}
 use Rattle.std.specs.Prelude.{option_map}
-use Rattle.pfs_addr_values.specs.Packets.{PacketView}
+use Rattle.pfs_addr_values.specs.Packets.{PacketView, with_tag}
 use Rattle.pfs_addr_values.specs.Sameness.{same_addr}
 use Rattle.pfs_addr_values.specs.declared.addresses.Addr.{Addr}
 use Rattle.pfs_addr_values.specs.declared.packets.Dir.{Dir}
@@ -11,16 +11,16 @@ use Rattle.pfs_conf_values.specs.Configs.{Conf, options_of}
 use Rattle.pfs_conf_values.specs.declared.items.RuleNo.{RuleNo}
 use Rattle.pfs_conf_values.specs.declared.profiles.Profile.{Profile}
 use Rattle.pfs_conf_values.specs.declared.profiles.Profile.TheVariants as profile
-use Rattle.pfs_store_contract.specs.Calls.{renewal_of, source_states, told_at, touch_of, world_touched, state_number, state_rule, other_than}
+use Rattle.pfs_store_contract.specs.Calls.{renewal_of, source_states, told_at, touch_of, world_touched, state_number, state_rule, other_than, onward_key}
 use Rattle.pfs_store_contract.specs.Leaving.{end_on, is_beside}
 use Rattle.pfs_store_contract.specs.Touching.{completes_at, numbered_state_after, world_after_touch}
 use Rattle.pfs_store_contract.specs.Worlds.{World}
 use Rattle.pfs_store_contract.specs.declared.records.State.{State}
 use Rattle.pfs_store_contract.specs.declared.records.StateNo.{StateNo}
 use Rattle.pfs_store_contract.specs.declared.records.Touched.{Touched}
-use Rattle.pfs_engine_machine.specs.Kept.{IsKept}
+use Rattle.pfs_engine_machine.specs.Kept.{IsKept, Rise}
 use Rattle.pfs_engine_machine.specs.Looks.{states_beside}
-use Rattle.pfs_engine_machine.specs.Machine.{Held, answer_of_key, answer_of_state, held_of}
+use Rattle.pfs_engine_machine.specs.Machine.{Held, answer_of_key, answer_of_state, held_of, going_from, going_of_state}
 use Rattle.pfs_engine_machine.specs.Refusals.{is_tcp}
 use Rattle.pfs_engine.specs.Held.{HeldView, Holds, view_of}
 use Rattle.pfs_engine.specs.Packets.{answer_of_touch}
@@ -29,6 +29,9 @@ use Rattle.pfs_engine_machine.proofs.Counts.{count-map}
 use Rattle.pfs_engine_machine.proofs.Renewals.{renewed-same}
 use Rattle.pfs_engine_machine.proofs.KeptHandshakes.{proto_of_completed}
 use Rattle.pfs_engine_machine.specs.Sides.{state_for}
+use Rattle.pfs_engine_machine.proofs.Numbers.{Rise-map}
+use Rattle.pfs_addr_values.specs.Keys.{under_key}
+use Rattle.std.specs.Option.{option_and_then}
 
 -- the state that was found
 pub found_state : (o : Option State) (number : StateNo) → option_map state_number o ≡ Some number → (s : State) × (o ≡ Some s) × (s.number ≡ number.0)
@@ -112,6 +115,30 @@ told_after conf store_conf m after p cookie now number t made_for e is touch_is 
     let third : answer_of_touch conf (held_of (world_after_touch store_conf m.world s p now) m.tables) s.number now (touch_of store_conf m.world p now s) ≡ answer_of_state conf m p cookie now (Some s) =
     ap (λ (k : Conf). answer_of_touch conf (held_of (world_after_touch k m.world s p now) m.tables) s.number now (touch_of k m.world p now s)) made_for in
     first ∙ (second ∙ (third ∙ sym (ap (answer_of_state conf m p cookie now) found)))
+
+-- the numbers rise behind it
+pub rises_after : (conf : Conf) (w after : World) (p : PacketView) (now : ℕ) (o : Option State) → Rise 0 w.states w.made → after ≡ world_touched conf w p now o
+    → Rise 0 after.states after.made
+rises_after conf w after p now o r is = subst (λ (v : World). Rise 0 v.states v.made) (sym is) (by o)
+  where
+    by : (o : Option State) → Rise 0 (world_touched conf w p now o).states (world_touched conf w p now o).made
+    by None = r
+    by (Some s) = Rise-map (numbered_state_after s.number p now) (λ (t : State). (renewed-same s.number p now t).number) 0 w.made w.states r
+
+-- how it goes on
+pub going_on : (conf store_conf : Conf) (m : Held) (p : PacketView) (cookie : Bool) (now : ℕ) (number : StateNo) (t : Touched) (key : Option FlowKey)
+    → option_map state_number (state_for m.world p) ≡ Some number
+    → Some t ≡ option_map (renewal_of store_conf m.world p now) (state_for m.world p)
+    → key ≡ option_and_then (onward_key p.dir) (state_for m.world p)
+    → under_key key (with_tag p t.tag) ≡ going_from conf m p cookie
+going_on conf store_conf m p cookie now number t key e touch_is key_is =
+    let (s, found, same) = found_state (state_for m.world p) number e in
+    let told : Some t ≡ Some (renewal_of store_conf m.world p now s) = touch_is ∙ ap (option_map (renewal_of store_conf m.world p now)) found in
+    let t_is : t ≡ renewal_of store_conf m.world p now s = cc in
+    let at : key ≡ onward_key p.dir s = key_is ∙ ap (option_and_then (onward_key p.dir)) found in
+    ap (λ (k : Option FlowKey). under_key k (with_tag p t.tag)) at
+    ∙ ap (λ (x : Touched). under_key (onward_key p.dir s) (with_tag p x.tag)) t_is
+    ∙ sym (ap (going_of_state conf m p cookie) found)
 
 -- ---- what is held, opened after room was made
 

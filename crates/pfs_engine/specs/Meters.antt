@@ -1,8 +1,15 @@
 -- What meters show of a packet, and the work of purges, while they are done. (own)
-use Rattle.std.specs.Prelude.{ℕ, ◌≡◌, ◌≤◌, ◌-◌, Bool, true, false, List, Result, IfOk, OnErr}
+use Rattle.std.specs.Prelude.{ℕ, ◌≡◌, ◌≤◌, ◌+◌, ◌-◌, not, Bool, true, false, Some, List, Result, IfOk, OnErr}
 use Rattle.pfs_addr_values.specs.Packets.{PacketView}
+use Rattle.pfs_addr_values.specs.declared.addresses.Addr.{Addr}
+use Rattle.pfs_addr_values.specs.declared.packets.Dir.{Dir}
 use Rattle.pfs_conf_values.specs.Configs.{Conf}
+use Rattle.pfs_conf_values.specs.declared.actions.Scope.{Scope}
+use Rattle.pfs_conf_values.specs.declared.items.RuleNo.{RuleNo}
+use Rattle.pfs_conf_values.specs.declared.profiles.Profile.{Profile}
+use Rattle.pfs_store_contract.specs.Handshakes.{goes_beside}
 use Rattle.pfs_store_contract.specs.Worlds.{World}
+use Rattle.pfs_store_contract.specs.declared.records.State.{State}
 use Rattle.pfs_engine_machine.specs.Guards.{Guard}
 use Rattle.pfs_engine_machine.specs.Looks.{AreLooks, AreLooksBehind, first_looks, looks_before, states_beside}
 use Rattle.pfs_engine_machine.specs.Machine.{Held, held_behind_guard}
@@ -50,6 +57,17 @@ pub record AreMetersBehindGuard {E : Type 0} (counts : Bool) (conf : Conf) (g : 
 -- the looks after those up to the one at the packet's own state, where the store counts them
 pub record AreFurtherLooks (counts : Bool) (before after : ℕ) (AreLooksNow : ℕ → Type 0) : Type 0 where
   pub counted : counts ≡ true → 1 ≤ before → AreLooksBehind (before - 1) AreLooksNow after
+  pub uncounted : counts ≡ false → after ≡ before
+
+-- those stay which are not flushed with a state of this direction, rule and source
+abbrev pub stays_beside : Profile → Scope → Dir → RuleNo → Addr → State → Bool
+stays_beside profile scope dir rule source s = not (goes_beside profile (Some scope) dir rule source s)
+
+-- the looks of a flush that leaves so many states of so many: at least one for each that it takes out, and at most one for each of those of
+-- the source, where the store counts them
+pub record AreLooksOfFlush (counts : Bool) (before after held left of_source : ℕ) : Type 0 where
+  pub least : counts ≡ true → before + (held - left) ≤ after
+  pub most : counts ≡ true → after ≤ before + of_source
   pub uncounted : counts ≡ false → after ≡ before
 
 -- the work of purges: the most that one slice of states and one of nodes examines; the looks are those of that slice of states,

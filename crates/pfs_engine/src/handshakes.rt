@@ -2,7 +2,8 @@
 
 ghost use Rattle.std.specs.Prelude.{◌≡◌, ◌+◌, ◌≤◌, ◌<◌, ◌^◌, Bool, true, false, None, Some, filter, length, IsOk, OnOk};
 ghost use Rattle.std.specs.Option.{ForSome, option_copied};
-ghost use Rattle.pfs_addr_values.specs.Packets.{run_limit};
+ghost use Rattle.pfs_addr_values.specs.Keys.{under_key};
+ghost use Rattle.pfs_addr_values.specs.Packets.{run_limit, with_tag};
 ghost use Rattle.pfs_conf_values.specs.Configs.{Conf, limit_of, options_at, options_of};
 ghost use Rattle.pfs_conf_values.specs.LoadRules.{AreOptions};
 ghost use Rattle.pfs_conf_values.specs.Bounds.{IsRate};
@@ -11,20 +12,20 @@ ghost use Rattle.pfs_store_contract.specs.Calls.{other_than, source_states};
 ghost use Rattle.pfs_store_contract.specs.Handshakes.{stays_at_kill, flush_of, goes_with, over_rate};
 ghost use Rattle.pfs_store_contract.specs.Leaving.{world_without};
 ghost use Rattle.pfs_store_contract.specs.declared.records.State.{State};
-ghost use Rattle.pfs_engine_machine.specs.Kept.{IsKept};
+ghost use Rattle.pfs_engine_machine.specs.Kept.{IsKept, Rise};
 ghost use Rattle.pfs_engine_machine.specs.Looks.{AreLooks, AreLooksOfKill};
 ghost use Rattle.pfs_engine_machine.specs.Machine.{addition_of, answer_of_key, exceeded_of, going_from, outcome_of_held, tables_after_addition};
 ghost use Rattle.pfs_engine_machine.specs.Refusals.{IsFreeOf, is_tcp};
 ghost use Rattle.pfs_engine_machine.specs.Sides.{state_for};
 ghost use Rattle.pfs_engine.specs.Ways.{HasRoutes};
 ghost use Rattle.pfs_engine.specs.Held.{Holds, IsAnswered, IsDone, IsReachedBy, tables_held};
-ghost use Rattle.pfs_engine.specs.Meters.{AreFurtherLooks, AreLooksOf};
+ghost use Rattle.pfs_engine.specs.Meters.{AreFurtherLooks, AreLooksOf, AreLooksOfFlush, stays_beside};
 ghost use Rattle.pfs_engine.specs.Packets.{answer_of_touch};
 ghost use Rattle.pfs_engine.specs.Rooms.{HasRoomFor};
 
 use crate::held::Held;
 use crate::ways::may_go_on;
-use pfs_addr_values::{Addr, Dir, Meter, NoMemory, Packet, Proto};
+use pfs_addr_values::{Addr, Dir, FlowKey, Meter, NoMemory, Packet, Proto, TagNo};
 use pfs_conf_values::{Config, LimitName, Overload, Rate, RuleNo, Scope, StateOptions};
 use pfs_engine_machine::{Exceeded, Outcome};
 use pfs_eval::{Added, Tables};
@@ -57,11 +58,23 @@ pub(crate) fn take_packet_of_state<S: Store>(
     ensures looks { AreLooksOf S.counts held.old.config held.old.held.world packet.now result looks.old looks.new }
 {
     make_room(held, found.rule, packet)?;
+    let key = held.key_beyond(found, packet);
     let touched = held.store.renew(found, packet, now, looks);
     if may_go_on(&held.config) {
-        *going = Some(held.onward(found, &packet.with_tag(touched.tag)));
+        *going = Some(sent_on(packet, touched.tag, &key));
     }
     Ok(complete_handshake(held, found, &touched, now, looks))
+}
+
+/// A packet as it goes on with this tag, and under a key, if this is one.
+fn sent_on(packet: &Packet, tag: Option<TagNo>, key: &Option<FlowKey>) -> Packet
+    ensures { result ≡ under_key key.now (with_tag packet.now tag) }
+{
+    let tagged = packet.with_tag(tag);
+    match key {
+        Some(key) => tagged.under(key),
+        None => tagged,
+    }
 }
 
 /// Room for one more entry in the overload table of a rule, where a packet of its state may complete a handshake.
@@ -107,6 +120,7 @@ fn complete_handshake<S: Store>(
     looks: &mut Meter,
 ) -> Outcome
     requires reached { S.reaches held.old.store found ≡ true }
+    requires numbers { Rise 0 held.old.held.world.states held.old.held.world.made }
     requires looks { looks.old ≤ run_limit }
     requires moment { now ≤ 2 ^ 63 }
     requires room { touched.now.completed ≡ true → HasRoomFor (tables_held held.old) (options_of held.old.config touched.now.rule.0).overload }
@@ -229,8 +243,9 @@ struct Killing {
 /// Kills states. It returns how many they are.
 fn kill<S: Store>(store: &mut S, which: Killing, now: u64, looks: &mut Meter) -> u64
     requires reached { S.reaches store.old which.found ≡ true }
+    requires numbers { Rise 0 (S.world store.old).states (S.world store.old).made }
     requires moment { now ≤ 2 ^ 63 }
-    requires looks { looks.old ≤ 2 ^ 63 }
+    requires looks { looks.old ≤ run_limit + 1 }
     ensures answer { (conf : Conf) → S.config store.old ≡ conf → result
         ≡ length (filter (goes_with conf.profile which.flush which.found.number.0 which.dir which.rule which.source) (S.world store.old).states) }
     ensures world { (conf : Conf) → S.config store.old ≡ conf → S.world store.new
@@ -242,11 +257,28 @@ fn kill<S: Store>(store: &mut S, which: Killing, now: u64, looks: &mut Meter) ->
 {
     let before = store.state_count();
     store.kill(which.found, now, looks);
-    let rule = match which.flush {
-        None => return before - store.state_count(),
-        Some(Scope::Rule) => Some(which.rule),
-        Some(Scope::Global) => None,
+    match which.flush {
+        None => before - store.state_count(),
+        Some(scope) => {
+            flush(store, which, scope, now, looks);
+            before - store.state_count()
+        }
+    }
+}
+
+/// Flushes the states of the source, of all rules or of that of the state which was killed.
+fn flush<S: Store>(store: &mut S, which: Killing, scope: Scope, now: u64, looks: &mut Meter)
+    requires moment { now ≤ 2 ^ 63 }
+    requires looks { looks.old ≤ 2 ^ 63 }
+    ensures world { (conf : Conf) → S.config store.old ≡ conf → S.world store.new
+        ≡ world_without conf (S.world store.old) (stays_beside conf.profile scope which.dir which.rule which.source) now }
+    ensures config { S.config store.new ≡ S.config store.old }
+    ensures looks { AreLooksOfFlush S.counts looks.old looks.new (length (S.world store.old).states) (length (S.world store.new).states)
+        (source_states (S.config store.old).profile which.dir which.source (S.world store.old).states) }
+{
+    let rule = match scope {
+        Scope::Rule => Some(which.rule),
+        Scope::Global => None,
     };
-    let alone = before - store.state_count();
-    alone + store.flush(which.dir, which.source, rule, now, looks)
+    store.flush(which.dir, which.source, rule, now, looks);
 }

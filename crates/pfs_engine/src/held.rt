@@ -2,7 +2,7 @@
 
 ghost use Rattle.std.specs.Prelude.{◌≡◌, ◌<◌, ◌≤◌, ◌^◌, false, None, All, is_none, length, true, IfOk, IfSome, OnErr, option_map};
 ghost use Rattle.std.specs.Option.{option_and_then};
-ghost use Rattle.pfs_addr_values.specs.Keys.{key_of, under_key};
+ghost use Rattle.pfs_addr_values.specs.Keys.{key_of};
 ghost use Rattle.pfs_conf_values.specs.Configs.{limit_of};
 ghost use Rattle.pfs_conf_values.specs.Invariants.{IsConfig};
 ghost use Rattle.pfs_eval.specs.Tables.{entered_to, entry_count};
@@ -10,7 +10,7 @@ ghost use Rattle.pfs_eval.specs.Verdict.{IsRuleAt};
 ghost use Rattle.pfs_store_contract.specs.Calls.{onward_key, state_number, state_rule};
 ghost use Rattle.pfs_store_contract.specs.Counts.{half_open};
 ghost use Rattle.pfs_store_contract.specs.Worlds.{empty_world, state_numbered, state_with};
-ghost use Rattle.pfs_engine_machine.specs.Kept.{IsPlain};
+ghost use Rattle.pfs_engine_machine.specs.Kept.{IsPlain, Rise};
 ghost use Rattle.pfs_engine_machine.specs.Machine.{answer_to_command, answer_to_kill, deciding_rule, held_of, losing_rule, packet_ruled, start, world_after_purges};
 ghost use Rattle.pfs_engine_machine.specs.Shares.{seconds};
 ghost use Rattle.pfs_engine_machine.specs.Sides.{are_free, state_for};
@@ -18,8 +18,10 @@ ghost use Rattle.pfs_engine_machine.specs.Visits.{AreVisits};
 ghost use Rattle.pfs_engine_machine.specs.Ways.{inside};
 ghost use Rattle.pfs_engine.specs.Held.{Holds, IsAnsweredAs, IsDone};
 ghost use Rattle.pfs_engine.specs.Meters.{IsWorkOfPurges};
+ghost use Rattle.pfs_engine.specs.Ways.{HasRoutes};
 
 use crate::purges::purge_each;
+use crate::ways::may_go_on;
 use crate::works::Work;
 use pfs_addr_values::{Dir, FlowKey, Meter, NoMemory, Packet};
 use pfs_conf_values::{Config, LimitName, TableNo};
@@ -139,19 +141,21 @@ impl<S: Store> Held<S> {
             && self.store.find_inside(&inner_key(packet, going)).is_none()
     }
 
-    /// A packet of the state that was found, as it goes on: under the state's other key, where it has two.
-    pub(crate) fn onward(&self, found: Found, packet: &Packet) -> Packet
+    /// The key under which a packet of the state that was found goes on, where it has two, and there are routes.
+    pub(crate) fn key_beyond(&self, found: Found, packet: &Packet) -> Option<FlowKey>
         requires reached { S.reaches self.now.store found ≡ true }
-        ensures { result ≡ under_key (option_and_then (onward_key packet.now.dir) (state_numbered found.number.0 self.now.held.world)) packet.now }
+        ensures { HasRoutes self.now.config
+            → result ≡ option_and_then (onward_key packet.now.dir) (state_numbered found.number.0 self.now.held.world) }
     {
-        match self.store.onward_key(found, packet.dir()) {
-            Some(key) => packet.under(&key),
-            None => *packet,
+        if !may_go_on(&self.config) {
+            return None;
         }
+        self.store.onward_key(found, packet.dir())
     }
 
     /// A packet that was seen on its way out, as it is inside.
     pub(crate) fn inside(&self, packet: &Packet) -> Packet
+        requires numbers { Rise 0 self.now.held.world.states self.now.held.world.made }
         requires plain { All (IsPlain self.now.config) self.now.held.world.states }
         ensures { result ≡ inside self.now.held.world packet.now }
     {
@@ -166,10 +170,13 @@ impl<S: Store> Held<S> {
 
     /// The inner key of the state that has the key of a packet on the wire, where it is another one.
     fn inner_key(&self, packet: &Packet) -> Option<FlowKey>
+        requires numbers { Rise 0 self.now.held.world.states self.now.held.world.made }
         ensures { result ≡ option_and_then (λ s. s.inner) (state_with (key_of packet.now) self.now.held.world) }
     {
-        let found = self.store.find(&FlowKey::of(packet))?;
-        self.store.onward_key(found, Dir::In)
+        match self.store.find(&FlowKey::of(packet)) {
+            Some(found) => self.store.onward_key(found, Dir::In),
+            None => None,
+        }
     }
 
     /// The rule that decides on a packet of no state, if one does, the packet as the rules leave it, and the rule that loses it, if one

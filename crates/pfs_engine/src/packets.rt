@@ -114,6 +114,7 @@ fn answer<S: Store>(
 /// The state of a packet, once one has left that the packet does not meet: one that has closed, of a SYN, under the
 /// profile of OpenBSD 7.4. It takes no memory. (pf of OpenBSD 7.4, as it is remembered)
 fn meet<S: Store>(held: &mut Held<S>, packet: &Packet, now: u64, looks: &mut Meter) -> Option<Found>
+    requires kept { IsKept held.old.config held.old.held now }
     requires moment { now ≤ 2 ^ 63 }
     requires looks { looks.old ≡ 0 }
     ensures held { Holds held.old held.new (held_for held.old.config held.old.held packet.now now) }
@@ -132,6 +133,7 @@ fn meet<S: Store>(held: &mut Held<S>, packet: &Packet, now: u64, looks: &mut Met
 
 /// Whether a packet begins the connection of the state that was found anew, since that has closed.
 fn reopens<S: Store>(held: &Held<S>, found: Found, packet: &Packet, looks: &mut Meter) -> bool
+    requires kept { (now : ℕ) × IsKept held.now.config held.now.held now }
     requires found { IsReachedBy S.reaches held.now packet.now found }
     requires looks { looks.old ≡ 0 }
     ensures answer { Some result ≡ option_map (reopens held.now.config packet.now) (state_for held.now.held.world packet.now) }

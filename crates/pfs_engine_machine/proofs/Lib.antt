@@ -15,7 +15,7 @@ pub mod KeptAdmission
 pub mod KeptHandshakes
 pub mod KeptPackets
 pub mod KeptTime
-mod Keys
+pub mod Keys
 pub mod Leading
 mod Limits
 mod Lists

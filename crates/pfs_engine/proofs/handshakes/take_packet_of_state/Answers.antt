@@ -1,23 +1,35 @@
--- Answers of take_packet_of_state: the store reaches what was found after room was made; what is told, and its looks (`looks`).
-use Rattle.std.proofs.Common.{◌≡◌, ◌≤◌, ◌-◌, ◌∙◌, ℕ, Some, ap, arith, subst, sym}
+-- Answers of take_packet_of_state: the store reaches what was found after room was made; what is told, and its looks (`looks`); and under
+-- which key the packet goes on (`going`).
+use Rattle.std.proofs.Common.{◌≡◌, ◌≤◌, ◌+◌, ◌-◌, ◌∙◌, ℕ, Option, Some, ap, arith, subst, sym, true, Bool, filter, map}
 use Rattle.std.specs.Prelude.{option_map}
-use Rattle.pfs_addr_values.specs.Keys.{key_of}
+use Rattle.std.specs.Option.{option_and_then}
+use Rattle.pfs_addr_values.specs.Keys.{under_key}
+use Rattle.pfs_addr_values.specs.Packets.{with_tag}
+use Rattle.pfs_addr_values.specs.declared.packets.FlowKey.{FlowKey}
+use Rattle.pfs_addr_values.specs.declared.packets.TagNo.{TagNo}
 use Rattle.pfs_conf_values.specs.Configs.{Conf, options_of}
-use Rattle.pfs_store_contract.specs.Worlds.{state_with}
-use Rattle.pfs_store_contract.specs.Calls.{renewal_of, source_states, state_number, world_touched}
+use Rattle.pfs_store_contract.specs.Calls.{onward_key, other_than, renewal_of, source_states, state_number, world_touched}
+use Rattle.pfs_store_contract.specs.Touching.{world_after_touch}
+use Rattle.pfs_store_contract.specs.Worlds.{World, holds_number, state_numbered}
+use Rattle.pfs_store_contract.specs.declared.records.State.{State}
+use Rattle.pfs_store_contract.specs.declared.records.Touched.{Touched}
+use Rattle.pfs_engine_machine.specs.Kept.{Rise}
 use Rattle.pfs_engine_machine.specs.Looks.{AreLooks, AreLooksBehind, states_beside}
 use Rattle.pfs_engine_machine.specs.Machine.{Held, answer_of_key, held_of}
+use Rattle.pfs_engine_machine.specs.Sides.{state_for}
 use Rattle.pfs_engine.specs.Held.{HeldView, tables_held, view_of}
 use Rattle.pfs_engine.specs.Rooms.{HasRoomFor}
-use Rattle.pfs_engine.proofs.Belonging.{beside_after, opened, room_after, told_after}
+use Rattle.pfs_engine.proofs.Belonging.{beside_after, going_on, opened, rises_after, room_after, told_after}
+use Rattle.pfs_engine.proofs.Numbered.{number-held, numbered-found}
 use Rattle.pfs_engine.proofs.handshakes.take_packet_of_state.Goals as goal
-use Rattle.pfs_engine_machine.specs.Sides.{state_for}
 
 pub renew-touched-requires-clause-held : goal.renew-touched-requires-clause-held
 renew-touched-requires-clause-held g c =
     let inside = c.held.inside in
-    let same = opened c.args.held.now c.make_room.new.held inside.config inside.store (g.S.Store.world inside.store) inside.tables c.held.view_is c.in_ok-make_room.ensures.same in
-    subst (λ (h : Held). option_map state_number (state_with (key_of c.args.packet.now) h.world) ≡ Some c.args.found.number) (sym same.1) c.requires.found.number
+    let was = c.args.held.now in
+    let same = opened was c.make_room.new.held inside.config inside.store (g.S.Store.world inside.store) inside.tables c.held.view_is c.in_ok-make_room.ensures.same in
+    subst (λ (h : Held). holds_number h.world.states c.args.found.number.0 ≡ true) (sym same.1)
+    (number-held was.config was.held c.args.packet.now c.args.now c.args.found.number c.requires.kept c.requires.found.number)
 
 pub renew-touched-requires-clause-reached : goal.renew-touched-requires-clause-reached
 renew-touched-requires-clause-reached g c =
@@ -25,6 +37,15 @@ renew-touched-requires-clause-reached g c =
 
 pub complete_handshake-requires-clause-reached : goal.complete_handshake-requires-clause-reached
 complete_handshake-requires-clause-reached g c = c.renew-touched.ensures.reached
+
+pub complete_handshake-requires-clause-numbers : goal.complete_handshake-requires-clause-numbers
+complete_handshake-requires-clause-numbers g c =
+    let inside = c.held.inside in
+    let w = g.S.Store.world inside.store in
+    let was = c.args.held.now in
+    let same = opened was c.make_room.new.held inside.config inside.store w inside.tables c.held.view_is c.in_ok-make_room.ensures.same in
+    let rises = subst (λ (h : Held). Rise 0 h.world.states h.world.made) (sym same.1) c.requires.kept.numbers in
+    rises_after (g.S.Store.config inside.store) w (g.S.Store.world c.renew-touched.new.self) c.args.packet.now c.args.now (state_numbered c.args.found.number.0 w) rises c.renew-touched.ensures.world
 
 pub complete_handshake-requires-clause-room : goal.complete_handshake-requires-clause-room
 complete_handshake-requires-clause-room g c =
@@ -35,7 +56,9 @@ complete_handshake-requires-clause-room g c =
     let p = c.args.packet.now in
     let t = c.renew-touched.result in
     let same = opened was c.make_room.new.held inside.config inside.store w inside.tables c.held.view_is c.in_ok-make_room.ensures.same in
-    let answer = subst (λ (h : Held). Some t ≡ option_map (renewal_of store_conf h.world p c.args.now) (state_for h.world p)) same.1 c.renew-touched.ensures.answer in
+    let number_is = numbered-found was.config was.held p c.args.now c.args.found.number c.requires.kept c.requires.found.number in
+    let answer = subst (λ (h : Held). Some t ≡ option_map (renewal_of store_conf h.world p c.args.now) (state_numbered c.args.found.number.0 h.world)) same.1 c.renew-touched.ensures.answer
+    ∙ ap (option_map (renewal_of store_conf was.held.world p c.args.now)) number_is in
     let room = room_after was.config store_conf was.held p c.args.now c.args.found.number t c.args.found.rule (tables_held c.make_room.new.held) c.requires.kept c.requires.found.number c.requires.found.rule answer c.in_ok-make_room.ensures.room in
     λ done. subst (λ (k : Conf). HasRoomFor (tables_held (view_of inside.config inside.store w inside.tables)) (options_of k t.rule.0).overload) (sym same.0)
     (subst (λ (v : HeldView _). HasRoomFor (tables_held v) (options_of was.config t.rule.0).overload) (sym c.held.view_is) (room done))
@@ -51,7 +74,12 @@ returns-clause-answered g c = λ cookie.
     let same = opened was c.make_room.new.held inside.config inside.store w inside.tables c.held.view_is c.in_ok-make_room.ensures.same in
     let m = held_of w inside.tables.entries in
     let found = subst (λ (h : Held). option_map state_number (state_for h.world p) ≡ Some c.args.found.number) (sym same.1) c.requires.found.number in
-    let told = told_after inside.config store_conf m (g.S.Store.world t.new.self) p cookie c.args.now c.args.found.number t.result c.held.invariant.store found t.ensures.world t.ensures.answer in
+    let number_is : state_numbered c.args.found.number.0 w ≡ state_for w p =
+    subst (λ (h : Held). state_numbered c.args.found.number.0 h.world ≡ state_for h.world p) (sym same.1)
+    (numbered-found was.config was.held p c.args.now c.args.found.number c.requires.kept c.requires.found.number) in
+    let world = t.ensures.world ∙ ap (world_touched store_conf w p c.args.now) number_is in
+    let answer = t.ensures.answer ∙ ap (option_map (renewal_of store_conf w p c.args.now)) number_is in
+    let told = told_after inside.config store_conf m (g.S.Store.world t.new.self) p cookie c.args.now c.args.found.number t.result c.held.invariant.store found world answer in
     record {
       ok = c.complete_handshake.ensures.told.told ∙ (told ∙ (λ i. answer_of_key (same.0 i) (same.1 i) p cookie c.args.now));
       err = tt;
@@ -67,8 +95,11 @@ returns-clause-looks g c =
     let p = c.args.packet.now in
     let t = c.renew-touched in
     let same = opened was c.make_room.new.held inside.config inside.store w inside.tables c.held.view_is c.in_ok-make_room.ensures.same in
-    let is = subst (λ (h : Held). g.S.Store.world t.new.self ≡ world_touched store_conf h.world p c.args.now (state_for h.world p)) same.1 t.ensures.world in
-    let answer = subst (λ (h : Held). Some t.result ≡ option_map (renewal_of store_conf h.world p c.args.now) (state_for h.world p)) same.1 t.ensures.answer in
+    let number_is = numbered-found was.config was.held p c.args.now c.args.found.number c.requires.kept c.requires.found.number in
+    let is = subst (λ (h : Held). g.S.Store.world t.new.self ≡ world_touched store_conf h.world p c.args.now (state_numbered c.args.found.number.0 h.world)) same.1 t.ensures.world
+    ∙ ap (world_touched store_conf was.held.world p c.args.now) number_is in
+    let answer = subst (λ (h : Held). Some t.result ≡ option_map (renewal_of store_conf h.world p c.args.now) (state_numbered c.args.found.number.0 h.world)) same.1 t.ensures.answer
+    ∙ ap (option_map (renewal_of store_conf was.held.world p c.args.now)) number_is in
     let beside = beside_after inside.config.profile store_conf was.held.world (g.S.Store.world t.new.self) p c.args.now c.args.found.number t.result c.requires.found.number is answer in
     let further = c.complete_handshake.ensures.looks in
     record {
@@ -77,10 +108,11 @@ returns-clause-looks g c =
           let first : t.new.meter - 1 ≡ c.args.looks.now = omega (arith, t.ensures.looks on) in
           let o = c.complete_handshake.result in
           let looks = c.complete_handshake.new.looks in
-          let beside_touched = source_states inside.config.profile t.result.dir t.result.source (g.S.Store.world t.new.self).states in
+          let beside_touched = 1 + source_states inside.config.profile t.result.dir t.result.source (filter (other_than c.args.found.number.0) (g.S.Store.world t.new.self).states) in
           subst (λ (k : Conf). AreLooksBehind c.args.looks.now (AreLooks k (states_beside k.profile was.held.world (state_for was.held.world p)) o) looks) same.0
           (subst (λ (n : ℕ). AreLooksBehind c.args.looks.now (AreLooks inside.config n o) looks) beside
           (subst (λ (n : ℕ). AreLooksBehind n (AreLooks inside.config beside_touched o) looks) first (further.counted on one)));
       refused = λ on. tt;
       uncounted = λ off. omega (arith, further.uncounted off, t.ensures.uncounted off);
     }
+
