@@ -8,9 +8,13 @@ use Rattle.pfs_conf_values.specs.declared.items.Rule.{Rule}
 use Rattle.pfs_conf_values.specs.declared.items.RuleNo.{RuleNo}
 use Rattle.pfs_store_contract.specs.Admission.{is_answered, limit_met, world_after_admission}
 use Rattle.pfs_store_contract.specs.Worlds.{World}
-use Rattle.pfs_engine_machine.specs.Machine.{Held, answer_of_action, answer_of_limits, answer_of_rule, held_of, outcome_of_new}
+use Rattle.pfs_engine_machine.specs.Machine.{Held, answer_of_action, answer_of_limits, answer_of_rule, held_of, outcome_of_new, answer_of_keys}
 use Rattle.pfs_engine.specs.Packets.{NeedsNoneAt, NeedsNoneAtLimits, NeedsNoneBy}
-use Rattle.pfs_store_contract.specs.Calls.{packet_limit}
+use Rattle.pfs_store_contract.specs.Calls.{packet_limit, IsAskedFree}
+use Rattle.pfs_store_contract.specs.declared.records.Limit.{Limit}
+use Rattle.pfs_addr_values.specs.declared.addresses.Addr.{Addr}
+use Rattle.pfs_engine_machine.specs.Sides.{are_free}
+use Rattle.pfs_engine_machine.proofs.Leading.{led_on}
 
 pub told_limits : (conf : Conf) (h : Held) (p going : PacketView) (cookie : Bool) (now : ℕ) (rule : RuleNo) (r : Rule) (o : StateOptions)
     → rule_at conf rule.0 ≡ Some r → r.action ≡ action.Keep o
@@ -25,3 +29,17 @@ pub free_limits : (conf : Conf) (h : Held) (p going : PacketView) (rule : RuleNo
 free_limits conf h p going rule r o found keeps none =
     let decides : (rule_of conf rule.0).action ≡ action.Keep o = ap (λ (x : Option Rule). (unwrap_or x no_rule).action) found ∙ keeps in
     subst (NeedsNoneAt conf h p going rule.0) decides none
+
+pub asked_free : (conf : Conf) (w : World) (p going : PacketView) (rule : ℕ) (l : Option Limit) → NeedsNoneAtLimits conf w p going rule l → IsAskedFree conf w p.source.addr rule l
+asked_free conf w p going rule None none = tt
+asked_free conf w p going rule (Some l) none = none
+
+-- the same packet, where the world is the same
+pub keys_are_limits : (conf store_conf : Conf) (h : Held) (v : World) (p going : PacketView) (cookie : Bool) (now rule : ℕ) (source : Addr) → store_conf ≡ conf → source ≡ p.source.addr
+    → limit_met store_conf h.world rule source ≡ None → v ≡ h.world
+    → answer_of_keys conf (held_of v h.tables) p going cookie now rule (are_free v p going)
+    ≡ answer_of_limits conf h p going cookie now rule (packet_limit conf h.world p rule)
+keys_are_limits conf store_conf h v p going cookie now rule source made_for from none same =
+    let met : packet_limit conf h.world p rule ≡ None = (λ i. limit_met (sym made_for i) h.world rule (sym from i)) ∙ none in
+    ap (λ (x : World). answer_of_keys conf (held_of x h.tables) p going cookie now rule (are_free x p going)) same
+    ∙ sym (ap (answer_of_limits conf h p going cookie now rule) met)

@@ -22,7 +22,8 @@ use Rattle.pfs_addr_values.specs.declared.packets.Dir.TheVariants as dir
 use Rattle.pfs_addr_values.specs.declared.packets.FlowKey.{FlowKey}
 use Rattle.pfs_store_contract.specs.Admission.{inner_side, wire_side}
 use Rattle.pfs_engine_machine.specs.Ways.{inside, inside_of}
-use Rattle.pfs_engine_machine.proofs.KeptAdmission.{IsLedOn}
+use Rattle.pfs_store_contract.specs.Touching.{may_reopen, reopens}
+use Rattle.pfs_track.specs.StatePhases.{has_closed}
 
 -- one that is found, and alone has its number, is found by that
 by-number : (test : State → Bool) (s : State) (ss : List State) → All (λ (t : State). t.number ≡ s.number → t ≡ s) ss → find test ss ≡ Some s
@@ -122,10 +123,10 @@ plain-found conf key (s ∷ ss) none all =
     rw (own, rest) refl
 
 -- one that meets no state, and goes on under its own key, makes one whose keys are free
-pub plain-free : (conf : Conf) (h : Held) (p going : PacketView) (now : ℕ) → IsKept conf h now → state_for h.world p ≡ None → IsLedOn conf p going → translates conf ≡ false
+pub plain-free : (conf : Conf) (h : Held) (p going : PacketView) (now : ℕ) → IsKept conf h now → state_for h.world p ≡ None → key_of going ≡ key_of p → translates conf ≡ false
     → are_free h.world p going ≡ true
-plain-free conf h p going now k fresh led none =
-    ap (λ (x : FlowKey). is_none (state_with (wire_side p.dir (key_of p) x) h.world) && is_none (state_inside (inner_side p.dir (key_of p) x) h.world)) (led.key none)
+plain-free conf h p going now k fresh same none =
+    ap (λ (x : FlowKey). is_none (state_with (wire_side p.dir (key_of p) x) h.world) && is_none (state_inside (inner_side p.dir (key_of p) x) h.world)) same
     ∙ by p.dir
   where
     w : World
@@ -147,3 +148,12 @@ plain-free conf h p going now k fresh led none =
     by : (d : Dir) → (is_none (state_with (wire_side d (key_of p) (key_of p)) w) && is_none (state_inside (inner_side d (key_of p) (key_of p)) w)) ≡ true
     by dir.In = free
     by dir.Out = free
+
+-- where a packet may begin a connection anew, it does so where the state has closed
+pub closed-reopens : (conf : Conf) (w : World) (p : PacketView) (closed : Bool) → may_reopen conf p ≡ true → Some closed ≡ option_map (λ (s : State). has_closed s.phase) (state_for w p)
+    → Some closed ≡ option_map (reopens conf p) (state_for w p)
+closed-reopens conf w p closed may is = is ∙ by (state_for w p)
+  where
+    by : (o : Option State) → option_map (λ (s : State). has_closed s.phase) o ≡ option_map (reopens conf p) o
+    by None = refl
+    by (Some s) = ap (λ b. Some (b && has_closed s.phase)) (sym may)

@@ -1,7 +1,7 @@
 -- What an engine makes of a packet, by what its store reports of it, and which packets need no memory before they are answered.
 use Rattle.std.specs.Prelude.{ℕ, Bool, true, false, if◌then◌else◌, Option, Some, None, ◌≡◌}
 use Rattle.pfs_addr_values.specs.Packets.{PacketView}
-use Rattle.pfs_conf_values.specs.Configs.{Conf, options_of, rule_of}
+use Rattle.pfs_conf_values.specs.Configs.{Conf, options_of, rule_of, translates}
 use Rattle.pfs_conf_values.specs.declared.actions.Action.{Action}
 use Rattle.pfs_conf_values.specs.declared.actions.Action.TheVariants as action
 use Rattle.pfs_store_contract.specs.Calls.{IsFreeRefusal, packet_limit}
@@ -16,6 +16,7 @@ use Rattle.pfs_engine_machine.specs.Sides.{state_for, are_free}
 use Rattle.pfs_engine_machine.specs.declared.events.Outcome.{Outcome}
 use Rattle.pfs_store_contract.specs.Worlds.{World}
 use Rattle.pfs_store_contract.specs.declared.records.Limit.{Limit}
+use Rattle.pfs_addr_values.specs.Keys.{key_of}
 
 -- a packet touched the state of this number
 abbrev pub answer_of_touch : Conf → Held → ℕ → ℕ → Touched → Outcome × Held
@@ -23,6 +24,10 @@ answer_of_touch conf h number now t =
     let o = options_of conf t.rule.0 in
     let limits = exceeded_of (exceeds_maximum o.max_src_conn t.connections) (over_rate o.max_src_conn_rate t.score.value) in
     answer_of_exceeded conf h number t.dir t.rule t.source now (outcome_of_held t.rule t.taken t.asks) (if t.completed then limits else None)
+
+-- where no rule translates, the keys are free of a state that a packet would make, which goes on under its own key
+abbrev pub IsFreeUnlessTranslated : Conf → World → PacketView → Type 0
+IsFreeUnlessTranslated conf w p = (going : PacketView) → key_of going ≡ key_of p → translates conf ≡ false → are_free w p going ≡ true
 
 -- where no limit is met, another state has a key of the state, so that none is made; where one is, no node is left
 abbrev pub NeedsNoneAtLimits : Conf → World → PacketView → PacketView → ℕ → Option Limit → Type 0

@@ -10,13 +10,13 @@ ghost use Rattle.pfs_store_contract.specs.Touching.{may_reopen, reopens};
 ghost use Rattle.pfs_engine_machine.specs.Guards.{asked, guard_after_packet, guard_for};
 ghost use Rattle.pfs_engine_machine.specs.Kept.{IsKept};
 ghost use Rattle.pfs_engine_machine.specs.Looks.{AreLooks};
-ghost use Rattle.pfs_engine_machine.specs.Machine.{answer_of_limits, answer_of_rule, answer_of_rules, deciding_rule, going_behind_guard, going_from, going_of_state, held_for, outcome_of_new, outcome_of_pass, packet_ruled};
+ghost use Rattle.pfs_engine_machine.specs.Machine.{answer_of_keys, answer_of_limits, answer_of_rule, answer_of_rules, deciding_rule, going_behind_guard, going_from, going_of_state, held_for, outcome_of_new, outcome_of_pass, packet_ruled};
 ghost use Rattle.pfs_engine_machine.specs.Sides.{are_free, state_for};
 ghost use Rattle.pfs_engine_machine.specs.Visits.{AreVisits};
 ghost use Rattle.pfs_engine.specs.Ways.{HasRoutes};
 ghost use Rattle.pfs_engine.specs.Held.{Holds, IsAnswered, IsAnsweredBehindGuard, IsAnsweredTo, IsReachedBy};
 ghost use Rattle.pfs_engine.specs.Meters.{AreFirstLooks, AreMetersBehindGuard, AreMetersOf};
-ghost use Rattle.pfs_engine.specs.Packets.{NeedsNone, NeedsNoneAtLimits, NeedsNoneBehindGuard, NeedsNoneBy, NeedsNoneOf};
+ghost use Rattle.pfs_engine.specs.Packets.{IsFreeUnlessTranslated, NeedsNone, NeedsNoneAtLimits, NeedsNoneBehindGuard, NeedsNoneBy, NeedsNoneOf};
 
 use crate::guard::Guard;
 use crate::handshakes::take_packet_of_state;
@@ -124,16 +124,22 @@ fn meet<S: Store>(held: &mut Held<S>, packet: &Packet, now: u64, looks: &mut Met
     ensures looks { AreFirstLooks S.counts held.old.config held.old.held.world packet.now looks.new }
 {
     let found = held.find(packet)?;
-    if !reopens(held, found, packet, looks) {
+    if !reopens(held, found, packet, now, looks) {
         return Some(found);
     }
     held.store.kill(found, now, looks);
     held.find(packet)
 }
 
-/// Whether a packet begins the connection of the state that was found anew, since that has closed.
-fn reopens<S: Store>(held: &Held<S>, found: Found, packet: &Packet, looks: &mut Meter) -> bool
-    requires kept { (now : ℕ) × IsKept held.now.config held.now.held now }
+/// Whether a packet begins the connection of the state that was found anew at a moment, since that has closed.
+fn reopens<S: Store>(
+    held: &Held<S>,
+    found: Found,
+    packet: &Packet,
+    now: u64,
+    looks: &mut Meter,
+) -> bool
+    requires kept { IsKept held.now.config held.now.held now }
     requires found { IsReachedBy S.reaches held.now packet.now found }
     requires looks { looks.old ≡ 0 }
     ensures answer { Some result ≡ option_map (reopens held.now.config packet.now) (state_for held.now.held.world packet.now) }
@@ -160,8 +166,7 @@ fn by_rules<S: Store>(
     going: &mut Option<Packet>,
     visits: &mut Meter,
 ) -> Result<Outcome, NoMemory>
-    requires fresh { state_for held.old.held.world packet.now ≡ None }
-    requires kept { IsKept held.old.config held.old.held now }
+    requires free { IsFreeUnlessTranslated held.old.config held.old.held.world packet.now }
     requires room { held.old.held.world.made < run_limit }
     requires visits { visits.old ≡ 0 }
     ensures answered { IsAnswered result (answer_of_rules held.old.config held.old.held packet.now cookie now) held.old held.new }
@@ -221,8 +226,8 @@ fn by_action<S: Store>(
     }
 }
 
-/// What comes of a packet that asks for a state of a rule: it makes one, unless a limit is met, or, where rules translate, another state
-/// has one of its keys.
+/// What comes of a packet that asks for a state of a rule, where a limit is met, or none.
+#[tactic(auto, using(crate::proofs::Admitting::asked_free))]
 fn by_limits<S: Store>(
     held: &mut Held<S>,
     packet: &Packet,
@@ -240,9 +245,29 @@ fn by_limits<S: Store>(
         (packet_limit held.old.config held.old.held.world packet.now rule.0) → IsOk result }
     ensures no_looks { IfOk result (λ o. AreLooks held.old.config 0 o 0) }
 {
-    if let Some(limit) = held.store.meet_limit(packet.src(), rule, now)? {
-        return Ok(Outcome::Drop(rule, limit));
+    match held.store.meet_limit(packet.src(), rule, now)? {
+        Some(limit) => Ok(Outcome::Drop(rule, limit)),
+        None => by_keys(held, packet, going, rule, cookie, now),
     }
+}
+
+/// What comes of a packet that meets no limit: it makes a state of a rule, unless another state has one of its keys.
+fn by_keys<S: Store>(
+    held: &mut Held<S>,
+    packet: &Packet,
+    going: &Packet,
+    rule: RuleNo,
+    cookie: bool,
+    now: u64,
+) -> Result<Outcome, NoMemory>
+    requires fresh { translates held.old.config ≡ false → are_free held.old.held.world packet.now going.now ≡ true }
+    requires keeps { IsSome (options_at held.old.config rule.0) }
+    requires room { held.old.held.world.made < run_limit }
+    ensures answered { IsAnswered result (answer_of_keys held.old.config held.old.held packet.now going.now cookie now rule.0
+        (are_free held.old.held.world packet.now going.now)) held.old held.new }
+    ensures free { are_free held.old.held.world packet.now going.now ≡ false → IsOk result }
+    ensures no_looks { IfOk result (λ o. AreLooks held.old.config 0 o 0) }
+{
     if held.config.translates() && !held.are_free(packet, going) {
         return Ok(Outcome::Conflict(rule));
     }

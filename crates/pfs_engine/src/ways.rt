@@ -1,6 +1,6 @@
 //! The events of a record: where its packet is asked first, and where it leaves.
 
-ghost use Rattle.std.specs.Prelude.{◌≡◌, ◌↔◌, All, IsTrue};
+ghost use Rattle.std.specs.Prelude.{◌≡◌, ◌↔◌, All, IsTrue, true};
 ghost use Rattle.pfs_engine_machine.specs.Guards.{asked};
 ghost use Rattle.pfs_engine_machine.specs.Kept.{IsPlain, Rise};
 ghost use Rattle.pfs_engine_machine.specs.Ways.{first_packet, onward, leaving, leaves_by, second_packet};

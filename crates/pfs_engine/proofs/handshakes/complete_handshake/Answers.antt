@@ -1,5 +1,5 @@
 -- Answers of complete_handshake: tables and store stay those of the configuration; what is told of a kill (`told`).
-use Rattle.std.proofs.Common.{◌≡◌, ◌∙◌, Option, Some, ap, filter, length, subst, sym, unwrap_or}
+use Rattle.std.proofs.Common.{◌≡◌, ◌∙◌, Option, Some, ap, filter, length, subst, sym, unwrap_or, ℕ}
 use Rattle.std.specs.Option.{option_copied}
 use Rattle.pfs_conf_values.specs.Configs.{no_options, options_at, options_of}
 use Rattle.pfs_conf_values.specs.declared.actions.Scope.{Scope}
@@ -7,10 +7,12 @@ use Rattle.pfs_conf_values.specs.declared.actions.StateOptions.{StateOptions}
 use Rattle.pfs_store_contract.specs.Handshakes.{goes_with, stays_at_kill}
 use Rattle.pfs_store_contract.specs.Leaving.{world_without}
 use Rattle.pfs_engine_machine.specs.Machine.{Held}
-use Rattle.pfs_engine.specs.Held.{HeldView}
+use Rattle.pfs_engine.specs.Held.{HeldView, tables_held, view_of}
 use Rattle.pfs_engine.specs.Packets.{answer_of_touch}
 use Rattle.pfs_engine.proofs.Killing.{told_of_kill}
 use Rattle.pfs_engine.proofs.handshakes.complete_handshake.Goals as goal
+use Rattle.pfs_engine.specs.Rooms.{HasRoomFor}
+use Rattle.pfs_eval.specs.Holdings.{Holdings}
 
 pub invariant_of-held : goal.invariant_of-held
 invariant_of-held g c =
@@ -44,3 +46,16 @@ returns-clause-told g c =
       told = told ∙ ap (λ (v : HeldView _). answer_of_touch v.config v.held c.args.found.number.0 c.args.now t) c.held.view_is;
       config = ap (λ (v : HeldView _). v.config) c.held.view_is;
     }
+
+pub add_source-added-requires : goal.add_source-added-requires
+add_source-added-requires g c =
+    let inside = c.held.inside in
+    let t = c.args.touched.now in
+    let o = c.in-Some.options.now in
+    let at : options_at inside.config t.rule.0 ≡ Some o = sym c.options.ensures.value ∙ ap option_copied c.in-Some.is in
+    let options : options_of inside.config t.rule.0 ≡ o = ap (λ (x : Option StateOptions). unwrap_or x no_options) at in
+    let limited : tables_held (view_of inside.config inside.store (g.S.Store.world inside.store) inside.tables) ≡ inside.tables =
+    ap (λ (n : ℕ). record inside.tables { limit = n }) (sym c.held.invariant.limit) in
+    let room = subst (λ (v : HeldView _). HasRoomFor (tables_held v) (options_of v.config t.rule.0).overload) (sym c.held.view_is) (c.requires.room c.if-not-touched.false) in
+    subst (λ (x : Holdings). HasRoomFor x o.overload) limited
+    (subst (λ (x : StateOptions). HasRoomFor (tables_held (view_of inside.config inside.store (g.S.Store.world inside.store) inside.tables)) x.overload) options room)

@@ -4,7 +4,7 @@ use Rattle.std.proofs.Common.{◌≡◌, ◌≤◌, ◌+◌, ◌-◌, ◌∙◌,
 use Rattle.std.specs.Prelude.{option_map}
 use Rattle.std.specs.Option.{option_and_then}
 use Rattle.pfs_addr_values.specs.Keys.{under_key}
-use Rattle.pfs_addr_values.specs.Packets.{with_tag}
+use Rattle.pfs_addr_values.specs.Packets.{with_tag, PacketView}
 use Rattle.pfs_addr_values.specs.declared.packets.FlowKey.{FlowKey}
 use Rattle.pfs_addr_values.specs.declared.packets.TagNo.{TagNo}
 use Rattle.pfs_conf_values.specs.Configs.{Conf, options_of}
@@ -22,6 +22,8 @@ use Rattle.pfs_engine.specs.Rooms.{HasRoomFor}
 use Rattle.pfs_engine.proofs.Belonging.{beside_after, going_on, opened, rises_after, room_after, told_after}
 use Rattle.pfs_engine.proofs.Numbered.{number-held, numbered-found}
 use Rattle.pfs_engine.proofs.handshakes.take_packet_of_state.Goals as goal
+use Rattle.pfs_engine.proofs.handshakes.take_packet_of_state.Goals.{else-may_go_on, then-may_go_on}
+use Rattle.pfs_engine.specs.Ways.{HasRoutes}
 
 pub renew-touched-requires-clause-held : goal.renew-touched-requires-clause-held
 renew-touched-requires-clause-held g c =
@@ -116,3 +118,23 @@ returns-clause-looks g c =
       uncounted = λ off. omega (arith, further.uncounted off, t.ensures.uncounted off);
     }
 
+pub returns-clause-going : goal.returns-clause-going
+returns-clause-going g c = λ routes cookie.
+    let inside = c.held.inside in
+    let w = g.S.Store.world inside.store in
+    let store_conf = g.S.Store.config inside.store in
+    let was = c.args.held.now in
+    let p = c.args.packet.now in
+    let t = c.renew-touched in
+    let roomy = c.in_ok-make_room.ensures.same in
+    let same = opened was c.make_room.new.held inside.config inside.store w inside.tables c.held.view_is roomy in
+    let number_is = numbered-found was.config was.held p c.args.now c.args.found.number c.requires.kept c.requires.found.number in
+    let answer = subst (λ (h : Held). Some t.result ≡ option_map (renewal_of store_conf h.world p c.args.now) (state_numbered c.args.found.number.0 h.world)) same.1 t.ensures.answer
+    ∙ ap (option_map (renewal_of store_conf was.held.world p c.args.now)) number_is in
+    let key = c.key_beyond-key.ensures (subst HasRoutes (sym roomy.config) routes)
+    ∙ ap (λ (h : Held). option_and_then (onward_key p.dir) (state_numbered c.args.found.number.0 h.world)) roomy.held
+    ∙ ap (option_and_then (onward_key p.dir)) number_is in
+    elim c.if-may_go_on.branch [
+      | then-may_go_on x ↦ x.going-is ∙ ap (λ (q : PacketView). Some q) (x.sent_on.ensures ∙ going_on was.config store_conf was.held p cookie c.args.now c.args.found.number t.result c.key_beyond-key.result c.requires.found.number answer key)
+      | else-may_go_on x ↦ absurd (x.if-may_go_on.ensures.1 (subst HasRoutes (sym same.0) routes))
+    ]

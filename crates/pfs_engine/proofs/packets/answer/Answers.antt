@@ -11,6 +11,7 @@ use Rattle.pfs_engine_machine.proofs.Reopening.{kept_met}
 use Rattle.pfs_engine.proofs.Metering.{meters_by_rules, none_found}
 use Rattle.pfs_engine.proofs.packets.answer.Goals as goal
 use Rattle.pfs_engine_machine.specs.Sides.{state_for}
+use Rattle.pfs_engine.proofs.Numbered.{plain-free}
 
 pub take_packet_of_state-requires-clause-kept : goal.take_packet_of_state-requires-clause-kept
 take_packet_of_state-requires-clause-kept g c =
@@ -47,3 +48,13 @@ returns-in-None-clause-meters g c =
     (subst (λ (k : Conf). AreVisits k c.meet.new.held.held p c.args.cookie None c.by_rules.new.visits) same.config c.by_rules.ensures.visits) in
     let no_looks = subst (λ (k : Conf). IfOk c.by_rules.result (λ o. AreLooks k 0 o 0)) same.config c.by_rules.ensures.no_looks in
     meters_by_rules g.S.Store.counts was.config was.held found p c.args.cookie c.by_rules.result c.meet.new.looks c.by_rules.new.visits none_met visits c.meet.ensures.looks no_looks
+
+pub by_rules-requires-clause-free : goal.by_rules-requires-clause-free
+by_rules-requires-clause-free g c = λ q key plain.
+    let was = c.args.held.now in
+    let p = c.args.packet.now in
+    let same = c.meet.ensures.held in
+    let kept = subst (λ (k : Conf). IsKept k c.meet.new.held.held c.args.now) (sym same.config)
+    (subst (λ (h : Held). IsKept was.config h c.args.now) (sym same.held) (kept_met was.config was.held p c.args.now c.requires.kept)) in
+    let none = none_found (state_for c.meet.new.held.held.world p) (sym c.meet.ensures.number ∙ ap (option_map _) c.in-None.is) in
+    plain-free c.meet.new.held.config c.meet.new.held.held p q c.args.now kept none key plain
