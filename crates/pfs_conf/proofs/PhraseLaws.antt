@@ -1,6 +1,7 @@
 -- What is read of a statement is one of the grammar.
 use Rattle.std.proofs.Common.{◌≡◌, ℕ, ◌≤◌, ◌==◌, Bool, true, false, cond, List, [], ◌∷◌, Option, Some, None, IfSome, IfOk, Result, Ok, Err, refl, sym, ap, subst, ◌∙◌, arith, codes}
 use Rattle.std.proofs.lemmas.Bool.{eqb-true, eqb-false}
+use borrow.Author.Tests.{clash}
 use Rattle.pfs_conf_tokens.specs.Tokens.{Tok, token, head}
 use Rattle.pfs_conf_tokens.specs.Reading.{rest, ends_text, Refused, take, stay, refuse, act, on_front, done, chain, perhaps, once, until_all, ended}
 use Rattle.pfs_conf_tokens.specs.declared.keys.Key.{Key}
