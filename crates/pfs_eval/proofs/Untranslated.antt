@@ -67,7 +67,7 @@ decided taken (what.Rule r) q h = by r.action
 decided taken (what.Anchor a) q h = refl
 
 -- a packet that is another one with a tag of its own
-abbrev IsTagged : PacketView → PacketView → Type 0
+abbrev pub IsTagged : PacketView → PacketView → Type 0
 IsTagged p q = q ≡ with_tag p q.tag
 
 -- ---- the places of the path
@@ -82,7 +82,7 @@ still_if p items true xs ys h k = h
 still_if p items false xs ys h k = k
 
 module _ (items : List Item) (tables : List (List Entry)) (taken : TakenKeys) (p : PacketView) (still : translates_nothing items ≡ false) where
-  a : Asking
+  abbrev pub a : Asking
   a = asking items tables taken
 
   -- the packet behind an item
@@ -149,7 +149,7 @@ module _ (items : List Item) (tables : List (List Entry)) (taken : TakenKeys) (p
       e ∙ at_cut ∙ ap (λ (r : PacketView). with_tag p r.tag) (sym e)
 
   -- the item of this number can decide
-  CanDecideAt : ℕ → Type 0
+  abbrev CanDecideAt : ℕ → Type 0
   CanDecideAt n = (i : Item) → slice_get items n ≡ Some i → can_decide i.what ≡ true
 
   hit_decides : (m d l : Bool) → (m && (d || l)) ≡ true → l ≡ false → d ≡ true
@@ -164,11 +164,12 @@ module _ (items : List Item) (tables : List (List Entry)) (taken : TakenKeys) (p
   last_decides : (found : Option ℕ) (xs : List Place) → AreStill p items xs → IfSome found CanDecideAt → IfSome (last_or found (map (λ (x : Place). x.no) (filter (is_hit a) xs))) CanDecideAt
   unfolding AreStill
   last_decides found [] h k = k
-  last_decides found (x ∷ xs) h k = by (is_hit a x) refl
+  last_decides found (x ∷ xs) h k = by (is_hit a x) refl (λ f l. last_decides f xs h.2 l)
     where
-      by : (b : Bool) → is_hit a x ≡ b → IfSome (last_or found (map (λ (y : Place). y.no) (cond b (x ∷ filter (is_hit a) xs) (filter (is_hit a) xs)))) CanDecideAt
-      by true e = last_decides (Some x.no) xs h.2 (of_hit x h.0 e)
-      by false e = last_decides found xs h.2 k
+      by : (b : Bool) → is_hit a x ≡ b → ((f : Option ℕ) → IfSome f CanDecideAt → IfSome (last_or f (map (λ (y : Place). y.no) (filter (is_hit a) xs))) CanDecideAt)
+          → IfSome (last_or found (map (λ (y : Place). y.no) (cond b (x ∷ filter (is_hit a) xs) (filter (is_hit a) xs)))) CanDecideAt
+      by true e more = more (Some x.no) (of_hit x h.0 e)
+      by false e more = more found k
 
   verdict_decides : IfSome (verdict a p items) CanDecideAt
   unfolding verdict
