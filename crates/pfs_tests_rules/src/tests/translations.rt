@@ -20,6 +20,7 @@ fn rules(alloc: Global, text: &str) -> Result<Rules, Fail> {
 }
 
 /// Each key is taken whose first end has a port below the first number, or whose second end one below the second.
+#[derive(Clone, Copy)]
 struct Below(u16, u16);
 
 impl Sides for Below {
