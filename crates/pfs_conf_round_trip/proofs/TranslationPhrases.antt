@@ -1,9 +1,8 @@
 -- What a rule translates is read again.
-use Rattle.std.proofs.Common.{◌≡◌, ◌<◌, ◌^◌, ℕ, true, List, ◌∷◌, ◌++◌, Option, Some, None, IfSome, refl, sym, subst, arith, append_assoc}
+use Rattle.std.proofs.Common.{◌≡◌, ◌<◌, ℕ, true, List, ◌++◌, Option, Some, None, IfSome, refl, sym, subst, arith, append_assoc}
 use Rattle.std.specs.Prelude.{codes, decimal}
 use Rattle.pfs_conf_tokens.specs.declared.keys.Key.TheVariants as key
 use Rattle.pfs_conf_tokens.specs.Grammar.{Perhaps, absent, present}
-use Rattle.pfs_conf_tokens.specs.Tokens.{Tok}
 use Rattle.pfs_conf_tokens.specs.Values.{in_word}
 use Rattle.pfs_conf_tokens.proofs.ShownLaws.{breaks, decimal_text}
 use Rattle.pfs_conf_tokens.proofs.WordKeys.{key_of_NatTo, key_of_Port, key_of_RdrTo, key_of_StaticPort}

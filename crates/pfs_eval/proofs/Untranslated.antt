@@ -14,8 +14,7 @@ use Rattle.pfs_conf_values.specs.declared.actions.Action.TheVariants as action
 use Rattle.pfs_conf_values.specs.declared.items.Item.{Item}
 use Rattle.pfs_conf_values.specs.declared.items.ItemKind.{ItemKind}
 use Rattle.pfs_conf_values.specs.declared.items.ItemKind.TheVariants as what
-use Rattle.pfs_conf_values.specs.declared.items.Rule.{Rule}
-use Rattle.pfs_eval.specs.Asking.{asking, decided_by, given_tag, is_lost_at_once, marked_by, translation_at_once}
+use Rattle.pfs_eval.specs.Asking.{asking, decided_by, given_tag, marked_by, translation_at_once}
 use Rattle.pfs_eval.specs.Entries.{Entry}
 use Rattle.pfs_eval.specs.Translating.{TakenKeys, translated}
 use Rattle.pfs_eval.specs.Verdict.{Asking, Place, behind_all, can_decide, cut, cut_from, decider, ends_before, hides, is_hit, is_shown, last_or, lost_by, matches_rule, packet_at_cut, packet_behind, packet_past, passed_by, path_from, verdict}
