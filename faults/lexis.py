@@ -10,7 +10,7 @@ HEADER = [b"time", b"dir", b"if", b"proto", b"src", b"sport", b"dst", b"dport", 
 TOKEN_KINDS = {"Syntax", "Unsupported", "Number", "Duplicate"}
 RULE_KINDS = {
     "GlobalConn", "GlobalRetention", "OverloadAlone", "AdaptivePair", "PortWithoutProto", "StateOnBlock", "TooDeep", "TooManyRules", "ConstOverload",
-    "NeedsProfile", "CookiePair",
+    "NeedsProfile", "CookiePair", "TranslationWithoutWay", "TranslationFamily",
 }
 TEXT_KINDS = {"AdaptivePair", "TooManyTables", "NeedsProfile", "TooManyEntries"}
 # What an administrator does, and the columns that say with what; the others are empty.

@@ -20,7 +20,7 @@ pub use loading::load;
 pub use pfs_conf_show::show;
 pub use pfs_conf_values::{
     Action, Anchor, AnchorName, Came, Config, Entries, Family, Filter, FlagTest, Host, Interface,
-    Item, ItemKind, LimitName, Overload, Ports, Profile, Rate, Route, Rule, RuleNo, RuleTimeouts,
-    Scope, Side, StateOptions, Syncookies, TableDef, TableName, TableNo, TagName, Tagged,
-    TimeoutName,
+    Item, ItemKind, LimitName, NatPorts, NatTo, Overload, Ports, Profile, Rate, RdrTo, Route, Rule,
+    RuleNo, RuleTimeouts, Scope, Side, StateOptions, Syncookies, TableDef, TableName, TableNo,
+    TagName, Tagged, TimeoutName, Translation,
 };

@@ -24,11 +24,7 @@ use Rattle.pfs_conf_filters.specs.Reading.{behind, clause, part, begins_dir, beg
 use Rattle.pfs_conf_tokens.specs.Values.{in_word, table_name_at, value_at}
 use Rattle.pfs_conf_tokens.proofs.ValueLaws.{passed, in_word_in_line, online_value, value_shrinks, online_table_name}
 use Rattle.pfs_conf_filters.specs.declared.phrases.Extras.{Extras}
-use Rattle.pfs_addr_values.specs.declared.addresses.Addr.{Addr}
-use Rattle.pfs_conf_values.specs.declared.translations.NatPorts.{NatPorts}
 use Rattle.pfs_conf_values.specs.declared.translations.NatPorts.TheVariants as nat_ports
-use Rattle.pfs_conf_values.specs.declared.translations.NatTo.{NatTo}
-use Rattle.pfs_conf_values.specs.declared.translations.RdrTo.{RdrTo}
 use Rattle.pfs_conf_values.specs.declared.translations.Translation.{Translation}
 
 -- ---- words that say a value

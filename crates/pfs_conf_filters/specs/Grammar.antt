@@ -27,7 +27,6 @@ use Rattle.pfs_conf_filters.specs.declared.phrases.Parameters.{Parameters}
 use Rattle.pfs_conf_filters.specs.declared.phrases.Extras.{Extras}
 use Rattle.pfs_addr.specs.Texts.{addr_of, prefix_of}
 use Rattle.pfs_addr_values.specs.Protocols.{proto_in}
-use Rattle.pfs_addr_values.specs.declared.addresses.Addr.{Addr}
 use Rattle.pfs_conf_values.specs.declared.translations.NatPorts.{NatPorts}
 use Rattle.pfs_conf_values.specs.declared.translations.NatPorts.TheVariants as nat_ports
 use Rattle.pfs_conf_values.specs.declared.translations.NatTo.{NatTo}

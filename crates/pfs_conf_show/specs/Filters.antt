@@ -141,13 +141,13 @@ abbrev pub nat_to_text : Option NatTo → List ℕ
 nat_to_text None = []
 nat_to_text (Some n) = codes " nat-to " ++ (addr_text n.addr ++ nat_ports_text n.ports)
 
-abbrev pub port_text : Option ℕ → List ℕ
-port_text None = []
-port_text (Some p) = codes " port " ++ decimal p
+abbrev pub rdr_port_text : Option ℕ → List ℕ
+rdr_port_text None = []
+rdr_port_text (Some p) = codes " port " ++ decimal p
 
 abbrev pub rdr_to_text : Option RdrTo → List ℕ
 rdr_to_text None = []
-rdr_to_text (Some r) = codes " rdr-to " ++ (addr_text r.addr ++ port_text r.port)
+rdr_to_text (Some r) = codes " rdr-to " ++ (addr_text r.addr ++ rdr_port_text r.port)
 
 -- both, in this order
 abbrev pub translation_text : Translation → List ℕ

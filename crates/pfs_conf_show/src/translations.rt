@@ -1,7 +1,7 @@
 //! What a rule translates.
 
 ghost use Rattle.std.specs.Prelude.{◌≡◌, ◌++◌, OnOk};
-ghost use Rattle.pfs_conf_show.specs.Filters.{nat_ports_text, nat_to_text, port_text, rdr_to_text, translation_text};
+ghost use Rattle.pfs_conf_show.specs.Filters.{nat_ports_text, nat_to_text, rdr_port_text, rdr_to_text, translation_text};
 
 use crate::filters::push_ports;
 use pfs_addr::push_addr;
@@ -52,7 +52,7 @@ fn push_rdr_to(out: &mut Vec<u8>, rdr_to: Option<RdrTo>) -> Result<(), NoMemory>
 }
 
 fn push_port(out: &mut Vec<u8>, port: Option<u16>) -> Result<(), NoMemory>
-    ensures { OnOk result (out.new.items ≡ out.old.items ++ port_text port) }
+    ensures { OnOk result (out.new.items ≡ out.old.items ++ rdr_port_text port) }
 {
     if let Some(port) = port {
         out.extend_from_slice(b" port ")?;

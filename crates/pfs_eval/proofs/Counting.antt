@@ -7,7 +7,7 @@ use Rattle.pfs_addr_values.specs.Packets.{PacketView}
 use Rattle.pfs_conf_values.specs.declared.items.Item.{Item}
 use Rattle.pfs_eval.specs.Entries.{Entry}
 use Rattle.pfs_eval.specs.Asking.{asking}
-use Rattle.pfs_eval.specs.Translating.{Taken}
+use Rattle.pfs_eval.specs.Translating.{TakenKeys}
 use Rattle.pfs_eval.specs.Matching.{filter_of}
 use Rattle.pfs_eval.specs.Parameters.{IsSame, asks_same, failing_at, holds_at}
 use Rattle.pfs_eval.specs.Skips.{IsSkip}
@@ -105,7 +105,7 @@ begins_at a q items stop r y ys e = by (cases_order r (length items))
     by (inr (inr g)) = past (omega (arith, g))
 
 -- all that a skip passes over is left behind with y, and what stands behind the skip is not
-past_skip : (tables : List (List Entry)) (taken : Taken) (packet : PacketView) (k : Parameter) (items : List Item) (stop p q : ℕ) (i : Item)
+past_skip : (tables : List (List Entry)) (taken : TakenKeys) (packet : PacketView) (k : Parameter) (items : List Item) (stop p q : ℕ) (i : Item)
     → IsSkip k items p i q → slice_get items p ≡ Some i → stop ≤ i.depth → holds_at tables packet k (filter_of i.what) ≡ false
     → (y : Place) → IsLeftWith tables k y i
     → length (dedup_from (is_left_with tables) y (walked (asking items tables taken) stop (rest_of (asking items tables taken) packet items p)))
@@ -161,7 +161,7 @@ same_itself parameter.DestinationPort i = refl
 same_itself parameter.Flags i = refl
 
 -- a visit to an item that fails on a parameter, and the skip from there
-pub skip-counts : (tables : List (List Entry)) (taken : Taken) (packet : PacketView) (k : Parameter) (items : List Item) (stop p q : ℕ) (i : Item)
+pub skip-counts : (tables : List (List Entry)) (taken : TakenKeys) (packet : PacketView) (k : Parameter) (items : List Item) (stop p q : ℕ) (i : Item)
     → IsSkip k items p i q → slice_get items p ≡ Some i → stop ≤ i.depth → holds_at tables packet k (filter_of i.what) ≡ false
     → failing_at tables packet (filter_of i.what) ≡ Some k
     → length (dedup (is_left_with tables) (walked (asking items tables taken) stop (rest_of (asking items tables taken) packet items p)))

@@ -13,7 +13,7 @@ use Rattle.pfs_conf_values.specs.declared.items.ItemKind.TheVariants.{Rule, Anch
 use Rattle.pfs_eval.specs.Asking.{asking}
 use Rattle.pfs_eval.specs.Entries.{Entry}
 use Rattle.pfs_eval.specs.Lines.{passed_at}
-use Rattle.pfs_eval.specs.Translating.{Taken}
+use Rattle.pfs_eval.specs.Translating.{TakenKeys}
 use Rattle.pfs_eval.specs.Verdict.{Asking, Place, packet_past, hides, is_shown, path_from, is_hit, ends_before, cut_from, cut, decider, last_or, lost_by, packet_at_cut, packet_behind, passed_by, verdict, IsRuleAt}
 use Rattle.pfs_eval.proofs.Paths.{place_at}
 
@@ -100,7 +100,7 @@ lost-rule a p items = by (is_none (passed_by a (packet_at_cut a p items) (decide
     by false = tt
 
 -- what the item that decides makes of a packet, as a walk finds it
-passed-is : (items : List Item) (tables : List (List Entry)) (taken : Taken) (q : PacketView) (o : Option Item)
+passed-is : (items : List Item) (tables : List (List Entry)) (taken : TakenKeys) (q : PacketView) (o : Option Item)
     → passed_by (asking items tables taken) q o ≡ passed_at taken q o
 passed-is items tables taken q None = refl
 passed-is items tables taken q (Some i) = refl
@@ -110,7 +110,7 @@ pub record IsDecided (a : Asking) (p : PacketView) (items : List Item) (found : 
   pub verdict : found ≡ verdict a p items
   pub packet : q ≡ packet_at_cut a p items
 
-decided-as : (items : List Item) (tables : List (List Entry)) (taken : Taken) (p : PacketView) (found : Option ℕ) (q : PacketView)
+decided-as : (items : List Item) (tables : List (List Entry)) (taken : TakenKeys) (p : PacketView) (found : Option ℕ) (q : PacketView)
     → IsDecided (asking items tables taken) p items found q
     → passed_by (asking items tables taken) (packet_at_cut (asking items tables taken) p items) (decider (asking items tables taken) p items)
     ≡ passed_at taken q (option_and_then (slice_get items) found)
@@ -119,7 +119,7 @@ decided-as items tables taken p found q h =
     ∙ ap (λ f. passed_by (asking items tables taken) q (option_and_then (slice_get items) f)) (sym h.verdict)
     ∙ passed-is items tables taken q (option_and_then (slice_get items) found)
 
-pub behind-is : (items : List Item) (tables : List (List Entry)) (taken : Taken) (p : PacketView) (found : Option ℕ) (q : PacketView)
+pub behind-is : (items : List Item) (tables : List (List Entry)) (taken : TakenKeys) (p : PacketView) (found : Option ℕ) (q : PacketView)
     → IsDecided (asking items tables taken) p items found q
     → unwrap_or (passed_at taken q (option_and_then (slice_get items) found)) q ≡ packet_behind (asking items tables taken) p items
 unfolding packet_behind
@@ -127,7 +127,7 @@ behind-is items tables taken p found q h =
     ap (λ o. unwrap_or o q) (sym (decided-as items tables taken p found q h))
     ∙ ap (λ r. unwrap_or (passed_by (asking items tables taken) (packet_at_cut (asking items tables taken) p items) (decider (asking items tables taken) p items)) r) h.packet
 
-pub lost-is : (items : List Item) (tables : List (List Entry)) (taken : Taken) (p : PacketView) (found : Option ℕ) (q : PacketView)
+pub lost-is : (items : List Item) (tables : List (List Entry)) (taken : TakenKeys) (p : PacketView) (found : Option ℕ) (q : PacketView)
     → IsDecided (asking items tables taken) p items found q → (goes_on : Bool)
     → goes_on ≡ is_some (passed_at taken q (option_and_then (slice_get items) found))
     → cond goes_on None found ≡ lost_by (asking items tables taken) p items

@@ -16,4 +16,5 @@ pub mod SameFlags
 pub mod Skipping
 pub mod TextTables
 pub mod Translations
+pub mod Untranslated
 pub mod Visiting

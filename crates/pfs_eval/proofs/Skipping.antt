@@ -10,7 +10,7 @@ use Rattle.pfs_eval.specs.Matching.{dir_holds, family_holds, filter_of, flags_ho
 use Rattle.pfs_eval.specs.Parameters.{IsSame, holds_at}
 use Rattle.pfs_eval.specs.Skips.{IsPassed, IsSkip}
 use Rattle.pfs_eval.specs.Asking.{asking}
-use Rattle.pfs_eval.specs.Translating.{Taken}
+use Rattle.pfs_eval.specs.Translating.{TakenKeys}
 use Rattle.pfs_eval.specs.Verdict.{Asking, Place, behind_all, is_hit}
 use Rattle.pfs_eval.specs.Visits.{holds_there}
 use Rattle.pfs_eval.specs.declared.comparing.Parameter.{Parameter}
@@ -203,7 +203,7 @@ pub over_skip : (P : ℕ → Item → Type 0) (k : Parameter) (items : List Item
 over_skip P k items p q i last more s at = skip_within q P k items p q i last more (omega arith) s at
 
 -- a walk goes on at the skip of the parameter that an item fails on
-pub skip-on : (tables : List (List Entry)) (taken : Taken) (packet : PacketView) (k : Parameter) (items : List Item) (stop p q : ℕ) (i : Item)
+pub skip-on : (tables : List (List Entry)) (taken : TakenKeys) (packet : PacketView) (k : Parameter) (items : List Item) (stop p q : ℕ) (i : Item)
     → IsSkip k items p i q → slice_get items p ≡ Some i → stop ≤ i.depth
     → holds_at tables packet k (filter_of i.what) ≡ false → MayGoOn (asking items tables taken) packet items stop p q
 skip-on tables taken packet k items stop p q i s at d h = over_skip GoesOn k items p q i last more s at d h

@@ -17,11 +17,11 @@ use Rattle.pfs_conf_values.specs.declared.translations.RdrTo.{RdrTo}
 use Rattle.pfs_conf_values.specs.declared.translations.Translation.{Translation}
 use Rattle.pfs_eval.specs.Asking.{by_match, is_lost_at_once, marked_by, translation_at_once}
 use Rattle.pfs_eval.specs.Lines.{next_place}
-use Rattle.pfs_eval.specs.Translating.{Taken, nat_by, rdr_by, translated}
+use Rattle.pfs_eval.specs.Translating.{TakenKeys, nat_by, rdr_by, translated}
 use Rattle.pfs_eval.specs.Verdict.{can_decide, is_quick}
 
 -- what translates nothing leaves a packet as it is
-pub untranslated : (taken : Taken) (t : Translation) (p : PacketView) → translates_by t ≡ false → translated taken t p ≡ Some p
+pub untranslated : (taken : TakenKeys) (t : Translation) (p : PacketView) → translates_by t ≡ false → translated taken t p ≡ Some p
 unfolding translated nat_by rdr_by
 untranslated taken t p h = by t.nat_to t.rdr_to h refl
   where
@@ -30,11 +30,11 @@ untranslated taken t p h = by t.nat_to t.rdr_to h refl
     by None (Some r) h e = cc
     by (Some n) r h e = cc
 
-pub nothing_translated : (taken : Taken) (p : PacketView) → translated taken no_translation p ≡ Some p
+pub nothing_translated : (taken : TakenKeys) (p : PacketView) → translated taken no_translation p ≡ Some p
 nothing_translated taken p = untranslated taken no_translation p refl
 
 -- an item that can decide loses no packet at once
-pub keeps : (taken : Taken) (given : Option TagNo) (kind : ItemKind) (p : PacketView) → (is_lost_at_once taken given kind p && can_decide kind) ≡ false
+pub keeps : (taken : TakenKeys) (given : Option TagNo) (kind : ItemKind) (p : PacketView) → (is_lost_at_once taken given kind p && can_decide kind) ≡ false
 keeps taken given kind p = by kind
   where
     q : PacketView

@@ -12,7 +12,7 @@ use Rattle.pfs_eval.specs.Lines.{AreLines, IsLine, is_deciding, is_matched, pack
 use Rattle.pfs_eval.specs.Matching.{filter_holds, filter_of, matches_item}
 use Rattle.pfs_eval.specs.Parameters.{failing_at, holds_at}
 use Rattle.pfs_eval.specs.Skips.{AreSkipsOf, skip_of}
-use Rattle.pfs_eval.specs.Translating.{Taken}
+use Rattle.pfs_eval.specs.Translating.{TakenKeys}
 use Rattle.pfs_eval.specs.Verdict.{Asking, Place, packet_past, behind_all, can_decide, cut, ends_at_once, is_hit, is_quick, matches_rule, packet_at_cut, verdict}
 use Rattle.pfs_eval.specs.Visits.{holds_there, is_left_with, visit_floor, visits_of}
 use Rattle.pfs_eval.specs.declared.comparing.Parameter.{Parameter}
@@ -52,7 +52,7 @@ left-start same a items p count = record {
 }
 
 -- what the walk has found, what became of the packet, and how many items were compared
-pub record IsFound (tables : List (List Entry)) (taken : Taken) (p : PacketView) (items : List Item) (found : Option ℕ) (q : PacketView) (count first : ℕ) : Type 0 where
+pub record IsFound (tables : List (List Entry)) (taken : TakenKeys) (p : PacketView) (items : List Item) (found : Option ℕ) (q : PacketView) (count first : ℕ) : Type 0 where
   pub verdict : found ≡ verdict (asking items tables taken) p items
   pub packet : q ≡ packet_at_cut (asking items tables taken) p items
   pub visits : count ≡ first + visits_of tables taken p items
@@ -60,7 +60,7 @@ pub record IsFound (tables : List (List Entry)) (taken : Taken) (p : PacketView)
   pub least : first + visit_floor (asking items tables taken) p items ≤ count
 
 -- the walk is over
-left-end : (tables : List (List Entry)) (taken : Taken) (items : List Item) (p : PacketView) (w : Walk) (q : PacketView) (count first : ℕ)
+left-end : (tables : List (List Entry)) (taken : TakenKeys) (items : List Item) (p : PacketView) (w : Walk) (q : PacketView) (count first : ℕ)
     → left_of (asking items tables taken) items w q ≡ []
     → IsLeft (is_left_with tables) (asking items tables taken) items p w q count first → IsFound tables taken p items w.found q count first
 unfolding matching visits_of
@@ -130,12 +130,12 @@ with_holds : (r h c : Bool) → h ≡ true → (r && c) ≡ (r && h && c)
 with_holds r h c e = grind arith
 
 -- the rule of a line matches a packet, of which its filter holds, where the item does
-matched-is : (tables : List (List Entry)) (taken : Taken) (items : List Item) (n : ℕ) (i : Item) (line : Line) (q : PacketView) → IsLine items n i line
+matched-is : (tables : List (List Entry)) (taken : TakenKeys) (items : List Item) (n : ℕ) (i : Item) (line : Line) (q : PacketView) → IsLine items n i line
     → matches_item tables q i ≡ true → is_matched line q ≡ matches_rule (asking items tables taken) q i
 matched-is tables taken items n i line q l e = rw (l.item, l.asked) (with_holds _ _ _ e)
 
 -- then it becomes what it is behind the item
-packet-is : (tables : List (List Entry)) (taken : Taken) (items : List Item) (n : ℕ) (i : Item) (line : Line) (q : PacketView) → IsLine items n i line
+packet-is : (tables : List (List Entry)) (taken : TakenKeys) (items : List Item) (n : ℕ) (i : Item) (line : Line) (q : PacketView) → IsLine items n i line
     → matches_item tables q i ≡ true → packet_after taken q line None ≡ packet_past (asking items tables taken) q i
 packet-is tables taken items n i line q l e =
     ap (λ b. cond b (made_by taken line.given line.item.what q) q) (matched-is tables taken items n i line q l e)
@@ -143,7 +143,7 @@ packet-is tables taken items n i line q l e =
     ∙ ap (λ (y : Item). cond (matches_rule (asking items tables taken) q i) (made_by taken (given_tag items i.what) y.what q) q) l.item
 
 -- and the rule is found, where the place is a hit
-hit-is : (tables : List (List Entry)) (taken : Taken) (items : List Item) (n : ℕ) (i : Item) (line : Line) (q : PacketView) → IsLine items n i line
+hit-is : (tables : List (List Entry)) (taken : TakenKeys) (items : List Item) (n : ℕ) (i : Item) (line : Line) (q : PacketView) → IsLine items n i line
     → matches_item tables q i ≡ true
     → (is_matched line q && is_deciding taken line q) ≡ is_hit (asking items tables taken) (here q items n i)
 hit-is tables taken items n i line q l e =
@@ -152,7 +152,7 @@ hit-is tables taken items n i line q l e =
     ∙ ap (λ (y : Item). matches_rule (asking items tables taken) q i && (can_decide y.what || is_lost_at_once taken (given_tag items i.what) y.what q)) l.item
 
 -- a visit to an item that holds keeps what is left: by whether it is a hit, and quick
-match_cases : (same : Place → Place → Bool) (tables : List (List Entry)) (taken : Taken) (items : List Item) (p : PacketView) (w : Walk) (q : PacketView)
+match_cases : (same : Place → Place → Bool) (tables : List (List Entry)) (taken : TakenKeys) (items : List Item) (p : PacketView) (w : Walk) (q : PacketView)
     (i : Item) (line : Line) (count first : ℕ)
     → ((y : Place) → same y (here q items w.place i) ≡ false) → slice_get items w.place ≡ Some i → IsLine items w.place i line → w.stop_depth ≤ i.depth
     → matches_item tables q i ≡ true → IsLeft same (asking items tables taken) items p w q count first
@@ -194,7 +194,7 @@ match_cases same tables taken items p w q i line count first alone at l d e h fa
     subst (λ (v : Walk). IsLeft same a items p v q' (count + 1) first) (sym is)
     (left-step same a items p w w' q q' count first x alone next (sym (cond-false _ _ _ f)) refl h)
 
-further : (taken : Taken) (items : List Item) (w : Walk) (q : PacketView) (i : Item) (line : Line) → IsLine items w.place i line → w.place < length items
+further : (taken : TakenKeys) (items : List Item) (w : Walk) (q : PacketView) (i : Item) (line : Line) → IsLine items w.place i line → w.place < length items
     → w.place < (walk_after taken w q line None).place
 further taken items w q i line l n = by (is_matched line q && is_deciding taken line q)
   where
@@ -227,7 +227,7 @@ matching_item : (tables : List (List Entry)) (packet : PacketView) (i : Item) �
 unfolding matches_item
 matching_item tables packet i e = e
 
-visit_by : (tables : List (List Entry)) (taken : Taken) (items : List Item) (p : PacketView) (w : Walk) (q : PacketView) (i : Item) (line : Line)
+visit_by : (tables : List (List Entry)) (taken : TakenKeys) (items : List Item) (p : PacketView) (w : Walk) (q : PacketView) (i : Item) (line : Line)
     (failed : Option Parameter) (count first : ℕ) → slice_get items w.place ≡ Some i → IsLine items w.place i line
     → w.stop_depth ≤ i.depth → AreSkipsOf items w.place line.skips → Tells tables q line failed
     → IsLeft (is_left_with tables) (asking items tables taken) items p w q count first
@@ -252,7 +252,7 @@ visit_by tables taken items p w q i line (Some k) count first at l d s t h =
     let counts = skip-counts tables taken q k items w.stop_depth w.place r i (s i at k) at d e (sym (t.first ∙ ap (λ (x : Item). failing_at tables q (filter_of x.what)) l.item)) in
     record { left = left-skip same a items p w q r count first on counts h; forward = on.forward }
 
-pub visit : (tables : List (List Entry)) (taken : Taken) (items : List Item) (p : PacketView) (lines : List Line) (w w' : Walk) (q q' : PacketView)
+pub visit : (tables : List (List Entry)) (taken : TakenKeys) (items : List Item) (p : PacketView) (lines : List Line) (w w' : Walk) (q q' : PacketView)
     (tested line : Line) (failed : Option Parameter) (count count' first : ℕ)
     → AreLines items lines → slice_get lines w.place ≡ Some tested → slice_get lines w.place ≡ Some line
     → w.stop_depth ≤ tested.item.depth → Tells tables q line failed → w' ≡ walk_after taken w q line failed → q' ≡ packet_after taken q line failed
@@ -278,7 +278,7 @@ nothing_left a items lines w q are (inr k) =
     ap (walked a w.stop_depth) (rest-at a q items w.place i.item i.at)
     ∙ walked-less a w.stop_depth _ _ (omega (arith, k.2, depth_of i.is))
 
-pub walk_end : {tables : List (List Entry)} {taken : Taken} {p q : PacketView} {items : List Item} {lines : List Line} {w : Walk} {count first : ℕ}
+pub walk_end : {tables : List (List Entry)} {taken : TakenKeys} {p q : PacketView} {items : List Item} {lines : List Line} {w : Walk} {count first : ℕ}
     → AreLines items lines → IsEnd lines w → IsLeft (is_left_with tables) (asking items tables taken) items p w q count first
     → IsFound tables taken p items w.found q count first
 walk_end {tables} {taken} {p} {q} {items} {lines} {w} {count} {first} a ends h =

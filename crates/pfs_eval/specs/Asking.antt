@@ -18,7 +18,7 @@ use Rattle.pfs_conf_values.specs.declared.items.Rule.{Rule}
 use Rattle.pfs_conf_values.specs.declared.translations.Translation.{Translation}
 use Rattle.pfs_eval.specs.Entries.{Entry}
 use Rattle.pfs_eval.specs.Matching.{matches_item, turned_if}
-use Rattle.pfs_eval.specs.Translating.{Taken, translated}
+use Rattle.pfs_eval.specs.Translating.{TakenKeys, translated}
 use Rattle.pfs_eval.specs.Verdict.{Asking}
 
 -- ---- the tags of a rule; a tag that no rule gives is not known
@@ -77,29 +77,29 @@ translation_at_once (what.Rule r) = by_match r.action r.translation
 translation_at_once (what.Anchor a) = no_translation
 
 -- so it loses it, where no port is left; then the packet has its tag, and its own addresses
-abbrev pub is_lost_at_once : Taken → Option TagNo → ItemKind → PacketView → Bool
+abbrev pub is_lost_at_once : TakenKeys → Option TagNo → ItemKind → PacketView → Bool
 is_lost_at_once taken given kind p = is_none (translated taken (translation_at_once kind) (marked_by given p))
 
-abbrev pub made_by : Taken → Option TagNo → ItemKind → PacketView → PacketView
+abbrev pub made_by : TakenKeys → Option TagNo → ItemKind → PacketView → PacketView
 made_by taken given kind p = let q = marked_by given p in unwrap_or (translated taken (translation_at_once kind) q) q
 
 -- ---- what the rule that decides makes of a packet
 
 -- a `pass` rule translates it, a `block` rule leaves it as it is, and a `match` rule decides only where it lost it
-abbrev pub by_decision : Taken → Action → Translation → PacketView → Option PacketView
+abbrev pub by_decision : TakenKeys → Action → Translation → PacketView → Option PacketView
 by_decision taken action.Match t p = None
 by_decision taken action.Block t p = Some p
 by_decision taken action.Pass t p = translated taken t p
 by_decision taken (action.Keep o) t p = translated taken t p
 
 -- an anchor decides nothing
-abbrev pub decided_by : Taken → ItemKind → PacketView → Option PacketView
+abbrev pub decided_by : TakenKeys → ItemKind → PacketView → Option PacketView
 decided_by taken (what.Rule r) p = by_decision taken r.action r.translation p
 decided_by taken (what.Anchor a) p = Some p
 
 -- ---- what all items of a text ask, where the tables have these entries, and states these keys
 
-abbrev pub asking : List Item → List (List Entry) → Taken → Asking
+abbrev pub asking : List Item → List (List Entry) → TakenKeys → Asking
 asking items tables taken = record {
   holds = λ p i. matches_item tables p i;
   came = λ p i. came_to (asked_tag items i.what) p i.what;

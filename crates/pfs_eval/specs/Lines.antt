@@ -7,7 +7,7 @@ use Rattle.pfs_conf_values.specs.declared.items.Item.{Item}
 use Rattle.pfs_conf_values.specs.declared.items.ItemKind.{ItemKind}
 use Rattle.pfs_eval.specs.Skips.{AreSkipsOf, skip_of}
 use Rattle.pfs_eval.specs.Asking.{asked_tag, came_to, decided_by, given_tag, is_lost_at_once, made_by}
-use Rattle.pfs_eval.specs.Translating.{Taken}
+use Rattle.pfs_eval.specs.Translating.{TakenKeys}
 use Rattle.pfs_eval.specs.Verdict.{can_decide, enclosing, is_quick}
 use Rattle.pfs_eval.specs.declared.comparing.Parameter.{Parameter}
 use Rattle.pfs_eval.specs.declared.lines.Line.{Line}
@@ -65,16 +65,16 @@ abbrev pub is_matched : Line → PacketView → Bool
 is_matched line p = is_rule line.item.what && came_to line.asked p line.item.what
 
 -- and decides, if none behind it does
-abbrev pub is_deciding : Taken → Line → PacketView → Bool
+abbrev pub is_deciding : TakenKeys → Line → PacketView → Bool
 is_deciding taken line p = can_decide line.item.what || is_lost_at_once taken line.given line.item.what p
 
 -- the packet after it
-abbrev pub packet_after : Taken → PacketView → Line → Option Parameter → PacketView
+abbrev pub packet_after : TakenKeys → PacketView → Line → Option Parameter → PacketView
 packet_after taken p line (Some k) = p
 packet_after taken p line None = if is_matched line p then made_by taken line.given line.item.what p else p
 
 -- the walk after it; p is the packet before it
-abbrev pub walk_after : Taken → Walk → PacketView → Line → Option Parameter → Walk
+abbrev pub walk_after : TakenKeys → Walk → PacketView → Line → Option Parameter → Walk
 walk_after taken w p line (Some k) = record { place = skip_of line.skips k; stop_depth = w.stop_depth; found = w.found }
 walk_after taken w p line None =
     if is_matched line p && is_deciding taken line p
@@ -84,6 +84,6 @@ walk_after taken w p line None =
 -- ---- the end of a walk
 
 -- a packet behind the item that decides on it, if one does and it does not lose it
-abbrev pub passed_at : Taken → PacketView → Option Item → Option PacketView
+abbrev pub passed_at : TakenKeys → PacketView → Option Item → Option PacketView
 passed_at taken p None = Some p
 passed_at taken p (Some i) = decided_by taken i.what p

@@ -16,8 +16,8 @@ use Rattle.pfs_conf_values.specs.declared.translations.RdrTo.{RdrTo}
 use Rattle.pfs_conf_values.specs.declared.translations.Translation.{Translation}
 
 -- Whether a state has a key, on the side that a translation makes: inside of a packet that comes in, on the wire of one that goes out.
-abbrev pub Taken : Type 0
-Taken = Dir → FlowKey → Bool
+abbrev pub TakenKeys : Type 0
+TakenKeys = Dir → FlowKey → Bool
 
 -- ---- `nat-to`, which is made first
 
@@ -26,10 +26,10 @@ abbrev pub sent_from : PacketView → Addr → ℕ → PacketView
 sent_from p addr port = with_source p (record { addr = addr; port = port })
 
 -- the ports of which it takes one: 50001 to 65535 where none are given; with `static-port` the source keeps its own
-abbrev pub port_range : NatPorts → Option Ports
-port_range Usual = Some (record { low = 50001; high = 65535 })
-port_range (Given ports) = Some ports
-port_range Static = None
+abbrev pub nat_range : NatPorts → Option Ports
+nat_range Usual = Some (record { low = 50001; high = 65535 })
+nat_range (Given ports) = Some ports
+nat_range Static = None
 
 -- ports, from the least to the greatest
 abbrev pub ports_in : Ports → List ℕ
@@ -41,22 +41,22 @@ free_port is_taken kept None = Some kept
 free_port is_taken kept (Some r) = find (λ port. not (is_taken port)) (ports_in r)
 
 -- a port is taken where a state has the key of the packet from there, to where it goes by then
-abbrev pub is_taken_at : Taken → PacketView → Addr → ℕ → Bool
+abbrev pub is_taken_at : TakenKeys → PacketView → Addr → ℕ → Bool
 is_taken_at taken p addr port = taken p.dir (key_of (sent_from p addr port))
 
 -- the port of a packet's source behind it: without ports the protocol has none to change
-abbrev pub nat_port : Taken → NatTo → PacketView → Option ℕ
-nat_port taken n p = if has_ports p.proto then free_port (is_taken_at taken p n.addr) p.source.port (port_range n.ports) else Some p.source.port
+abbrev pub nat_port : TakenKeys → NatTo → PacketView → Option ℕ
+nat_port taken n p = if has_ports p.proto then free_port (is_taken_at taken p n.addr) p.source.port (nat_range n.ports) else Some p.source.port
 
 -- A capture shows a packet that goes out as it is behind the translation. So where it is not known by which interface a packet came in,
 -- a source that is the address already stays as it is. (own)
-abbrev pub is_behind : NatTo → PacketView → Bool
-is_behind n p = is_none (came_in_on p) && same_addr p.source.addr n.addr
+abbrev pub is_behind_nat : NatTo → PacketView → Bool
+is_behind_nat n p = is_none (came_in_on p) && same_addr p.source.addr n.addr
 
 -- the packet behind `nat-to`, if a port is left
-unfoldable pub nat_by : Taken → Option NatTo → PacketView → Option PacketView
+unfoldable pub nat_by : TakenKeys → Option NatTo → PacketView → Option PacketView
 nat_by taken None p = Some p
-nat_by taken (Some n) p = if is_behind n p then Some p else option_map (sent_from p n.addr) (nat_port taken n p)
+nat_by taken (Some n) p = if is_behind_nat n p then Some p else option_map (sent_from p n.addr) (nat_port taken n p)
 
 -- ---- `rdr-to`
 
@@ -76,5 +76,5 @@ rdr_by (Some r) p = sent_to p r.addr (rdr_port r p)
 -- ---- both
 
 -- the packet behind a translation; none where `nat-to` finds no port, so that the packet is lost
-unfoldable pub translated : Taken → Translation → PacketView → Option PacketView
+unfoldable pub translated : TakenKeys → Translation → PacketView → Option PacketView
 translated taken t p = option_map (rdr_by t.rdr_to) (nat_by taken t.nat_to p)

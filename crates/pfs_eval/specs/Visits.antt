@@ -8,7 +8,7 @@ use Rattle.pfs_eval.specs.Entries.{Entry}
 use Rattle.pfs_eval.specs.Asking.{asking}
 use Rattle.pfs_eval.specs.Matching.{filter_of}
 use Rattle.pfs_eval.specs.Parameters.{asks_same, failing_at}
-use Rattle.pfs_eval.specs.Translating.{Taken}
+use Rattle.pfs_eval.specs.Translating.{TakenKeys}
 use Rattle.pfs_eval.specs.Verdict.{Asking, Place, cut}
 use Rattle.pfs_eval.specs.declared.comparing.Parameter.{Parameter}
 
@@ -24,7 +24,7 @@ abbrev pub is_left_with : List (List Entry) → Place → Place → Bool
 is_left_with tables x y = is_left_on (failing_at tables y.packet (filter_of y.item.what)) y.item x.item
 
 -- how many items are compared: those before the cut, but for each that is left behind with the one compared last
-unfoldable pub visits_of : List (List Entry) → Taken → PacketView → List Item → ℕ
+unfoldable pub visits_of : List (List Entry) → TakenKeys → PacketView → List Item → ℕ
 visits_of tables taken p items = length (dedup (is_left_with tables) (cut (asking items tables taken) p items))
 
 -- ---- the most and the fewest

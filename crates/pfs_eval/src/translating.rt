@@ -5,7 +5,7 @@ ghost use Rattle.std.specs.List.{find};
 ghost use Rattle.pfs_addr_values.specs.Protocols.{has_ports};
 ghost use Rattle.pfs_addr_values.specs.declared.packets.Dir.{Dir};
 ghost use Rattle.pfs_addr_values.specs.declared.packets.FlowKey.{FlowKey};
-ghost use Rattle.pfs_eval.specs.Translating.{free_port, is_behind, is_taken_at, nat_by, nat_port, port_range, ports_in, rdr_by, rdr_port, sent_from, sent_to, translated};
+ghost use Rattle.pfs_eval.specs.Translating.{free_port, is_behind_nat, is_taken_at, nat_by, nat_port, nat_range, ports_in, rdr_by, rdr_port, sent_from, sent_to, translated};
 
 use pfs_addr_values::{Addr, Dir, Endpoint, FlowKey, Packet};
 use pfs_conf_values::{NatPorts, NatTo, Ports, RdrTo, Translation};
@@ -71,7 +71,7 @@ fn nat<S: Sides>(nat_to: &Option<NatTo>, sides: &S, packet: &Packet) -> Option<P
     let Some(nat_to) = nat_to else {
         return Some(*packet);
     };
-    if is_behind(nat_to, packet) {
+    if is_behind_nat(nat_to, packet) {
         return Some(*packet);
     }
     match nat_port(nat_to, sides, packet) {
@@ -81,8 +81,8 @@ fn nat<S: Sides>(nat_to: &Option<NatTo>, sides: &S, packet: &Packet) -> Option<P
 }
 
 /// Whether a packet is seen behind the translation, as a capture shows it.
-fn is_behind(nat_to: &NatTo, packet: &Packet) -> bool
-    ensures { result ≡ is_behind nat_to.now packet.now }
+fn is_behind_nat(nat_to: &NatTo, packet: &Packet) -> bool
+    ensures { result ≡ is_behind_nat nat_to.now packet.now }
 {
     packet.came_in_on().is_none() && packet.src() == nat_to.addr
 }
@@ -95,14 +95,14 @@ fn nat_port<S: Sides>(nat_to: &NatTo, sides: &S, packet: &Packet) -> Option<u16>
     if !packet.proto().has_ports() {
         return Some(packet.sport());
     }
-    match port_range(nat_to.ports) {
+    match nat_range(nat_to.ports) {
         Some(ports) => free_port(sides, packet, nat_to.addr, ports),
         None => Some(packet.sport()),
     }
 }
 
-fn port_range(ports: NatPorts) -> Option<Ports>
-    ensures { result ≡ port_range ports }
+fn nat_range(ports: NatPorts) -> Option<Ports>
+    ensures { result ≡ nat_range ports }
 {
     match ports {
         NatPorts::Usual => Some(Ports {

@@ -11,5 +11,6 @@ mod plain;
 mod scores;
 mod tables;
 mod tcp_steps;
+mod translations;
 mod verdicts;
 mod visits;

@@ -13,4 +13,5 @@ mod settings;
 mod tags;
 mod together;
 mod tokens;
+mod translations;
 mod wide_addresses;

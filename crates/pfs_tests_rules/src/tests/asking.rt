@@ -2,7 +2,7 @@
 
 use pfs_addr_values::{Meter, Packet};
 use pfs_conf::{Config, RuleNo};
-use pfs_eval::{Book, Decision, Tables};
+use pfs_eval::{Book, Decision, NoSides, Sides, Tables};
 use std::alloc::Global;
 use std::test::Fail;
 
@@ -22,10 +22,15 @@ impl Rules {
         })
     }
 
-    /// What the rules make of a packet, and the number of visits.
+    /// What the rules make of a packet where no key is taken, and the number of visits.
     pub fn decide(&self, packet: &Packet) -> (Decision, u64) {
+        self.decide_over(&NoSides, packet)
+    }
+
+    /// What the rules make of a packet over these keys, and the number of visits.
+    pub fn decide_over<S: Sides>(&self, sides: &S, packet: &Packet) -> (Decision, u64) {
         let mut visits = Meter::new();
-        let decision = self.book.decide(&self.tables, packet, &mut visits);
+        let decision = self.book.decide(&self.tables, sides, packet, &mut visits);
         (decision, visits.count())
     }
 

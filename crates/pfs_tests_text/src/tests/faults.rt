@@ -521,13 +521,172 @@ const RULES: &[(&[u8], u64, Kind)] = &[
     (b"pass tag a from any", 1, Kind::Syntax),
     (b"pass all tag a all", 1, Kind::Duplicate),
     (b"pass tag a keep state keep state", 1, Kind::Duplicate),
-    (b"pass nat-to 192.0.2.1", 1, Kind::Unsupported),
-    (b"match in rdr-to 192.0.2.1", 1, Kind::Unsupported),
+];
+
+/// Rules that translate.
+const TRANSLATIONS: &[(&[u8], u64, Kind)] = &[
+    (b"pass in nat-to 192.0.2.1", 1, Kind::NeedsProfile),
+    (b"pass\nmatch in rdr-to 192.0.2.1", 2, Kind::NeedsProfile),
+    (b"pass nat-to 192.0.2.1", 1, Kind::TranslationWithoutWay),
+    (
+        b"set profile openbsd-7.4\npass nat-to 192.0.2.1",
+        2,
+        Kind::TranslationWithoutWay,
+    ),
+    (
+        b"set profile openbsd-7.4\nmatch rdr-to 192.0.2.1 tag a",
+        2,
+        Kind::TranslationWithoutWay,
+    ),
+    (
+        b"set profile openbsd-7.4\npass inet6 rdr-to 192.0.2.1",
+        2,
+        Kind::TranslationWithoutWay,
+    ),
+    (
+        b"set profile openbsd-7.4\npass in inet6 rdr-to 192.0.2.1",
+        2,
+        Kind::TranslationFamily,
+    ),
+    (
+        b"set profile openbsd-7.4\npass out inet nat-to 2001:db8::1",
+        2,
+        Kind::TranslationFamily,
+    ),
+    (
+        b"set profile openbsd-7.4\npass in from 2001:db8::/32 rdr-to 192.0.2.1",
+        2,
+        Kind::TranslationFamily,
+    ),
+    (
+        b"set profile openbsd-7.4\npass in to ! 2001:db8::/32 rdr-to 192.0.2.1",
+        2,
+        Kind::TranslationFamily,
+    ),
+    (
+        b"set profile openbsd-7.4\npass in from 10.0.0.1 to ::1 nat-to 192.0.2.1",
+        2,
+        Kind::TranslationFamily,
+    ),
+    (
+        b"set profile openbsd-7.4\npass in nat-to 192.0.2.1 rdr-to 2001:db8::1",
+        2,
+        Kind::TranslationFamily,
+    ),
+    (
+        b"set profile openbsd-7.4\npass out keep state (adaptive.start 5) inet6 nat-to 10.0.0.1",
+        2,
+        Kind::Syntax,
+    ),
+    (
+        b"set profile openbsd-7.4\npass nat-to 10.0.0.1 keep state (adaptive.start 5)",
+        2,
+        Kind::AdaptivePair,
+    ),
+    (
+        b"set profile openbsd-7.4\npass in nat-to 10.0.0.1 tag a nat-to 10.0.0.1",
+        2,
+        Kind::Duplicate,
+    ),
+    (
+        b"set profile openbsd-7.4\npass in rdr-to 10.0.0.1 \\\nrdr-to 10.0.0.1",
+        3,
+        Kind::Duplicate,
+    ),
+    (
+        b"set profile openbsd-7.4\npass out nat-to 10.0.0.1 port 5 port 6",
+        2,
+        Kind::Duplicate,
+    ),
+    (
+        b"set profile openbsd-7.4\npass out nat-to 10.0.0.1 static-port static-port",
+        2,
+        Kind::Duplicate,
+    ),
+    (
+        b"set profile openbsd-7.4\npass out nat-to 10.0.0.1 static-port tag a port 5",
+        2,
+        Kind::Duplicate,
+    ),
+    (
+        b"set profile openbsd-7.4\npass out nat-to 10.0.0.1 tag a port 5",
+        2,
+        Kind::Syntax,
+    ),
+    (
+        b"set profile openbsd-7.4\npass out rdr-to 10.0.0.1 static-port",
+        2,
+        Kind::Syntax,
+    ),
+    (b"set profile openbsd-7.4\npass out nat-to", 2, Kind::Syntax),
+    (
+        b"set profile openbsd-7.4\npass out nat-to em0",
+        2,
+        Kind::Unsupported,
+    ),
+    (
+        b"set profile openbsd-7.4\npass out nat-to (em0)",
+        2,
+        Kind::Unsupported,
+    ),
+    (
+        b"set profile openbsd-7.4\npass out nat-to 10.0.0.0/8",
+        2,
+        Kind::Syntax,
+    ),
+    (
+        b"set profile openbsd-7.4\npass out nat-to ::1%em0",
+        2,
+        Kind::Unsupported,
+    ),
+    (
+        b"set profile openbsd-7.4\npass out nat-to any",
+        2,
+        Kind::Unsupported,
+    ),
+    (
+        b"set profile openbsd-7.4\npass out nat-to 10.0.0.1 port 70000",
+        2,
+        Kind::Number,
+    ),
+    (
+        b"set profile openbsd-7.4\npass out nat-to 10.0.0.1 port 5:4",
+        2,
+        Kind::Number,
+    ),
+    (
+        b"set profile openbsd-7.4\npass out nat-to 10.0.0.1 port foo",
+        2,
+        Kind::Unsupported,
+    ),
+    (
+        b"set profile openbsd-7.4\npass in rdr-to 10.0.0.1 port 80:81",
+        2,
+        Kind::Number,
+    ),
+    (
+        b"set profile openbsd-7.4\nblock in rdr-to 10.0.0.1",
+        2,
+        Kind::Unsupported,
+    ),
+    (
+        b"set profile openbsd-7.4\nblock out nat-to 10.0.0.1",
+        2,
+        Kind::Unsupported,
+    ),
+    (
+        b"set profile openbsd-7.4\npass in rdr-to 10.0.0.1 to any",
+        2,
+        Kind::Syntax,
+    ),
 ];
 
 #[test]
 fn refused_rules(rt: HostRuntime) {
     for &(text, line, kind) in RULES {
+        refused(&rt, text, line, kind);
+    }
+    for &(text, line, kind) in TRANSLATIONS {
         refused(&rt, text, line, kind);
     }
 }
@@ -550,6 +709,12 @@ const ANCHORS: &[(&[u8], u64, Kind)] = &[
     (b"anchor flags any flags any {", 1, Kind::Duplicate),
     (b"anchor in log {", 1, Kind::Syntax),
     (b"anchor a tag b {", 1, Kind::Unsupported),
+    (b"anchor a in nat-to 10.0.0.1 {", 1, Kind::Unsupported),
+    (
+        b"anchor a in flags any rdr-to 10.0.0.1 {",
+        1,
+        Kind::Unsupported,
+    ),
     (b"anchor a ! tagged b {", 1, Kind::Syntax),
     (
         b"anchor a flags any received-on em0 {",

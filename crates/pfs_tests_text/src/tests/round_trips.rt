@@ -14,7 +14,7 @@ const LIMITS: [LimitName; 4] = [
 ];
 
 /// Each part of a rules text, in usual and in unusual spellings.
-const TEXTS: [&[u8]; 53] = [
+const TEXTS: [&[u8]; 56] = [
     b"",
     b"# a comment alone \\\n",
     b"set limit states 1\nset limit src-nodes 4294967295\nset limit tables 2\nset limit table-entries 3",
@@ -68,6 +68,9 @@ const TEXTS: [&[u8]; 53] = [
     b"set profile openbsd-7.4\nmatch\nmatch in log on em0 inet6 proto udp from any port domain to <t> flags any tag a tagged b received-on em1",
     b"pass quick keep state (max 5) ! tagged a tag tagged\nblock !received-on tag flags S/SA\nset profile openbsd-7.4\npass no state received-on a",
     b"anchor match {\nmatch out ! received-on 7 tagged 7 tag 7\n}\npass synproxy state ! tagged received-on\nset profile openbsd-7.4",
+    b"set profile openbsd-7.4\nmatch out on em0 nat-to 192.0.2.1 tag OUT\nmatch out on em1 inet nat-to 192.0.2.2 static-port\nmatch in proto tcp to any port 80 ! tagged OUT received-on em0 rdr-to 10.0.0.5 port www\npass out nat-to 192.0.2.1 port 1024:2047",
+    b"pass quick keep state (max 5) ! tagged a tag b\npass in rdr-to 2001:DB8::0001 port domain keep state (max 9) nat-to ::ffff:0:1 port 0:65535\nset profile openbsd-7.4\npass in no state rdr-to 0.0.0.0 port 0",
+    b"set profile openbsd-7.4\nanchor nat-to {\npass out from <static-port> to ! 10.0.0.0/8 nat-to 255.255.255.255 port ssh rdr-to 10.0.0.1\n}\npass on rdr-to tag nat-to tagged static-port",
 ];
 
 /// The profile, SYN cookies, routes, limits and timeouts of two configurations are the same.

@@ -121,7 +121,9 @@ const WORDS: &[(&[u8], Key)] = &[
     (b"tag", Key::Tag),
     (b"tagged", Key::Tagged),
     (b"received-on", Key::ReceivedOn),
-    (b"nat-to", Key::Foreign),
+    (b"nat-to", Key::NatTo),
+    (b"rdr-to", Key::RdrTo),
+    (b"static-port", Key::StaticPort),
     (b"", Key::Name),
 ];
 
