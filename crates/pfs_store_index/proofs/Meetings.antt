@@ -13,7 +13,7 @@ use Rattle.pfs_store_contract.specs.Counts.{is_connection, is_of_node, node_conn
 use Rattle.pfs_store_contract.specs.Touching.{completes_at, goes_forward, nodes_scored, nodes_touched, numbered_state_after, state_after_packet}
 use Rattle.pfs_store_contract.specs.declared.records.NodeScope.{NodeScope}
 use Rattle.pfs_store_contract.specs.declared.records.State.{State}
-use Rattle.pfs_store_records.specs.Records.{Placed, placed_at, put, states_of}
+use Rattle.pfs_store_records.specs.Records.{Placed, placed_at, states_of}
 use Rattle.pfs_store_records.specs.Tallies.{is_tally, nodes_of}
 use Rattle.pfs_store_records.specs.declared.nodes.Tally.{Tally}
 use Rattle.pfs_store_records.specs.Changes.{HasTally, IsScored, IsScoped, at_node, is_at, met_by}
@@ -70,33 +70,9 @@ pub states-renewed : (n : ℕ) (p : PacketView) (now : ℕ) (rs : List Placed) �
 states-renewed n p now [] = refl
 states-renewed n p now (r ∷ rs) = ap (λ xs. numbered_state_after n p now r.state ∷ xs) (states-renewed n p now rs)
 
-renew-apart : (n : ℕ) (p : PacketView) (now : ℕ) (rs : List Placed) → Apart record_number n rs → map (renewed_record n p now) rs ≡ rs
+pub renew-apart : (n : ℕ) (p : PacketView) (now : ℕ) (rs : List Placed) → Apart record_number n rs → map (renewed_record n p now) rs ≡ rs
 renew-apart n p now [] a = refl
 renew-apart n p now (r ∷ rs) (a, more) = rw a (ap (λ xs. r ∷ xs) (renew-apart n p now rs more))
-
-put-apart : (n : ℕ) (st : State) (rs : List Placed) → st.number ≡ n → Apart record_number n rs → map (put st) rs ≡ rs
-put-apart n st [] e a = refl
-put-apart n st (r ∷ rs) e (a, more) =
-    let a' : (r.state.number == st.number) ≡ false = ap (λ k. r.state.number == k) e ∙ a in
-    rw a' (ap (λ xs. r ∷ xs) (put-apart n st rs e more))
-
-pub put-renewed : (n : ℕ) (p : PacketView) (now : ℕ) (s : Placed) (st : State) (rs : List Placed) → IsRisingBy record_number rs → find (has_number record_number n) rs ≡ Some s
-    → st ≡ numbered_state_after n p now s.state → st.number ≡ n → map (put st) rs ≡ map (renewed_record n p now) rs
-put-renewed n p now s st [] r f e k = refl
-put-renewed n p now s st (x ∷ xs) r f e k = go (put-renewed n p now s st xs (rest-rising record_number x xs r)) (x.state.number == n) refl
-  where
-    go : (find (has_number record_number n) xs ≡ Some s → st ≡ numbered_state_after n p now s.state → st.number ≡ n → map (put st) xs ≡ map (renewed_record n p now) xs)
-        → (b : Bool) → (x.state.number == n) ≡ b → map (put st) (x ∷ xs) ≡ map (renewed_record n p now) (x ∷ xs)
-    go more true t =
-        let q = head-is record_number n x s xs t f in
-        let a : Apart record_number n xs = subst (λ m. Apart record_number m xs) (same_number n x.state.number t) (head-apart record_number x xs r) in
-        let y : (x.state.number == st.number) ≡ true = ap (λ m. x.state.number == m) k ∙ t in
-        let h : put st x ≡ renewed_record n p now x =
-        ap (λ (b : Bool). if b then placed_at x.place st else x) y ∙ ap (placed_at x.place) (e ∙ ap (λ (z : Placed). numbered_state_after n p now z.state) (sym q)) in
-        (λ i. h i ∷ (put-apart n st xs k a ∙ sym (renew-apart n p now xs a)) i)
-    go more false t =
-        let y : (x.state.number == st.number) ≡ false = ap (λ m. x.state.number == m) k ∙ t in
-        rw (y, t) (ap (λ ys. x ∷ ys) (more (rw t at f) e k))
 
 -- the record with a key is that with its number
 pub key-number : (k : FlowKey) (s : Placed) (rs : List Placed) → IsRisingBy record_number rs → find (has_key k) rs ≡ Some s → find (has_number record_number s.state.number) rs ≡ Some s

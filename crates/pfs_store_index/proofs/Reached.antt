@@ -53,7 +53,7 @@ entry-reached k e rs h = go (find (has_key k) rs) refl
 
 -- ---- to the record
 
-none-placed : (n at : ℕ) (rs : List Placed) → Apart record_number n rs → list_any (is_placed n at) rs ≡ false
+pub none-placed : (n at : ℕ) (rs : List Placed) → Apart record_number n rs → list_any (is_placed n at) rs ≡ false
 none-placed n at [] h = refl
 none-placed n at (x ∷ xs) (h, hs) = rw h (none-placed n at xs hs)
 

@@ -3,7 +3,6 @@
 ghost use Rattle.std.specs.Prelude.{◌≡◌, ◌+◌, ◌-◌, ◌<◌, ◌≤◌, ◌^◌, ◌==◌, ◌||◌, ◌++◌, ◌∷◌, [], IfOk, IfSome, IsSome, None, OnErr, OnOk, Some, false, filter, is_some, length, map, not, option_map, slice_get, true, ℕ};
 ghost use Rattle.std.specs.List.{AllByRecursion, find};
 ghost use Rattle.indexmap.specs.IndexMap.{get};
-ghost use Rattle.pfs_addr_values.specs.Keys.{key_of};
 ghost use Rattle.pfs_addr_values.specs.Packets.{run_limit};
 ghost use Rattle.pfs_addr_values.specs.Sameness.{same_key};
 ghost use Rattle.pfs_conf_values.specs.Configs.{options_at};
@@ -34,7 +33,7 @@ use indexmap::IndexMap;
 use pfs_addr_values::{Addr, Dir, FlowKey, Meter, NoMemory, Packet};
 use pfs_conf_values::{Config, Profile, RuleNo};
 use pfs_store_contract::{Found, Node, NodeScope, State, StateNo, Touched};
-use pfs_store_records::{Nodes, Passed, Records, Round, Sought, Tally, leave, meet};
+use pfs_store_records::{Kept, Nodes, Passed, Records, Round, Sought, Tally, leave, meet};
 use pfs_store_rules::node_scope;
 use pfs_track::Score;
 use std::alloc::{AllocError, Global};
@@ -48,13 +47,6 @@ pub(crate) struct Entry {
     pub(crate) number: u32,
     pub(crate) rule: RuleNo,
     pub(crate) place: u32,
-}
-
-/// A state before its packet, and what is reported of the packet.
-#[derive(Clone, Copy)]
-pub(crate) struct Renewed {
-    pub(crate) before: State,
-    pub(crate) touched: Touched,
 }
 
 /// The states and the source nodes that are held for a configuration, with what finds and counts them. Callers see them as
@@ -283,6 +275,17 @@ impl<S: BuildHasher> Indexes<S> {
         self.records.read(number, meter)
     }
 
+    /// The record of the state that was found, as it is kept: one look, and no search.
+    pub(crate) fn record(&self, found: Found, meter: &mut Meter) -> &Kept
+        requires reached { is_reached self.now.records found ≡ true }
+        requires room { meter.old < 2 ^ 64 - 1 }
+        ensures value { find (λ s. s.number == found.number.0) self.now.states ≡ Some result.now }
+        ensures looks { meter.new ≡ meter.old + 1 }
+    {
+        self.records.numbers_rise();
+        self.records.record_at(found.place, meter)
+    }
+
     /// The record of the state that was found: one look, and no search.
     pub(crate) fn read_found(&self, found: Found, meter: &mut Meter) -> State
         requires reached { is_reached self.now.records found ≡ true }
@@ -365,8 +368,8 @@ impl<S: BuildHasher> Indexes<S> {
         })
     }
 
-    /// Takes a packet of the state that was found by its key: one look, and no search by key. What the source's node has is told
-    /// where the handshake completes, and where it is asked for.
+    /// Takes a packet of the state that was found: one look, and no search. What the source's node has is told where the handshake
+    /// completes, and where it is asked for.
     pub(crate) fn renew(
         &mut self,
         found: Found,
@@ -374,47 +377,44 @@ impl<S: BuildHasher> Indexes<S> {
         asked: bool,
         now: u64,
         meter: &mut Meter,
-    ) -> Renewed
-        requires held { option_map state_number (state_with (key_of packet.now) (lists self.old.states [] [] [] 0)) ≡ Some found.number }
+    ) -> Touched
         requires reached { is_reached self.old.records found ≡ true }
         requires order { IsUpToNow now (lists [] self.old.nodes [] [] 0) }
         requires few { length self.old.states ≤ run_limit }
         requires room { meter.old < 2 ^ 64 - 1 }
-        ensures before { state_with (key_of packet.now) (lists self.old.states [] [] [] 0) ≡ Some result.before }
-        ensures states { self.new.states ≡ map (numbered_state_after result.before.number packet.now now) self.old.states }
-        ensures nodes { self.new.nodes
-            ≡ nodes_touched self.old.config self.old.nodes result.before now (completes_at packet.now result.before) }
-        ensures told { result.touched ≡ told_at (asked || completes_at packet.now result.before)
-            (touch_of self.old.config (lists self.old.states self.old.nodes [] [] 0) packet.now now result.before) }
+        ensures states { self.new.states ≡ map (numbered_state_after found.number.0 packet.now now) self.old.states }
+        ensures nodes { Some self.new.nodes
+            ≡ option_map (λ s. nodes_touched self.old.config self.old.nodes s now (completes_at packet.now s)) (find (λ s. s.number == found.number.0) self.old.states) }
+        ensures told { Some result ≡ option_map (λ s. told_at (asked || completes_at packet.now s)
+            (touch_of self.old.config (lists self.old.states self.old.nodes [] [] 0) packet.now now s)) (find (λ s. s.number == found.number.0) self.old.states) }
         ensures reached { is_reached self.new.records found ≡ true }
         ensures config { self.new.config ≡ self.old.config }
         ensures looks { meter.new ≡ meter.old + 1 }
     {
         self.records.numbers_rise();
-        let state = self.records.read_at(found.place, meter);
-        let step = stepped(&state, packet, now);
-        self.records.write_at(found.place, step.after);
+        let kept = self.records.record_at(found.place, meter);
+        let (rule, source, dir, tag) = (kept.rule(), kept.source(), kept.dir(), kept.tag());
+        let step = stepped(kept, packet, now);
+        self.records.renew_at(found.place, step.phase, step.last);
         let met = meet(
             &self.config,
             &mut self.nodes,
-            &state,
+            rule,
+            source,
             step.completed,
             asked,
             now,
         );
-        Renewed {
-            before: state,
-            touched: Touched {
-                rule: state.rule,
-                source: state.source,
-                dir: state.dir,
-                completed: step.completed,
-                taken: step.taken,
-                asks: step.asks,
-                tag: state.tag,
-                connections: met.connections,
-                score: met.score,
-            },
+        Touched {
+            rule,
+            source,
+            dir,
+            completed: step.completed,
+            taken: step.taken,
+            asks: step.asks,
+            tag,
+            connections: met.connections,
+            score: met.score,
         }
     }
 

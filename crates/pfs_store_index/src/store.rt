@@ -185,7 +185,7 @@ impl<S: BuildHasher> IndexStore<S> {
         ensures config { self.new.config ≡ self.old.config }
     {
         self.indexes.state_numbers_rise();
-        self.indexes.renew(found, packet, asked, now, meter).touched
+        self.indexes.renew(found, packet, asked, now, meter)
     }
 }
 
@@ -256,7 +256,7 @@ impl<S: BuildHasher> Store for IndexStore<S> {
 
     fn has_closed(&self, found: Found, _key: &FlowKey, meter: &mut Meter) -> bool {
         self.indexes.state_numbers_rise();
-        self.indexes.read_found(found, meter).phase.has_closed()
+        self.indexes.record(found, meter).phase().has_closed()
     }
 
     fn kill(&mut self, found: Found, now: u64, meter: &mut Meter) {

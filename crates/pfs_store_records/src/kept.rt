@@ -2,6 +2,7 @@
 //! of 32 bits: a run makes at most 2,000,000,000 states.
 
 ghost use Rattle.std.specs.Prelude.{◌≡◌, ◌<◌, ◌^◌};
+ghost use Rattle.pfs_store_records.specs.Records.{renewed};
 ghost use Rattle.pfs_store_records.specs.Sides.{dir_of_side, number_of_tag, side_from, tag_at_side};
 ghost use Rattle.pfs_store_records.specs.Sourced.{IsSourced, source_at};
 ghost use Rattle.pfs_track.specs.StatePhases.{slot};
@@ -30,7 +31,7 @@ pub(crate) enum Side {
 /// The fields are in memory in this order: what a walk reads comes first, and none of the 64 bytes is unused. So the ends of the key
 /// are kept in parts. The number of the tag is 0 where the state has none.
 #[derive(Clone, Copy)]
-pub(crate) struct Kept {
+pub struct Kept {
     last: u64,
     number: u32,
     rule: RuleNo,
@@ -109,14 +110,38 @@ impl Kept {
     }
 
     /// The rule that made the state. It takes no memory.
-    pub(crate) fn rule(&self) -> RuleNo
+    pub fn rule(&self) -> RuleNo
         ensures { result ≡ self.now.rule }
     {
         self.rule
     }
 
+    /// The direction of the packet that made the state. It takes no memory.
+    pub fn dir(&self) -> Dir
+        ensures { result ≡ self.now.dir }
+    {
+        dir_of_side(self.side)
+    }
+
+    /// The source address of the packet that made the state. It takes no memory.
+    pub fn source(&self) -> Addr
+        ensures { result ≡ self.now.source }
+    {
+        match self.dir() {
+            Dir::In => self.addr,
+            Dir::Out => self.other_addr,
+        }
+    }
+
+    /// The tag of the state, if it has one. It takes no memory.
+    pub fn tag(&self) -> Option<TagNo>
+        ensures { result ≡ self.now.tag }
+    {
+        tag_at_side(self.side, self.tag)
+    }
+
     /// How far the connection of the state has come. It takes no memory.
-    pub(crate) fn phase(&self) -> StatePhase
+    pub fn phase(&self) -> StatePhase
         ensures { result ≡ self.now.phase }
     {
         self.phase
@@ -130,16 +155,23 @@ impl Kept {
     }
 
     /// The moment of the last packet of the state, in seconds. It takes no memory.
-    pub(crate) fn last(&self) -> u64
+    pub fn last(&self) -> u64
         ensures { result ≡ self.now.last }
     {
         self.last
     }
 
+    /// A packet of the state came: the state has this phase now, and this moment of its last packet, in seconds. It takes no memory.
+    pub(crate) fn renew(&mut self, phase: StatePhase, last: u64)
+        ensures { self.new ≡ renewed phase last self.old }
+    {
+        self.phase = phase;
+        self.last = last;
+    }
+
     /// The state. It takes no memory.
     pub(crate) fn state(&self) -> State
         ensures value { result ≡ self.now }
-        ensures sourced { IsSourced result }
         ensures small { result.number < 2 ^ 32 }
     {
         let dir = dir_of_side(self.side);

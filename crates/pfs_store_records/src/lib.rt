@@ -14,6 +14,7 @@ mod stays;
 mod tallying;
 mod walks;
 
+pub use kept::Kept;
 pub use nodes::{Nodes, Passed, Tally};
 pub use places::{Places, PlacesBetween};
 pub use records::Records;

@@ -12,7 +12,7 @@ ghost use Rattle.pfs_store_contract.specs.Worlds.{holds_number};
 ghost use Rattle.pfs_store_records.specs.Keeping.{AreInPlace, RecordIsAt, number_in, one_if, record_in, values_at};
 ghost use Rattle.pfs_store_records.specs.Sourced.{IsSourced};
 ghost use Rattle.pfs_store_records.specs.Walks.{IsWalk, StayUntil, end_of, state_has_expired, looks_of};
-ghost use Rattle.pfs_store_records.specs.Records.{IsAbove, IsRecordAt, IsRising, is_placed, leaves_number, placed_at, put, put_state, stands_at, states_of};
+ghost use Rattle.pfs_store_records.specs.Records.{IsAbove, IsRecordAt, IsRising, leaves_number, placed_at, renewed_at, stands_at, states_of};
 
 use crate::kept::Kept;
 use crate::places::Places;
@@ -106,7 +106,6 @@ impl Records {
         requires held { list_any (stands_at place) self.now ≡ true }
         requires room { meter.old < 2 ^ 64 - 1 }
         ensures value { IsRecordAt place result self.now }
-        ensures sourced { IsSourced result }
         ensures small { result.number < 2 ^ 32 }
         ensures looks { meter.new ≡ meter.old + 1 }
     {
@@ -143,21 +142,28 @@ impl Records {
         )
     }
 
-    /// Writes a state into the record of its number, which is at this place. It is no look, since who writes a record has looked at it,
-    /// and takes no memory.
-    pub fn write_at(&mut self, place: u32, state: State)
-        requires placed { list_any (is_placed state.number place) self.old ≡ true }
-        requires sourced { IsSourced state }
-        requires small { state.number < 2 ^ 32 }
-        ensures records { self.new ≡ map (put state) self.old }
-        ensures states { states_of self.new ≡ map (put_state state) (states_of self.old) }
-        ensures rising { IsRising (state_numbers (states_of self.new)) }
+    /// The record at this place: one look, and no search. It takes no memory.
+    pub fn record_at(&self, place: u32, meter: &mut Meter) -> &Kept
+        requires held { list_any (stands_at place) self.now ≡ true }
+        requires room { meter.old < 2 ^ 64 - 1 }
+        ensures value { IsRecordAt place result.now self.now }
+        ensures looks { meter.new ≡ meter.old + 1 }
+    {
+        look(&self.slab, place as usize, meter)
+    }
+
+    /// A packet came of the state whose record is at this place: the state has this phase now, and this moment of its last packet. It
+    /// is no look, since who writes a record has looked at it, and takes no memory.
+    pub fn renew_at(&mut self, place: u32, phase: StatePhase, last: u64)
+        requires held { list_any (stands_at place) self.old ≡ true }
+        ensures records { self.new ≡ map (renewed_at place phase last) self.old }
     {
         // As in `push`: the count is not near the greatest number.
         let _count = self.places.len();
-        let before = self.slab[place as usize];
-        self.slab[place as usize] = Kept::of(&state);
-        self.half_open = with(without(self.half_open, before.phase()), state.phase);
+        let kept = &mut self.slab[place as usize];
+        let before = kept.phase();
+        kept.renew(phase, last);
+        self.half_open = with(without(self.half_open, before), phase);
     }
 
     /// Adds the record of a state whose number is above all others, and returns its place. It returns `NoMemory` where
