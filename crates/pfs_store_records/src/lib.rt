@@ -2,9 +2,11 @@
 //! are found.
 #![tactic(auto)]
 
+mod aside;
 mod changes;
 mod kept;
 mod nodes;
+mod packed;
 mod places;
 mod records;
 mod retaining;
