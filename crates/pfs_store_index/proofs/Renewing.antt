@@ -21,7 +21,8 @@ use Rattle.pfs_store_contract.specs.declared.records.Node.{Node}
 use Rattle.pfs_store_contract.specs.declared.records.NodeScope.{NodeScope}
 use Rattle.pfs_store_contract.specs.declared.records.State.{State}
 use Rattle.pfs_store_contract.specs.declared.records.StateNo.{StateNo}
-use Rattle.pfs_store_records.specs.Records.{IsRecordAt, IsRising, Placed, is_placed, placed_at, renewed, renewed_at, states_of}
+use Rattle.pfs_store_records.specs.Aside.{IsKeptAt, rekeyed}
+use Rattle.pfs_store_records.specs.Records.{IsRising, Placed, is_placed, placed_at, renewed, renewed_at, states_of}
 use Rattle.pfs_store_records.specs.Tallies.{is_tally, nodes_of}
 use Rattle.pfs_store_records.specs.declared.nodes.Tally.{Tally}
 use Rattle.pfs_store_index.specs.Holdings.{is_reached}
@@ -39,59 +40,24 @@ use Rattle.pfs_store_records.proofs.Rising.{Apart, IsRisingBy, has_number, head-
 same_self : (n : ℕ) → (n == n) ≡ true
 same_self n = grind (arith, nat_tests)
 
-lower_differs : (a b : ℕ) → a < b → (a == b) ≡ false
-lower_differs a b h = grind (arith, nat_tests)
-
--- a state that is found is found by its number
-by-number : (p : State → Bool) (s : State) (xs : List State) → IsRisingBy state_number xs → find p xs ≡ Some s → find (has_number state_number s.number) xs ≡ Some s
-by-number p s [] r f = absurd cc
-by-number p s (x ∷ xs) r f = go (by-number p s xs (rest-rising state_number x xs r)) (p x) refl
-  where
-    go : (find p xs ≡ Some s → find (has_number state_number s.number) xs ≡ Some s) → (b : Bool) → p x ≡ b → find (has_number state_number s.number) (x ∷ xs) ≡ Some s
-    go more true t =
-        let f' : Some x ≡ Some s = (rw t at f) in
-        let q : x ≡ s = cc in
-        let y : (x.number == s.number) ≡ true = ap (λ (z : State). z.number == s.number) q ∙ same_self s.number in
-        rw y f'
-    go more false t =
-        let f' : find p xs ≡ Some s = (rw t at f) in
-        let l : x.number < s.number = found-all (λ (y : State). x.number < y.number) p s xs (head-above state_number x xs r) f' in
-        let y : (x.number == s.number) ≡ false = lower_differs x.number s.number l in
-        rw y (more f')
-
--- the state that has a key is that of its number
-pub key-of-number : (k : FlowKey) (n : StateNo) (s : State) (xs : List State) → IsRisingBy state_number xs → find (has_number state_number n.0) xs ≡ Some s
-    → option_map number_of (find (λ (x : State). same_key x.key k) xs) ≡ Some n → find (λ (x : State). same_key x.key k) xs ≡ Some s
-key-of-number k n s xs r f h = go (find (λ (x : State). same_key x.key k) xs) refl h
-  where
-    go : (o : Option State) → find (λ (x : State). same_key x.key k) xs ≡ o → option_map number_of o ≡ Some n → find (λ (x : State). same_key x.key k) xs ≡ Some s
-    go None e i = absurd cc
-    go (Some u) e i =
-        let q : number_of u ≡ n = cc in
-        let m = by-number (λ (x : State). same_key x.key k) u xs r e in
-        e ∙ sym m ∙ ap (λ (z : StateNo). find (has_number state_number z.0) xs) q ∙ f
-
--- the state of a key and a number
-pub record IsHeldAs (k : FlowKey) (n : StateNo) (xs : List State) : Type 0 where
+-- the state of a number that is held
+pub record IsHeldAs (n : ℕ) (xs : List State) : Type 0 where
   pub state : State
-  pub by_key : find (λ (x : State). same_key x.key k) xs ≡ Some state
-  pub by_number : find (has_number state_number n.0) xs ≡ Some state
-  pub number : state.number ≡ n.0
+  pub found : find (has_number state_number n) xs ≡ Some state
+  pub number : state.number ≡ n
 
-pub held-as : (k : FlowKey) (n : StateNo) (xs : List State) → IsRisingBy state_number xs → option_map number_of (find (λ (x : State). same_key x.key k) xs) ≡ Some n → IsHeldAs k n xs
-held-as k n xs r h = go (find (λ (x : State). same_key x.key k) xs) refl h
+pub held-as : (n : ℕ) (xs : List State) → list_any (has_number state_number n) xs ≡ true → IsHeldAs n xs
+held-as n xs h = go (find (has_number state_number n) xs) refl
   where
-    go : (o : Option State) → find (λ (x : State). same_key x.key k) xs ≡ o → option_map number_of o ≡ Some n → IsHeldAs k n xs
-    go None e i = absurd cc
-    go (Some u) e i =
-        let q : number_of u ≡ n = cc in
-        let m = by-number (λ (x : State). same_key x.key k) u xs r e in
-        record {
-          state = u;
-          by_key = e;
-          by_number = subst (λ (z : StateNo). find (has_number state_number z.0) xs ≡ Some u) q m;
-          number = ap (λ (z : StateNo). z.0) q;
-        }
+    go : (o : Option State) → find (has_number state_number n) xs ≡ o → IsHeldAs n xs
+    go None e =
+        let z : false ≡ true = ap is_some (sym e) ∙ any-found (has_number state_number n) xs ∙ h in
+        absurd (cc z)
+    go (Some u) e = record {
+      state = u;
+      found = e;
+      number = same_number n u.number (found-passes (has_number state_number n) u xs e);
+    }
 
 -- ---- the state of the record that was found
 
@@ -99,22 +65,30 @@ held-as k n xs r h = go (find (λ (x : State). same_key x.key k) xs) refl h
 pub record IsKeptAs (n : ℕ) (kept : State) (rs : List Placed) : Type 0 where
   pub state : State
   pub found : find (has_number state_number n) (states_of rs) ≡ Some state
-  pub same : state ≡ kept
+  pub same : rekeyed kept state ≡ kept
   pub number : state.number ≡ n
 
-pub kept-as : (f : Found) (kept : State) (rs : List Placed) → IsRising (state_numbers (states_of rs)) → is_reached rs f ≡ true → IsRecordAt f.place kept rs → IsKeptAs f.number.0 kept rs
+pub kept-as : (f : Found) (kept : State) (rs : List Placed) → IsRising (state_numbers (states_of rs)) → is_reached rs f ≡ true → IsKeptAt f.place kept rs → IsKeptAs f.number.0 kept rs
 kept-as f kept rs r a is =
     let i = at-place f.number.0 f.place rs (rising-records rs r) a in
     record {
       state = i.record_of.state;
       found = find-part (λ (p : Placed). p.state) (has_number state_number f.number.0) rs ∙ ap (option_map (λ (p : Placed). p.state)) i.found;
-      same = found-all (λ (p : Placed). p.place ≡ f.place → p.state ≡ kept) (has_number record_number f.number.0) i.record_of rs is i.found i.place;
+      same = found-all (λ (p : Placed). p.place ≡ f.place → rekeyed kept p.state ≡ kept) (has_number record_number f.number.0) i.record_of rs is i.found i.place;
       number = same_number f.number.0 i.record_of.state.number (found-passes (has_number record_number f.number.0) i.record_of rs i.found);
     }
 
 -- a record at a place is that of the number, and is renewed as by a packet
 abbrev pub IsStepped : ℕ → ℕ → PacketView → ℕ → StatePhase → ℕ → Placed → Type 0
 IsStepped n at p now phase last x = x.place ≡ at → (x.state.number ≡ n) × (renewed phase last x.state ≡ state_after_packet p now x.state)
+
+-- what a packet does to what is kept it does to the state, whose keys it leaves
+pub steps-alike : (p : PacketView) (now : ℕ) (phase : StatePhase) (last : ℕ) (kept s : State) → rekeyed kept s ≡ kept → renewed phase last kept ≡ state_after_packet p now kept
+    → renewed phase last s ≡ state_after_packet p now s
+steps-alike p now phase last kept s e h =
+    let a : phase ≡ (state_after_packet p now s).phase = ap (λ (x : State). x.phase) h ∙ ap (λ (x : State). (state_after_packet p now x).phase) (sym e) in
+    let b : last ≡ (state_after_packet p now s).last = ap (λ (x : State). x.last) h ∙ ap (λ (x : State). (state_after_packet p now x).last) (sym e) in
+    λ i. record s { phase = a i; last = b i }
 
 stepped-apart : (n at : ℕ) (p : PacketView) (now : ℕ) (phase : StatePhase) (last : ℕ) (rs : List Placed) → Apart record_number n rs → AllByRecursion (IsStepped n at p now phase last) rs
     → map (renewed_at at phase last) rs ≡ rs

@@ -7,11 +7,12 @@ use Rattle.pfs_track.specs.Scores.{zero_score}
 use Rattle.pfs_track.specs.declared.scores.Score.{Score}
 use Rattle.pfs_store_contract.specs.Calls.{told_at, touch_of}
 use Rattle.pfs_store_contract.specs.Counts.{node_scope_of}
-use Rattle.pfs_store_contract.specs.Touching.{completes_at, connections_in, is_asking, is_taken, nodes_touched, numbered_state_after, score_in, state_after_packet}
+use Rattle.pfs_store_contract.specs.Touching.{completes_at, connections_in, is_asking, is_taken, nodes_touched, numbered_state_after, score_in}
 use Rattle.pfs_store_contract.specs.Worlds.{IsUpToNow, lists}
 use Rattle.pfs_store_contract.specs.declared.records.State.{State}
+use Rattle.pfs_store_records.specs.Aside.{rekeyed}
 use Rattle.pfs_store_records.specs.Changes.{HasNode, HasTally, IsFew, at_node, connections_at, met_by, score_at}
-use Rattle.pfs_store_records.specs.Records.{Placed, renewed, states_of}
+use Rattle.pfs_store_records.specs.Records.{Placed, states_of}
 use Rattle.pfs_store_records.specs.Tallies.{is_tally, nodes_of}
 use Rattle.pfs_store_index.specs.Holdings.{Holding, is_reached}
 use Rattle.pfs_store_index.specs.Ties.{IsCounted}
@@ -23,7 +24,7 @@ use Rattle.pfs_store_index.proofs.Leavings.{state_number}
 use Rattle.pfs_store_index.proofs.Meetings.{nodes-met, renewed_record, states-renewed}
 use Rattle.pfs_store_index.proofs.Reached.{reached-renewed, reached-stands}
 use Rattle.pfs_store_index.proofs.Removals.{all-found}
-use Rattle.pfs_store_index.proofs.Renewing.{IsKeptAs, IsStepped, counts-done, kept-as, stepped-record, told-connections, told-score}
+use Rattle.pfs_store_index.proofs.Renewing.{IsKeptAs, IsStepped, counts-done, kept-as, stepped-record, steps-alike, told-connections, told-score}
 use Rattle.pfs_store_index.proofs.Stands.{rising-records}
 use Rattle.pfs_store_index.proofs.Tying.{tied-met}
 use Rattle.pfs_store_index.proofs.indexes.Indexes.renew.Goals as goal
@@ -68,8 +69,8 @@ invariant_of-self g c =
     let k : IsKeptAs n kept rs = kept-as c.args.found kept rs c.numbers_rise.ensures reached c.record_at-kept.ensures.value in
     let s = k.state in
     let each : AllByRecursion (IsStepped n c.args.found.place p now c.stepped-step.result.phase c.stepped-step.result.last) rs =
-    all-weaker (λ (x : Placed). x.place ≡ c.args.found.place → x.state ≡ kept) (IsStepped n c.args.found.place p now c.stepped-step.result.phase c.stepped-step.result.last)
-    (λ x h q. (ap (λ (y : State). y.number) (h q ∙ sym k.same) ∙ k.number, ap (renewed c.stepped-step.result.phase c.stepped-step.result.last) (h q) ∙ c.stepped-step.ensures.state ∙ ap (state_after_packet p now) (sym (h q))))
+    all-weaker (λ (x : Placed). x.place ≡ c.args.found.place → rekeyed kept x.state ≡ kept) (IsStepped n c.args.found.place p now c.stepped-step.result.phase c.stepped-step.result.last)
+    (λ x h q. (ap (λ (y : State). y.number) (h q ∙ sym k.same) ∙ k.number, steps-alike p now c.stepped-step.result.phase c.stepped-step.result.last kept x.state (h q) c.stepped-step.ensures.state))
     rs c.record_at-kept.ensures.value in
     let w : c.renew_at.new.self ≡ map (renewed_record n p now) rs =
     c.renew_at.ensures.records ∙ stepped-record n c.args.found.place p now c.stepped-step.result.phase c.stepped-step.result.last rs (rising-records rs c.numbers_rise.ensures) reached each in
@@ -79,7 +80,7 @@ invariant_of-self g c =
     let m : c.meet-met.new.nodes ≡ map (at_node (node_scope_of conf s.rule.0) s.source (met_by (options_of conf s.rule.0).max_src_conn_rate now (completes_at p s))) c.self.inside.nodes =
     c.meet-met.ensures.nodes ∙ (λ j. map (at_node (node_scope_of conf (er j).0) (es j) (met_by (options_of conf (er j).0).max_src_conn_rate now (ed j))) c.self.inside.nodes) in
     rw (w, m)
-    (tied-met conf rs c.self.inside.keys c.self.inside.counts.items c.self.inside.nodes c.self.inside.filing n p now s c.self.invariant c.numbers_rise.ensures k.found (counts-done s p))
+    (tied-met conf rs c.self.inside.keys c.self.inside.insides c.self.inside.counts.items c.self.inside.nodes c.self.inside.filing n p now s c.self.invariant c.numbers_rise.ensures k.found (counts-done s p))
 
 pub returns-clause-states : goal.returns-clause-states
 returns-clause-states g c =
@@ -91,8 +92,8 @@ returns-clause-states g c =
     let reached = ap (λ (x : Holding). is_reached x.records c.args.found) c.self.view_is ∙ c.requires.reached in
     let k : IsKeptAs n kept rs = kept-as c.args.found kept rs c.numbers_rise.ensures reached c.record_at-kept.ensures.value in
     let each : AllByRecursion (IsStepped n c.args.found.place p now c.stepped-step.result.phase c.stepped-step.result.last) rs =
-    all-weaker (λ (x : Placed). x.place ≡ c.args.found.place → x.state ≡ kept) (IsStepped n c.args.found.place p now c.stepped-step.result.phase c.stepped-step.result.last)
-    (λ x h q. (ap (λ (y : State). y.number) (h q ∙ sym k.same) ∙ k.number, ap (renewed c.stepped-step.result.phase c.stepped-step.result.last) (h q) ∙ c.stepped-step.ensures.state ∙ ap (state_after_packet p now) (sym (h q))))
+    all-weaker (λ (x : Placed). x.place ≡ c.args.found.place → rekeyed kept x.state ≡ kept) (IsStepped n c.args.found.place p now c.stepped-step.result.phase c.stepped-step.result.last)
+    (λ x h q. (ap (λ (y : State). y.number) (h q ∙ sym k.same) ∙ k.number, steps-alike p now c.stepped-step.result.phase c.stepped-step.result.last kept x.state (h q) c.stepped-step.ensures.state))
     rs c.record_at-kept.ensures.value in
     let w : c.renew_at.new.self ≡ map (renewed_record n p now) rs =
     c.renew_at.ensures.records ∙ stepped-record n c.args.found.place p now c.stepped-step.result.phase c.stepped-step.result.last rs (rising-records rs c.numbers_rise.ensures) reached each in
@@ -170,8 +171,8 @@ returns-clause-reached g c =
     let reached = ap (λ (x : Holding). is_reached x.records c.args.found) c.self.view_is ∙ c.requires.reached in
     let k : IsKeptAs n kept rs = kept-as c.args.found kept rs c.numbers_rise.ensures reached c.record_at-kept.ensures.value in
     let each : AllByRecursion (IsStepped n c.args.found.place p now c.stepped-step.result.phase c.stepped-step.result.last) rs =
-    all-weaker (λ (x : Placed). x.place ≡ c.args.found.place → x.state ≡ kept) (IsStepped n c.args.found.place p now c.stepped-step.result.phase c.stepped-step.result.last)
-    (λ x h q. (ap (λ (y : State). y.number) (h q ∙ sym k.same) ∙ k.number, ap (renewed c.stepped-step.result.phase c.stepped-step.result.last) (h q) ∙ c.stepped-step.ensures.state ∙ ap (state_after_packet p now) (sym (h q))))
+    all-weaker (λ (x : Placed). x.place ≡ c.args.found.place → rekeyed kept x.state ≡ kept) (IsStepped n c.args.found.place p now c.stepped-step.result.phase c.stepped-step.result.last)
+    (λ x h q. (ap (λ (y : State). y.number) (h q ∙ sym k.same) ∙ k.number, steps-alike p now c.stepped-step.result.phase c.stepped-step.result.last kept x.state (h q) c.stepped-step.ensures.state))
     rs c.record_at-kept.ensures.value in
     let w : c.renew_at.new.self ≡ map (renewed_record n p now) rs =
     c.renew_at.ensures.records ∙ stepped-record n c.args.found.place p now c.stepped-step.result.phase c.stepped-step.result.last rs (rising-records rs c.numbers_rise.ensures) reached each in
