@@ -34,7 +34,7 @@ use Rattle.pfs_store_records.specs.Tallies.{is_tally, nodes_of}
 use Rattle.pfs_store_records.specs.declared.nodes.Tally.{Tally}
 use Rattle.pfs_store_index.specs.declared.indexes.Entry.{Entry}
 use Rattle.pfs_store_index.specs.Filed.{is_pair}
-use Rattle.pfs_store_index.specs.Ties.{HasRule, IsCounted, entry_of, has_key, key_in}
+use Rattle.pfs_store_index.specs.Ties.{HasRule, IsCounted, entry_of}
 use Rattle.pfs_store_records.specs.Changes.{HasTally, IsFew, IsScope, IsScored, IsScoped, at_node, is_at, tallies_with_state, joined_of, new_tally}
 use Rattle.pfs_store_records.proofs.OneNode.{of_node, scope_of-IsScope, scoped-at, tally-at}
 use Rattle.std.proofs.lemmas.Bool.{and_parts, and_from, and_right}

@@ -1,5 +1,5 @@
 -- The record that has a key inside: one whose keys are apart, or one that has the key on the wire too.
-use Rattle.std.proofs.Common.{◌≡◌, ◌∙◌, ◌<◌, ◌==◌, ℕ, Bool, true, false, cond, Option, Some, None, IsSome, List, [], ◌∷◌, length, map, option_map, refl, ap, sym, subst, unwrap_or, arith}
+use Rattle.std.proofs.Common.{◌≡◌, ◌∙◌, ◌<◌, ◌==◌, ℕ, Bool, true, false, cond, Option, Some, None, List, [], ◌∷◌, length, map, option_map, refl, ap, sym, unwrap_or, arith}
 use Rattle.std.specs.List.{find, IsDistinct, AllByRecursion}
 use Rattle.std.specs.Option.{option_and_then}
 use Rattle.std.proofs.lemmas.Bool.Decides.{nat_tests}

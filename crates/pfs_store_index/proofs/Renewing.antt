@@ -1,11 +1,9 @@
 -- The record of the state that was found, what a packet makes of it, and what is reported of its node.
-use Rattle.std.proofs.Common.{◌≡◌, ◌∙◌, ◌+◌, ◌<◌, ◌==◌, ◌||◌, ℕ, Bool, true, false, cond, if◌then◌else◌, Option, Some, None, is_some, unwrap_or, List, [], ◌∷◌, map, option_map, refl, ap, sym, subst, arith}
+use Rattle.std.proofs.Common.{◌≡◌, ◌∙◌, ◌+◌, ◌==◌, ◌||◌, ℕ, Bool, true, false, cond, Option, Some, None, is_some, unwrap_or, List, [], ◌∷◌, map, option_map, refl, ap, sym, subst, arith}
 use Rattle.std.specs.List.{find, list_any, AllByRecursion}
 use Rattle.std.proofs.lemmas.Bool.Decides.{nat_tests}
 use Rattle.pfs_addr_values.specs.Packets.{PacketView}
-use Rattle.pfs_addr_values.specs.Sameness.{same_key}
 use Rattle.pfs_addr_values.specs.declared.addresses.Addr.{Addr}
-use Rattle.pfs_addr_values.specs.declared.packets.FlowKey.{FlowKey}
 use Rattle.pfs_conf_values.specs.Configs.{Conf}
 use Rattle.pfs_track.specs.Scores.{zero_score}
 use Rattle.pfs_track.proofs.DoneLaws.{done-after, done-once}
@@ -13,14 +11,12 @@ use Rattle.pfs_track.specs.StatePhases.{completes, is_done}
 use Rattle.pfs_track.specs.declared.scores.Score.{Score}
 use Rattle.pfs_track.specs.declared.state_phases.StatePhase.{StatePhase}
 use Rattle.pfs_store_contract.specs.declared.records.Found.{Found}
-use Rattle.pfs_store_contract.specs.Calls.{state_number as number_of}
 use Rattle.pfs_store_contract.specs.Counts.{is_node, node_connections}
 use Rattle.pfs_store_contract.specs.Purging.{state_numbers}
-use Rattle.pfs_store_contract.specs.Touching.{connections_in, goes_forward, numbered_state_after, score_in, state_after_packet}
+use Rattle.pfs_store_contract.specs.Touching.{connections_in, goes_forward, score_in, state_after_packet}
 use Rattle.pfs_store_contract.specs.declared.records.Node.{Node}
 use Rattle.pfs_store_contract.specs.declared.records.NodeScope.{NodeScope}
 use Rattle.pfs_store_contract.specs.declared.records.State.{State}
-use Rattle.pfs_store_contract.specs.declared.records.StateNo.{StateNo}
 use Rattle.pfs_store_records.specs.Aside.{IsKeptAt, rekeyed}
 use Rattle.pfs_store_records.specs.Records.{IsRising, Placed, is_placed, placed_at, renewed, renewed_at, states_of}
 use Rattle.pfs_store_records.specs.Tallies.{is_tally, nodes_of}
@@ -31,11 +27,10 @@ use Rattle.pfs_store_records.specs.Changes.{connections_at, score_at}
 use Rattle.pfs_store_index.proofs.Leavings.{record_number, state_number}
 use Rattle.pfs_store_index.proofs.Meetings.{CountsDone, renew-apart, renewed_record}
 use Rattle.pfs_store_records.proofs.OneNode.{scope_is, source_is}
-use Rattle.pfs_store_records.proofs.Searches.{any-also, any-found, find-part, found-all, found-passes}
+use Rattle.pfs_store_records.proofs.Searches.{any-found, find-part, found-all, found-passes}
 use Rattle.pfs_store_index.proofs.Reached.{at-place, none-placed}
 use Rattle.pfs_store_index.proofs.Stands.{rising-records}
-use Rattle.std.proofs.lemmas.Bool.{and_from}
-use Rattle.pfs_store_records.proofs.Rising.{Apart, IsRisingBy, has_number, head-above, head-apart, rest-rising, same_number}
+use Rattle.pfs_store_records.proofs.Rising.{Apart, IsRisingBy, has_number, head-apart, rest-rising, same_number}
 
 same_self : (n : ℕ) → (n == n) ≡ true
 same_self n = grind (arith, nat_tests)

@@ -1,8 +1,6 @@
 -- The records of states as the states themselves, by number and by key.
 use Rattle.std.proofs.Common.{◌≡◌, ◌∙◌, ◌<◌, ◌≤◌, ◌==◌, ℕ, Bool, true, false, if◌then◌else◌, not, Option, Some, None, List, [], ◌∷◌, length, map, filter, option_map, refl, ap, sym, subst, ◌⊎◌, inl, inr, IsSome}
 use Rattle.std.specs.List.{find}
-use Rattle.pfs_addr_values.specs.Sameness.{same_key}
-use Rattle.pfs_addr_values.specs.declared.packets.FlowKey.{FlowKey}
 use Rattle.std.specs.Option.{option_and_then}
 use Rattle.std.proofs.lemmas.Bool.{cases_lt}
 use Rattle.std.proofs.lemmas.Option.{slice_get_past}

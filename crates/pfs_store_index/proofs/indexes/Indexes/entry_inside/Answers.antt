@@ -1,10 +1,9 @@
 -- Answers of Indexes::entry_inside: where the second index has the key, its state is the one; else the first has it, if its keys are not apart.
-use Rattle.std.proofs.Common.{◌≡◌, ◌∙◌, ◌==◌, None, Option, Some, ap, option_map, sym}
+use Rattle.std.proofs.Common.{◌≡◌, ◌∙◌, ◌==◌, None, Some, ap, option_map, sym}
 use Rattle.std.specs.List.{find}
 use Rattle.std.specs.Map.{lookup}
 use Rattle.std.specs.Option.{option_and_then}
 use Rattle.pfs_addr_values.specs.Sameness.{same_key}
-use Rattle.pfs_addr_values.specs.declared.packets.FlowKey.{FlowKey}
 use Rattle.pfs_addr_values.specs.declared.packets.Dir.TheVariants.{In}
 use Rattle.pfs_store_contract.specs.Calls.{onward_key}
 use Rattle.pfs_store_contract.specs.declared.records.State.{State}

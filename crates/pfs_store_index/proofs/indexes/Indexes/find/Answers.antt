@@ -3,7 +3,6 @@ use Rattle.std.proofs.Common.{◌≡◌, ◌∙◌, true, ap, option_map, subst}
 use Rattle.std.specs.List.{find}
 use Rattle.pfs_addr_values.specs.Sameness.{same_key}
 use Rattle.pfs_store_contract.specs.Calls.{state_number, state_rule}
-use Rattle.pfs_store_contract.specs.declared.records.Found.{Found}
 use Rattle.pfs_store_contract.specs.declared.records.State.{State}
 use Rattle.pfs_store_index.specs.Holdings.{Holding, is_reached}
 use Rattle.pfs_store_index.specs.Ties.{found_of, has_key}

@@ -4,7 +4,6 @@ use Rattle.std.specs.List.{find}
 use Rattle.pfs_addr_values.specs.Sameness.{same_key}
 use Rattle.pfs_store_contract.specs.Calls.{state_number, state_rule}
 use Rattle.pfs_store_contract.specs.Worlds.{inner_key}
-use Rattle.pfs_store_contract.specs.declared.records.Found.{Found}
 use Rattle.pfs_store_contract.specs.declared.records.State.{State}
 use Rattle.pfs_store_index.specs.Holdings.{Holding, is_reached}
 use Rattle.pfs_store_index.specs.Ties.{entry_of, found_of, has_inside}

@@ -1,5 +1,5 @@
 -- Answers of Indexes::record: there is a record at the place, and it is that of the number.
-use Rattle.std.proofs.Common.{◌≡◌, ◌∙◌, ◌==◌, Some, ap, option_map, sym}
+use Rattle.std.proofs.Common.{◌∙◌, ◌==◌, Some, ap, option_map, sym}
 use Rattle.std.specs.List.{find}
 use Rattle.pfs_store_contract.specs.declared.records.State.{State}
 use Rattle.pfs_store_records.specs.Aside.{rekeyed}

@@ -1,8 +1,8 @@
 -- Answers of Indexes::renew: the state that was found is renewed, what is reported of it, and all stays tied.
-use Rattle.std.proofs.Common.{◌≡◌, ◌∙◌, ◌≤◌, ◌==◌, ◌||◌, if◌then◌else◌, Option, Some, List, [], length, map, option_map, ap, sym, subst, arith}
+use Rattle.std.proofs.Common.{◌≡◌, ◌∙◌, ◌≤◌, ◌==◌, ◌||◌, if◌then◌else◌, Some, List, [], length, map, option_map, ap, sym, subst, arith}
 use Rattle.std.specs.List.{AllByRecursion, find, list_any}
 use Rattle.pfs_addr_values.specs.Packets.{run_limit}
-use Rattle.pfs_conf_values.specs.Configs.{Conf, options_of}
+use Rattle.pfs_conf_values.specs.Configs.{options_of}
 use Rattle.pfs_track.specs.Scores.{zero_score}
 use Rattle.pfs_track.specs.declared.scores.Score.{Score}
 use Rattle.pfs_store_contract.specs.Calls.{told_at, touch_of}
@@ -11,7 +11,7 @@ use Rattle.pfs_store_contract.specs.Touching.{completes_at, connections_in, is_a
 use Rattle.pfs_store_contract.specs.Worlds.{IsUpToNow, lists}
 use Rattle.pfs_store_contract.specs.declared.records.State.{State}
 use Rattle.pfs_store_records.specs.Aside.{rekeyed}
-use Rattle.pfs_store_records.specs.Changes.{HasNode, HasTally, IsFew, at_node, connections_at, met_by, score_at}
+use Rattle.pfs_store_records.specs.Changes.{HasTally, IsFew, at_node, connections_at, met_by, score_at}
 use Rattle.pfs_store_records.specs.Records.{Placed, states_of}
 use Rattle.pfs_store_records.specs.Tallies.{is_tally, nodes_of}
 use Rattle.pfs_store_index.specs.Holdings.{Holding, is_reached}
