@@ -19,7 +19,7 @@ use Rattle.pfs_store_contract.specs.Leaving.{sent_on_side}
 use Rattle.pfs_store_contract.specs.Purging.{state_numbers}
 use Rattle.pfs_store_contract.specs.Worlds.{holds_number}
 use Rattle.pfs_store_contract.specs.declared.records.State.{State}
-use Rattle.pfs_store_records.specs.Aside.{AreHeld, HasKeys, IsKeptAt, joined, keys_apart, lying, rekeyed, with_keys}
+use Rattle.pfs_store_records.specs.Aside.{AreHeld, HasKeys, IsKeptAt, whole_record, keys_apart, lying, rekeyed, with_keys}
 use Rattle.pfs_store_records.specs.Records.{IsAbove, IsRecordAt, Placed, between, leaves_number, placed_at, renewed, renewed_at, stands_at, states_of}
 use Rattle.pfs_store_records.specs.Sourced.{bare}
 use Rattle.pfs_store_records.specs.Walks.{IsLeaver, IsNext, IsWalk, StayUntil, end_of, state_has_expired}
@@ -37,7 +37,7 @@ number-keyless None s = refl
 number-keyless (Some k) s = refl
 
 abbrev pub all_of : List (ℕ × Keys) → List Placed → List State
-all_of aside ps = states_of (map (joined aside) ps)
+all_of aside ps = states_of (map (whole_record aside) ps)
 
 pub map-joined : {X : Type 0} (f : State → X) → IsKeyless f → (aside : List (ℕ × Keys)) (ps : List Placed) → map f (all_of aside ps) ≡ map f (states_of ps)
 map-joined f k aside [] = refl
@@ -73,7 +73,7 @@ pub all-joined : (P : State → Type 0) → ((o : Option Keys) (s : State) → P
 all-joined P k aside [] h = tt
 all-joined P k aside (p ∷ ps) (h, hs) = (k (lying aside p.state.number) p.state h, all-joined P k aside ps hs)
 
-pub length-joined : (aside : List (ℕ × Keys)) (ps : List Placed) → length (map (joined aside) ps) ≡ length ps
+pub length-joined : (aside : List (ℕ × Keys)) (ps : List Placed) → length (map (whole_record aside) ps) ≡ length ps
 length-joined aside [] = refl
 length-joined aside (p ∷ ps) = omega (arith, length-joined aside ps)
 
@@ -101,15 +101,15 @@ find-joined n aside (p ∷ ps) = go (find-joined n aside ps) (p.state.number == 
 pub numbered : (n : ℕ) (s : State) (xs : List State) → find (λ (x : State). x.number == n) xs ≡ Some s → s.number ≡ n
 numbered n s xs f = same_number s.number n (found-passes (λ (x : State). x.number == n) s xs f)
 
-pub stands-joined : (place : ℕ) (aside : List (ℕ × Keys)) (ps : List Placed) → list_any (stands_at place) (map (joined aside) ps) ≡ list_any (stands_at place) ps
+pub stands-joined : (place : ℕ) (aside : List (ℕ × Keys)) (ps : List Placed) → list_any (stands_at place) (map (whole_record aside) ps) ≡ list_any (stands_at place) ps
 stands-joined place aside [] = refl
 stands-joined place aside (p ∷ ps) = ap (λ b. (p.place == place) || b) (stands-joined place aside ps)
 
-pub record-joined : (place : ℕ) (s : State) (aside : List (ℕ × Keys)) (ps : List Placed) → IsRecordAt place s ps → IsRecordAt place (with_keys (lying aside s.number) s) (map (joined aside) ps)
+pub record-joined : (place : ℕ) (s : State) (aside : List (ℕ × Keys)) (ps : List Placed) → IsRecordAt place s ps → IsRecordAt place (with_keys (lying aside s.number) s) (map (whole_record aside) ps)
 record-joined place s aside [] h = tt
 record-joined place s aside (p ∷ ps) (h, hs) = ((λ q. ap (λ (x : State). with_keys (lying aside x.number) x) (h q)), record-joined place s aside ps hs)
 
-pub kept-joined : (place : ℕ) (kept : State) (aside : List (ℕ × Keys)) (ps : List Placed) → IsRecordAt place kept ps → IsKeptAt place kept (map (joined aside) ps)
+pub kept-joined : (place : ℕ) (kept : State) (aside : List (ℕ × Keys)) (ps : List Placed) → IsRecordAt place kept ps → IsKeptAt place kept (map (whole_record aside) ps)
 kept-joined place kept aside [] h = tt
 kept-joined place kept aside (p ∷ ps) (h, hs) = ((λ q. go (lying aside p.state.number) ∙ ap (rekeyed kept) (h q)), kept-joined place kept aside ps hs)
   where
@@ -148,7 +148,7 @@ onward-some n keys aside ps h e =
 -- ---- a state is renewed
 
 pub renew-joined : (place : ℕ) (phase : StatePhase) (last : ℕ) (aside : List (ℕ × Keys)) (ps : List Placed)
-    → map (joined aside) (map (renewed_at place phase last) ps) ≡ map (renewed_at place phase last) (map (joined aside) ps)
+    → map (whole_record aside) (map (renewed_at place phase last) ps) ≡ map (renewed_at place phase last) (map (whole_record aside) ps)
 renew-joined place phase last aside [] = refl
 renew-joined place phase last aside (p ∷ ps) = λ i. on (p.place == place) i ∷ renew-joined place phase last aside ps i
   where
@@ -156,7 +156,7 @@ renew-joined place phase last aside (p ∷ ps) = λ i. on (p.place == place) i �
     go None = refl
     go (Some k) = refl
 
-    on : (b : Bool) → joined aside (if b then placed_at p.place (renewed phase last p.state) else p) ≡ (if b then placed_at p.place (renewed phase last (joined aside p).state) else joined aside p)
+    on : (b : Bool) → whole_record aside (if b then placed_at p.place (renewed phase last p.state) else p) ≡ (if b then placed_at p.place (renewed phase last (whole_record aside p).state) else whole_record aside p)
     on true = go (lying aside p.state.number)
     on false = refl
 
@@ -193,11 +193,11 @@ none-aside n aside xs h a = go (lying aside n) refl
         let z : false ≡ true = sym (absent-above n xs a) ∙ h n (rw e refl) in
         absurd (cc z)
 
-pub same-joined : (aside after : List (ℕ × Keys)) (ps : List Placed) → ((n : ℕ) → lying after n ≡ lying aside n) → map (joined after) ps ≡ map (joined aside) ps
+pub same-joined : (aside after : List (ℕ × Keys)) (ps : List Placed) → ((n : ℕ) → lying after n ≡ lying aside n) → map (whole_record after) ps ≡ map (whole_record aside) ps
 same-joined aside after [] h = refl
 same-joined aside after (p ∷ ps) h = λ i. placed_at p.place (with_keys (h p.state.number i) p.state) ∷ same-joined aside after ps h i
 
-above-joined : (n : ℕ) (keys : Option Keys) (aside after : List (ℕ × Keys)) (ps : List Placed) → HasKeys n keys aside after → IsAbove n (state_numbers (states_of ps)) → map (joined after) ps ≡ map (joined aside) ps
+above-joined : (n : ℕ) (keys : Option Keys) (aside after : List (ℕ × Keys)) (ps : List Placed) → HasKeys n keys aside after → IsAbove n (state_numbers (states_of ps)) → map (whole_record after) ps ≡ map (whole_record aside) ps
 above-joined n keys aside after [] h a = refl
 above-joined n keys aside after (p ∷ ps) h (a, more) = λ i. placed_at p.place (with_keys (e i) p.state) ∷ above-joined n keys aside after ps h more i
   where
@@ -219,7 +219,7 @@ whole s = go s.inner refl
     go (Some k) e = λ i. record s { inner = sym e i }
 
 pub push-joined : (place : ℕ) (s : State) (aside after : List (ℕ × Keys)) (ps : List Placed) → HasKeys s.number (keys_apart s) aside after → IsAbove s.number (state_numbers (states_of ps))
-    → map (joined after) (ps ++ placed_at place (bare s) ∷ []) ≡ map (joined aside) ps ++ placed_at place s ∷ []
+    → map (whole_record after) (ps ++ placed_at place (bare s) ∷ []) ≡ map (whole_record aside) ps ++ placed_at place s ∷ []
 push-joined place s aside after [] h a =
     ap (λ (x : State). placed_at place x ∷ []) (ap (λ o. with_keys o (bare s)) (h s.number ∙ ap (λ b. cond b (keys_apart s) (lying aside s.number)) (at_self s.number s.number refl)) ∙ whole s)
 push-joined place s aside after (p ∷ ps) h (a, more) = λ i. placed_at p.place (with_keys (e i) p.state) ∷ push-joined place s aside after ps h more i
@@ -264,12 +264,12 @@ undone n keys aside between after e h k m = go (is_at (nat_cmp n) m) refl
 
 -- ---- a state leaves
 
-pub filter-joined : (n : ℕ) (aside after : List (ℕ × Keys)) (ps : List Placed) → HasKeys n None aside after → map (joined after) (filter (leaves_number n) ps) ≡ filter (leaves_number n) (map (joined aside) ps)
+pub filter-joined : (n : ℕ) (aside after : List (ℕ × Keys)) (ps : List Placed) → HasKeys n None aside after → map (whole_record after) (filter (leaves_number n) ps) ≡ filter (leaves_number n) (map (whole_record aside) ps)
 filter-joined n aside after [] h = refl
 filter-joined n aside after (p ∷ ps) h = go (filter-joined n aside after ps h) (p.state.number == n) refl
   where
-    go : map (joined after) (filter (leaves_number n) ps) ≡ filter (leaves_number n) (map (joined aside) ps) → (b : Bool) → (p.state.number == n) ≡ b
-        → map (joined after) (filter (leaves_number n) (p ∷ ps)) ≡ filter (leaves_number n) (map (joined aside) (p ∷ ps))
+    go : map (whole_record after) (filter (leaves_number n) ps) ≡ filter (leaves_number n) (map (whole_record aside) ps) → (b : Bool) → (p.state.number == n) ≡ b
+        → map (whole_record after) (filter (leaves_number n) (p ∷ ps)) ≡ filter (leaves_number n) (map (whole_record aside) (p ∷ ps))
     go more true t =
         let k : ((with_keys (lying aside p.state.number) p.state).number == n) ≡ true = ap (λ m. m == n) (number-keyless (lying aside p.state.number) p.state) ∙ t in
         rw (k, t) more

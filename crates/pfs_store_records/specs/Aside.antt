@@ -28,8 +28,8 @@ with_keys None s = record s { inner = None }
 with_keys (Some keys) s = record s { key = keys.wire; inner = Some keys.inner }
 
 -- each record, with the keys that lie aside for its number
-abbrev pub joined : List (ℕ × Keys) → Placed → Placed
-joined aside p = placed_at p.place (with_keys (lying aside p.state.number) p.state)
+abbrev pub whole_record : List (ℕ × Keys) → Placed → Placed
+whole_record aside p = placed_at p.place (with_keys (lying aside p.state.number) p.state)
 
 -- nothing lies aside but for states that are held
 abbrev pub AreHeld : List (ℕ × Keys) → List State → Type 0

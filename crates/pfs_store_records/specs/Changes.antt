@@ -46,12 +46,12 @@ abbrev pub IsScored : Tally → Type 0
 IsScored t = t.node.score.value ≤ 4294968000
 
 -- where a rule tracks sources, this source has a node
-abbrev pub HasNode : Conf → List Tally → RuleNo → Addr → Type 0
-HasNode conf tallies rule source = (scope : NodeScope) → node_scope_of conf rule.0 ≡ Some scope → list_any (is_tally scope source) tallies ≡ true
+abbrev pub HasTallyFor : Conf → List Tally → RuleNo → Addr → Type 0
+HasTallyFor conf tallies rule source = (scope : NodeScope) → node_scope_of conf rule.0 ≡ Some scope → list_any (is_tally scope source) tallies ≡ true
 
 -- a state of a rule that tracks sources has a node
 abbrev pub HasTally : Conf → List Tally → State → Type 0
-HasTally conf tallies s = HasNode conf tallies s.rule s.source
+HasTally conf tallies s = HasTallyFor conf tallies s.rule s.source
 
 -- ---- a state leaves
 

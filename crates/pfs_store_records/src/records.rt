@@ -34,12 +34,12 @@ pub struct Records {
 
 impl Model for Records {
     ghost use Rattle.std.specs.Prelude.{List, map};
-    ghost use Rattle.pfs_store_records.specs.Aside.{AreHeld, joined};
+    ghost use Rattle.pfs_store_records.specs.Aside.{AreHeld, whole_record};
     ghost use Rattle.pfs_store_records.specs.Records.{Placed, states_of};
 
     ghost Value = { List Placed };
 
-    ghost view = { λ r. map (joined r.aside) r.packed };
+    ghost view = { λ r. map (whole_record r.aside) r.packed };
 
     ghost invariant = { λ r. AreHeld r.aside (states_of r.packed) };
 }

@@ -10,7 +10,7 @@ ghost use Rattle.pfs_store_contract.specs.Purging.{node_numbers};
 ghost use Rattle.pfs_store_contract.specs.Worlds.{IsUpToNow, lists};
 ghost use Rattle.pfs_store_records.specs.Records.{IsAbove};
 ghost use Rattle.pfs_store_records.specs.Tallies.{is_tally, nodes_of};
-ghost use Rattle.pfs_store_records.specs.Changes.{HasNode, IsFew, IsScored, at_node, connections_at, tallies_with_state, left_of, met_by, score_at};
+ghost use Rattle.pfs_store_records.specs.Changes.{HasTallyFor, IsFew, IsScored, at_node, connections_at, tallies_with_state, left_of, met_by, score_at};
 
 use crate::changes::Change;
 use crate::nodes::{Nodes, Tally};
@@ -109,7 +109,7 @@ pub fn meet<S: BuildHasher>(
     asked: bool,
     now: u64,
 ) -> Met
-    requires has { HasNode config.now nodes.old rule source }
+    requires has { HasTallyFor config.now nodes.old rule source }
     requires few { AllByRecursion IsFew nodes.old }
     requires scored { AllByRecursion IsScored nodes.old }
     requires order { IsUpToNow now (lists [] (nodes_of nodes.old) [] [] 0) }

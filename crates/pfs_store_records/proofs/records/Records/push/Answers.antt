@@ -1,7 +1,7 @@
 -- Answers of Records::push: the keys of a state lie aside before its record is there, and where it is refused no more.
 use Rattle.std.proofs.Common.{◌≡◌, ◌∙◌, ◌++◌, ◌∷◌, [], List, None, ap, map, subst, sym}
 use Rattle.pfs_store_contract.specs.Purging.{state_numbers}
-use Rattle.pfs_store_records.specs.Aside.{AreHeld, joined, keys_apart, lying}
+use Rattle.pfs_store_records.specs.Aside.{AreHeld, whole_record, keys_apart, lying}
 use Rattle.pfs_store_records.specs.Records.{IsAbove, IsRising, Placed, placed_at, states_of}
 use Rattle.pfs_store_records.specs.Sourced.{bare}
 use Rattle.pfs_store_records.proofs.Joining.{held-pushed-aside, none-aside, numbers-joined, push-joined, same-joined, undone}
@@ -25,7 +25,7 @@ pub returns-in-Ok-clause-records : goal.returns-in-Ok-clause-records
 returns-in-Ok-clause-records c =
     let above : IsAbove c.args.state.now.number (state_numbers (states_of c.self.inside.packed)) =
     subst (IsAbove c.args.state.now.number) (ap (λ (ps : List Placed). state_numbers (states_of ps)) (sym c.self.view_is) ∙ numbers-joined c.self.inside.aside c.self.inside.packed) c.requires.above in
-    ap (map (joined c.insert.new.self)) c.in-Ok.ensures.records
+    ap (map (whole_record c.insert.new.self)) c.in-Ok.ensures.records
     ∙ push-joined c.in-Ok.place c.args.state.now c.self.inside.aside c.insert.new.self c.self.inside.packed c.in_ok-insert.ensures.ok above
     ∙ ap (λ ps. ps ++ placed_at c.in-Ok.place c.args.state.now ∷ []) c.self.view_is
 
@@ -40,7 +40,7 @@ returns-in-Err-clause-err c =
     let above : IsAbove c.args.state.now.number (state_numbers (states_of c.self.inside.packed)) =
     subst (IsAbove c.args.state.now.number) (ap (λ (ps : List Placed). state_numbers (states_of ps)) (sym c.self.view_is) ∙ numbers-joined c.self.inside.aside c.self.inside.packed) c.requires.above in
     let absent = none-aside c.args.state.now.number c.self.inside.aside (states_of c.self.inside.packed) c.self.invariant above in
-    ap (map (joined c.remove.new.self)) c.in-Err.ensures.err
+    ap (map (whole_record c.remove.new.self)) c.in-Err.ensures.err
     ∙ same-joined c.self.inside.aside c.remove.new.self c.self.inside.packed
     (undone c.args.state.now.number (keys_apart c.args.state.now) c.self.inside.aside c.insert.new.self c.remove.new.self absent c.in_ok-insert.ensures.ok c.remove.ensures)
     ∙ c.self.view_is

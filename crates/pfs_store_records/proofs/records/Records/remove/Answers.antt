@@ -2,7 +2,7 @@
 use Rattle.std.proofs.Common.{◌∙◌, List, ap, filter, map, subst, sym}
 use Rattle.pfs_store_contract.specs.Purging.{state_numbers}
 use Rattle.pfs_store_contract.specs.Worlds.{holds_number}
-use Rattle.pfs_store_records.specs.Aside.{AreHeld, joined}
+use Rattle.pfs_store_records.specs.Aside.{AreHeld, whole_record}
 use Rattle.pfs_store_records.specs.Records.{IsRising, Placed, leaves_number, states_of}
 use Rattle.pfs_store_records.proofs.Joining.{filter-joined, held-removed-aside, holds-joined, numbers-joined}
 use Rattle.pfs_store_records.proofs.RecordLaws.{states-filter}
@@ -18,7 +18,7 @@ invariant_of-self c =
 
 pub returns-clause-records : goal.returns-clause-records
 returns-clause-records c =
-    ap (map (joined c.remove-2.new.self)) c.remove.ensures.records ∙ filter-joined c.args.number c.self.inside.aside c.remove-2.new.self c.self.inside.packed c.remove-2.ensures
+    ap (map (whole_record c.remove-2.new.self)) c.remove.ensures.records ∙ filter-joined c.args.number c.self.inside.aside c.remove-2.new.self c.self.inside.packed c.remove-2.ensures
     ∙ ap (filter (leaves_number c.args.number)) c.self.view_is
 
 pub returns-clause-states : goal.returns-clause-states

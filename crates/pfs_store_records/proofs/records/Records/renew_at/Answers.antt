@@ -1,7 +1,7 @@
 -- Answers of Records::renew_at: the keys stay where a state is renewed.
 use Rattle.std.proofs.Common.{◌∙◌, List, ap, map, sym}
 use Rattle.std.specs.List.{list_any}
-use Rattle.pfs_store_records.specs.Aside.{joined}
+use Rattle.pfs_store_records.specs.Aside.{whole_record}
 use Rattle.pfs_store_records.specs.Records.{Placed, renewed_at, stands_at, states_of}
 use Rattle.pfs_store_records.proofs.Joining.{held-numbers, numbers-renewed-at, renew-joined, stands-joined}
 use Rattle.pfs_store_records.proofs.records.Records.renew_at.Goals as goal
@@ -19,6 +19,6 @@ invariant_of-self c =
 
 pub returns : goal.returns
 returns c = record {
-  records = ap (map (joined c.self.inside.aside)) c.renew_at.ensures.records ∙ renew-joined c.args.place c.args.phase c.args.last c.self.inside.aside c.self.inside.packed
+  records = ap (map (whole_record c.self.inside.aside)) c.renew_at.ensures.records ∙ renew-joined c.args.place c.args.phase c.args.last c.self.inside.aside c.self.inside.packed
       ∙ ap (map (renewed_at c.args.place c.args.phase c.args.last)) c.self.view_is;
 }
