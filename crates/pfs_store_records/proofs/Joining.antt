@@ -1,5 +1,5 @@
 -- Records with their keys, seen from the records as they are kept and from what lies aside.
-use Rattle.std.proofs.Common.{◌≡◌, ◌∙◌, ◌+◌, ◌≤◌, ◌<◌, ◌==◌, ◌&&◌, ◌||◌, ℕ, Bool, true, false, cond, if◌then◌else◌, not, Option, Some, None, IsSome, List, [], ◌∷◌, ◌++◌, drop, filter, length, map, option_map, refl, ap, sym, subst, take, arith}
+use Rattle.std.proofs.Common.{◌≡◌, ◌∙◌, ◌≤◌, ◌==◌, ◌||◌, ℕ, Bool, true, false, cond, if◌then◌else◌, Option, Some, None, IsSome, List, [], ◌∷◌, ◌++◌, drop, filter, length, map, option_map, refl, ap, sym, subst, take, arith}
 use Rattle.std.specs.Option.{option_and_then}
 use Rattle.std.specs.Prelude.{slice_get}
 use Rattle.std.specs.BTreeMap.{is_at}
@@ -22,7 +22,7 @@ use Rattle.pfs_store_contract.specs.declared.records.State.{State}
 use Rattle.pfs_store_records.specs.Aside.{AreHeld, HasKeys, IsKeptAt, whole_record, keys_apart, lying, rekeyed, with_keys}
 use Rattle.pfs_store_records.specs.Records.{IsAbove, IsRecordAt, Placed, between, leaves_number, placed_at, renewed, renewed_at, stands_at, states_of}
 use Rattle.pfs_store_records.specs.Sourced.{bare}
-use Rattle.pfs_store_records.specs.Walks.{IsLeaver, IsNext, IsWalk, StayUntil, end_of, state_has_expired}
+use Rattle.pfs_store_records.specs.Walks.{IsLeaver, IsWalk, StayUntil, end_of, state_has_expired}
 use Rattle.pfs_store_records.specs.declared.aside.Keys.{Keys}
 use Rattle.pfs_store_records.proofs.Searches.{found-passes}
 use Rattle.pfs_store_records.proofs.Ordered.{at_other, at_same, at_self}
@@ -343,3 +343,9 @@ pub until-joined : (moment : State → ℕ) → IsKeyless moment → (aside : Li
 until-joined moment keyless aside ps above last until h =
     all-joined (λ (s : State). between above last s.number ≡ true → until ≤ moment s)
     (λ k s h b. subst (λ m. until ≤ m) (sym (keyless k s)) (h (sym (ap (between above last) (number-keyless k s)) ∙ b))) aside ps h
+
+-- ---- nothing lies aside
+
+pub none-lies : (aside : List (ℕ × Keys)) → length aside ≡ 0 → aside ≡ []
+none-lies [] h = refl
+none-lies (k ∷ ks) h = absurd (omega (arith, h))

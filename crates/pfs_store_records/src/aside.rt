@@ -47,6 +47,9 @@ impl Aside {
     pub(crate) fn get(&self, number: u64) -> Option<Keys>
         ensures { result ≡ lying self.now number }
     {
+        if self.by_number.is_empty() {
+            return None;
+        }
         self.by_number.get(&number).copied()
     }
 
@@ -75,7 +78,9 @@ impl Aside {
     pub(crate) fn remove(&mut self, number: u64)
         ensures { HasKeys number None self.old self.new }
     {
-        self.by_number.remove(&number);
+        if !self.by_number.is_empty() {
+            self.by_number.remove(&number);
+        }
     }
 
     /// A state as its record keeps it gets its keys. It takes no memory.

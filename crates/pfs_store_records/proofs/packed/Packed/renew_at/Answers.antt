@@ -1,12 +1,9 @@
 -- Answers of Packed::renew_at: the state of the record at a place is renewed (`records`) and counted anew.
-use Rattle.std.proofs.Common.{◌≡◌, ◌∙◌, ◌+◌, Some, true, ap, arith, map, sym}
-use Rattle.std.specs.List.{list_any}
-use Rattle.slab.specs.Slab.{get, with_value}
+use Rattle.std.proofs.Common.{◌∙◌, ◌+◌, ap, arith, map, sym}
 use Rattle.pfs_track.specs.StatePhases.{is_half_open}
 use Rattle.pfs_track.specs.declared.state_phases.StatePhase.{StatePhase}
-use Rattle.pfs_store_contract.specs.declared.records.State.{State}
-use Rattle.pfs_store_records.specs.Keeping.{AreCounted, one_if, record_in, values_at}
-use Rattle.pfs_store_records.specs.Records.{renewed, renewed_at, stands_at}
+use Rattle.pfs_store_records.specs.Keeping.{one_if, record_in}
+use Rattle.pfs_store_records.specs.Records.{renewed, renewed_at}
 use Rattle.pfs_store_records.proofs.HalfOpens.{few-half}
 use Rattle.pfs_store_records.proofs.RecordLaws.{Stands, counted-put, counted-there, stands, stands-placed, view-renewed}
 use Rattle.pfs_store_records.proofs.packed.Packed.renew_at.Goals as goal

@@ -1,7 +1,7 @@
 -- Answers of Records::read_at: the state of the record at a place, with the keys that lie aside for it (`value`).
-use Rattle.std.proofs.Common.{◌∙◌, List, ap, subst, sym}
+use Rattle.std.proofs.Common.{◌∙◌, List, ap, sym}
 use Rattle.std.specs.List.{list_any}
-use Rattle.pfs_store_records.specs.Records.{IsRecordAt, Placed, stands_at}
+use Rattle.pfs_store_records.specs.Records.{Placed, stands_at}
 use Rattle.pfs_store_records.proofs.Joining.{record-joined, stands-joined}
 use Rattle.pfs_store_records.proofs.records.Records.read_at.Goals as goal
 
