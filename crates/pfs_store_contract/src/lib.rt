@@ -13,4 +13,4 @@ pub use records::{
     Found, Limit, Node, NodeScope, Slice, State, StateNo, Staying, Touched, Watched,
 };
 pub use store::Store;
-pub use two_keys::{inner_key, wire_key};
+pub use two_keys::{apart, inner_key, wire_key};

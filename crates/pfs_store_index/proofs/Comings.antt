@@ -1,12 +1,12 @@
 -- A state comes: each fact of the indexes and counts, of the states and nodes with it.
-use Rattle.std.proofs.Common.{◌≡◌, ◌≢◌, ◌∙◌, ◌+◌, ◌<◌, ◌≤◌, ◌==◌, ◌&&◌, ◌||◌, ℕ, Bool, true, false, cond, not, if◌then◌else◌, Option, Some, None, is_some, List, [], ◌∷◌, ◌++◌, length, map, filter, option_map, slice_index, slice_set, length-set, refl, ap, sym, subst, arith, Result, Ok, Err, OnOk, OnErr}
+use Rattle.std.proofs.Common.{◌≡◌, ◌≢◌, ◌∙◌, ◌+◌, ◌<◌, ◌≤◌, ◌==◌, ◌&&◌, ◌||◌, ℕ, Bool, true, false, cond, not, if◌then◌else◌, Option, Some, None, is_some, unwrap_or, List, [], ◌∷◌, ◌++◌, length, map, filter, option_map, slice_index, slice_set, length-set, refl, ap, sym, subst, arith, Result, Ok, Err, OnOk, OnErr}
 use Rattle.std.specs.List.{find, list_any, AllByRecursion, IsDistinct}
 use Rattle.std.proofs.lemmas.Bool.Decides.{nat_tests}
 use Rattle.std.proofs.lemmas.List.{get_or-set_other}
 use Rattle.std.proofs.lemmas.Grind.{get_or-set_at}
 use Rattle.std.proofs.lemmas.Map.Keys.{IsDistinct-head, IsDistinct-tail, IsDistinct-cons}
 use Rattle.pfs_addr_values.proofs.SameLaws.{same_addr_self, same_addr_true, same_key_true}
-use Rattle.pfs_addr_values.specs.Keys.{first_end, second_end}
+use Rattle.pfs_addr_values.specs.Keys.{first_end, key_of, second_end}
 use Rattle.pfs_addr_values.specs.Packets.{PacketView, run_limit}
 use Rattle.pfs_addr_values.specs.Sameness.{same_addr, same_key}
 use Rattle.pfs_addr_values.specs.declared.addresses.Addr.{Addr}
@@ -19,10 +19,12 @@ use Rattle.pfs_conf_values.specs.Configs.{Conf, scope_of, tracks_fully}
 use Rattle.pfs_conf_values.specs.declared.actions.Scope.{Scope}
 use Rattle.pfs_conf_values.specs.declared.actions.Scope.TheVariants as scope
 use Rattle.pfs_track.specs.StatePhases.{first_phase, is_done, proxied_phase}
-use Rattle.pfs_store_contract.specs.Admission.{is_answered, new_node, new_phase, nodes_with}
+use Rattle.pfs_store_contract.specs.Admission.{apart, inner_side, is_answered, new_node, new_phase, nodes_with, wire_side}
 use Rattle.pfs_store_contract.specs.Counts.{has_node, in_scope, is_connection, is_node, is_of_node, is_of_rule, is_of_source, node_connections, node_scope_under, node_scope_of, node_states, rule_states}
 use Rattle.pfs_conf_values.specs.Bounds.{is_global}
+use Rattle.pfs_store_contract.specs.Leaving.{sent_on_side}
 use Rattle.pfs_store_contract.specs.Plain.{AreCounts}
+use Rattle.pfs_store_contract.specs.Worlds.{inner_key}
 use Rattle.pfs_store_contract.specs.declared.records.NodeScope.{NodeScope}
 use Rattle.pfs_store_contract.specs.declared.records.NodeScope.TheVariants as node_scope
 use Rattle.pfs_store_contract.specs.declared.records.State.{State}
@@ -32,7 +34,7 @@ use Rattle.pfs_store_records.specs.Tallies.{is_tally, nodes_of}
 use Rattle.pfs_store_records.specs.declared.nodes.Tally.{Tally}
 use Rattle.pfs_store_index.specs.declared.indexes.Entry.{Entry}
 use Rattle.pfs_store_index.specs.Filed.{is_pair}
-use Rattle.pfs_store_index.specs.Ties.{HasRule, IsCounted, entry_of, has_key, key_in}
+use Rattle.pfs_store_index.specs.Ties.{HasRule, IsCounted, entry_of}
 use Rattle.pfs_store_records.specs.Changes.{HasTally, IsFew, IsScope, IsScored, IsScoped, at_node, is_at, tallies_with_state, joined_of, new_tally}
 use Rattle.pfs_store_records.proofs.OneNode.{of_node, scope_of-IsScope, scoped-at, tally-at}
 use Rattle.std.proofs.lemmas.Bool.{and_parts, and_from, and_right}
@@ -285,43 +287,44 @@ nodes-came (Some sc) s ts =
     go true = nodes-joined (Some sc) s.source ts
     go false = map-push (λ (t : Tally). t.node) (new_tally sc s) ts
 
--- ---- the index by key
+-- ---- the indexes by key
 
-find-push : (k : FlowKey) (s : Placed) (xs : List Placed) → find (has_key s.state.key) xs ≡ None → find (has_key k) (xs ++ s ∷ []) ≡ cond (same_key s.state.key k) (Some s) (find (has_key k) xs)
-find-push k s [] f = refl
-find-push k s (x ∷ xs) f = go (find-push k s xs) (same_key x.state.key k) refl (same_key s.state.key k) refl (same_key x.state.key s.state.key) refl
+find-push : (p : Placed → Bool) (s : Placed) (xs : List Placed) → (p s ≡ true → find p xs ≡ None) → find p (xs ++ s ∷ []) ≡ cond (p s) (Some s) (find p xs)
+find-push p s [] f = refl
+find-push p s (x ∷ xs) f = go (find-push p s xs) (p x) refl (p s) refl
   where
-    go : (find (has_key s.state.key) xs ≡ None → find (has_key k) (xs ++ s ∷ []) ≡ cond (same_key s.state.key k) (Some s) (find (has_key k) xs))
-        → (a : Bool) → same_key x.state.key k ≡ a → (b : Bool) → same_key s.state.key k ≡ b → (c : Bool) → same_key x.state.key s.state.key ≡ c
-        → find (has_key k) (x ∷ xs ++ s ∷ []) ≡ cond (same_key s.state.key k) (Some s) (find (has_key k) (x ∷ xs))
-    go m a t b u true v = let f' : Some x ≡ None = (rw v at f) in absurd (cc f')
-    go m true t true u false v =
-        let q = same_key_true s.state.key k u in
-        let t' : same_key x.state.key s.state.key ≡ true = ap (same_key x.state.key) q ∙ t in
-        absurd (cc (t', v))
-    go m true t false u false v = rw (t, u) refl
-    go m false t b u false v = rw t (m (rw v at f))
+    go : ((p s ≡ true → find p xs ≡ None) → find p (xs ++ s ∷ []) ≡ cond (p s) (Some s) (find p xs)) → (a : Bool) → p x ≡ a → (b : Bool) → p s ≡ b
+        → find p (x ∷ xs ++ s ∷ []) ≡ cond (p s) (Some s) (find p (x ∷ xs))
+    go m true t true u = let f' : Some x ≡ None = (rw t at f u) in absurd (cc f')
+    go m true t false u = rw (t, u) refl
+    go m false t b u = rw t (m (λ e. (rw t at f e)))
 
-pub distinct-came : (s : Placed) (xs : List Placed) → find (has_key s.state.key) xs ≡ None → IsDistinct same_key (map key_in xs) → IsDistinct same_key (map key_in (xs ++ s ∷ []))
-distinct-came s [] f d = IsDistinct-cons same_key s.state.key [] tt d
-distinct-came s (x ∷ xs) f d = go (distinct-came s xs) (IsDistinct-head same_key x.state.key (map key_in xs) d) (IsDistinct-tail same_key x.state.key (map key_in xs) d) (same_key x.state.key s.state.key) refl
+-- a new key is that of no other record
+module _ (key : Placed → FlowKey) where
+  -- where no record has the key of this one, none has a key that it has
+  pub none-alike : (k : FlowKey) (s : Placed) (xs : List Placed) → find (λ (p : Placed). same_key (key p) (key s)) xs ≡ None → same_key (key s) k ≡ true → find (λ (p : Placed). same_key (key p) k) xs ≡ None
+  none-alike k s xs f t = ap (λ j. find (λ (p : Placed). same_key (key p) j) xs) (sym (same_key_true (key s) k t)) ∙ f
+
+  pub distinct-came : (s : Placed) (xs : List Placed) → find (λ (p : Placed). same_key (key p) (key s)) xs ≡ None → IsDistinct same_key (map key xs) → IsDistinct same_key (map key (xs ++ s ∷ []))
+  distinct-came s [] f d = IsDistinct-cons same_key (key s) [] tt d
+  distinct-came s (x ∷ xs) f d = go (distinct-came s xs) (IsDistinct-head same_key (key x) (map key xs) d) (IsDistinct-tail same_key (key x) (map key xs) d) (same_key (key x) (key s)) refl
+    where
+      also : (ys : List Placed) → AllByRecursion (λ y. same_key (key x) y ≡ false) (map key ys) → same_key (key x) (key s) ≡ false
+          → AllByRecursion (λ y. same_key (key x) y ≡ false) (map key (ys ++ s ∷ []))
+      also [] h e = (e, tt)
+      also (y ∷ ys) (h, hs) e = (h, also ys hs e)
+
+      go : (find (λ (p : Placed). same_key (key p) (key s)) xs ≡ None → IsDistinct same_key (map key xs) → IsDistinct same_key (map key (xs ++ s ∷ [])))
+          → AllByRecursion (λ y. same_key (key x) y ≡ false) (map key xs) → IsDistinct same_key (map key xs)
+          → (b : Bool) → same_key (key x) (key s) ≡ b → IsDistinct same_key (map key (x ∷ xs ++ s ∷ []))
+      go m hd tl true i = let f' : Some x ≡ None = (rw i at f) in absurd (cc f')
+      go m hd tl false i = IsDistinct-cons same_key (key x) (map key (xs ++ s ∷ [])) (also xs hd i) (m (rw i at f) tl)
+
+pub entry-came : (p : Placed → Bool) (s : Placed) (xs : List Placed) (g g' : Option Entry) → (p s ≡ true → find p xs ≡ None) → g ≡ option_map entry_of (find p xs)
+    → g' ≡ cond (p s) (Some (entry_of s)) g → g' ≡ option_map entry_of (find p (xs ++ s ∷ []))
+entry-came p s xs g g' f e e' = rw (e', e, find-push p s xs f) (go (p s))
   where
-    also : (ys : List Placed) → AllByRecursion (λ y. same_key x.state.key y ≡ false) (map key_in ys) → same_key x.state.key s.state.key ≡ false
-        → AllByRecursion (λ y. same_key x.state.key y ≡ false) (map key_in (ys ++ s ∷ []))
-    also [] h e = (e, tt)
-    also (y ∷ ys) (h, hs) e = (h, also ys hs e)
-
-    go : (find (has_key s.state.key) xs ≡ None → IsDistinct same_key (map key_in xs) → IsDistinct same_key (map key_in (xs ++ s ∷ [])))
-        → AllByRecursion (λ y. same_key x.state.key y ≡ false) (map key_in xs) → IsDistinct same_key (map key_in xs)
-        → (b : Bool) → same_key x.state.key s.state.key ≡ b → IsDistinct same_key (map key_in (x ∷ xs ++ s ∷ []))
-    go m hd tl true i = let f' : Some x ≡ None = (rw i at f) in absurd (cc f')
-    go m hd tl false i = IsDistinct-cons same_key x.state.key (map key_in (xs ++ s ∷ [])) (also xs hd i) (m (rw i at f) tl)
-
-pub key-came : (s : Placed) (xs : List Placed) (k : FlowKey) (g g' : Option Entry) → find (has_key s.state.key) xs ≡ None → g ≡ option_map entry_of (find (has_key k) xs)
-    → g' ≡ cond (same_key s.state.key k) (Some (entry_of s)) g → g' ≡ option_map entry_of (find (has_key k) (xs ++ s ∷ []))
-key-came s xs k g g' f e e' = rw (e', e, find-push k s xs f) (go (same_key s.state.key k))
-  where
-    go : (b : Bool) → cond b (Some (entry_of s)) (option_map entry_of (find (has_key k) xs)) ≡ option_map entry_of (cond b (Some s) (find (has_key k) xs))
+    go : (b : Bool) → cond b (Some (entry_of s)) (option_map entry_of (find p xs)) ≡ option_map entry_of (cond b (Some s) (find p xs))
     go true = refl
     go false = refl
 
@@ -394,6 +397,19 @@ few-counted conf xs t l h =
 pub key-sourced : (d : Dir) (p : PacketView) → p.source.addr ≡ source_at d (record { proto = p.proto; a = first_end d p; b = second_end d p })
 key-sourced In p = refl
 key-sourced Out p = refl
+
+-- an inner key that is another than that on the wire, or that one
+pub apart-whole : (wire inner : FlowKey) → unwrap_or (apart wire inner) wire ≡ inner
+apart-whole wire inner = go (same_key wire inner) refl
+  where
+    go : (b : Bool) → same_key wire inner ≡ b → unwrap_or (if b then None else Some inner) wire ≡ inner
+    go true e = same_key_true wire inner e
+    go false e = refl
+
+-- the key of the packet that makes a state is that with which it was sent
+pub sent-as : (d : Dir) (p going : PacketView) (s : State) → s.key ≡ wire_side d (key_of p) (key_of going) → inner_key s ≡ inner_side d (key_of p) (key_of going) → sent_on_side d s ≡ key_of p
+sent-as In p going s h k = h
+sent-as Out p going s h k = k
 
 -- no handshake of a new state has completed, or it does not count
 pub new-undone : (conf : Conf) (rule : ℕ) (p : PacketView) (cookie : Bool) → is_done (new_phase conf rule p cookie) ≡ false

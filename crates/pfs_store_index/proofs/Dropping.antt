@@ -39,16 +39,18 @@ noded-dropped conf n t ts (x ∷ xs) r f k z (h, hs) =
       noded-dropped conf n t ts xs r f k w.1 hs,
     )
 
-pub tied-dropped : {S : Type 0} (conf : Conf) (rs : List Placed) (keys : HashMap FlowKey Entry S) (counts : List ℕ) (ts : List Tally) (filing : Filing) (n : Node)
-    → IsTied conf rs keys counts ts filing → IsRising (node_numbers (nodes_of ts)) → find (λ (m : Node). m.number == n.number) (nodes_of ts) ≡ Some n
-    → node_states conf n.scope n.source (states_of rs) ≡ 0 → IsTied conf rs keys counts (filter (other_node n.number) ts) filing
-tied-dropped conf rs keys counts ts filing n i r f z =
+pub tied-dropped : {S : Type 0} (conf : Conf) (rs : List Placed) (keys insides : HashMap FlowKey Entry S) (counts : List ℕ) (ts : List Tally) (filing : Filing) (n : Node)
+    → IsTied conf rs keys insides counts ts filing → IsRising (node_numbers (nodes_of ts)) → find (λ (m : Node). m.number == n.number) (nodes_of ts) ≡ Some n
+    → node_states conf n.scope n.source (states_of rs) ≡ 0 → IsTied conf rs keys insides counts (filter (other_node n.number) ts) filing
+tied-dropped conf rs keys insides counts ts filing n i r f z =
     let t = part-found (λ (u : Tally). u.node) (λ (m : Node). m.number == n.number) n ts f in
     let k = found-all (IsScoped conf) (has_node_number n.number) t.whole ts i.scoped t.found in
     let y : node_states conf t.whole.node.scope t.whole.node.source (states_of rs) ≡ 0 = ap (λ (m : Node). node_states conf m.scope m.source (states_of rs)) t.same ∙ z in
     record {
       by_key = i.by_key;
+  by_inner = i.by_inner;
       distinct = i.distinct;
+  distinct_inside = i.distinct_inside;
       by_rule = i.by_rule;
       size = i.size;
       ruled = i.ruled;

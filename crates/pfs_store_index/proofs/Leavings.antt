@@ -21,10 +21,10 @@ use Rattle.pfs_store_records.specs.Tallies.{nodes_of}
 use Rattle.pfs_store_records.specs.declared.nodes.Tally.{Tally}
 use Rattle.pfs_store_index.specs.declared.indexes.Entry.{Entry}
 use Rattle.pfs_store_index.specs.Filed.{is_pair}
-use Rattle.pfs_store_index.specs.Ties.{HasRule, IsCounted, entry_of, has_key, key_in, left_at}
+use Rattle.pfs_store_index.specs.Ties.{HasRule, IsCounted, entry_of, left_at}
 use Rattle.pfs_store_records.specs.Changes.{HasTally, IsScored, IsScoped, is_at, left_of}
 use Rattle.pfs_store_records.proofs.OneNode.{of_node, tally-at}
-use Rattle.pfs_store_index.proofs.Removals.{any-kept, any-removed, count-removed, find-removed}
+use Rattle.pfs_store_index.proofs.Removals.{any-kept, any-removed, count-removed, passing-removed}
 use Rattle.std.proofs.lemmas.Bool.{and_parts, and_right}
 use Rattle.pfs_store_records.proofs.Rising.{IsRisingBy, has_number}
 use Rattle.pfs_store_records.proofs.TallyLaws.{left-faithful, left-node}
@@ -171,12 +171,13 @@ noded-left conf s now ts (x ∷ xs) (h, hs) =
 
 -- ---- the index by key
 
-pub key-left : (s : Placed) (records : List Placed) (k : FlowKey) (g g' : Option Entry) → IsRisingBy record_number records → IsDistinct same_key (map key_in records)
-    → find (has_number record_number s.state.number) records ≡ Some s → g ≡ option_map entry_of (find (has_key k) records) → g' ≡ cond (same_key s.state.key k) None g
-    → g' ≡ option_map entry_of (find (has_key k) (filter (λ (p : Placed). not (p.state.number == s.state.number)) records))
-key-left s records k g g' r d f e e' = rw (e', e, find-removed record_number key_in k s.state.number s records r d f) (go (same_key s.state.key k))
+pub entry-left : (p : Placed → Bool) (key : Placed → FlowKey) (k : FlowKey) → ((x : Placed) → p x ≡ true → key x ≡ k) → (s : Placed) (records : List Placed) (g g' : Option Entry)
+    → IsRisingBy record_number records → IsDistinct same_key (map key records) → find (has_number record_number s.state.number) records ≡ Some s
+    → g ≡ option_map entry_of (find p records) → g' ≡ cond (p s) None g
+    → g' ≡ option_map entry_of (find p (filter (λ (q : Placed). not (q.state.number == s.state.number)) records))
+entry-left p key k tells s records g g' r d f e e' = rw (e', e, passing-removed record_number key p k tells s.state.number s records r d f) (go (p s))
   where
-    go : (b : Bool) → cond b None (option_map entry_of (find (has_key k) records)) ≡ option_map entry_of (cond b None (find (has_key k) records))
+    go : (b : Bool) → cond b None (option_map entry_of (find p records)) ≡ option_map entry_of (cond b None (find p records))
     go true = refl
     go false = refl
 

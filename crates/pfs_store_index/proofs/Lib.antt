@@ -1,6 +1,7 @@
 mod Comings
 mod Dropping
 mod Filings
+mod InsideLaws
 mod Leavings
 mod Meetings
 mod PassingNodes

@@ -1,7 +1,6 @@
 -- A packet of a state: each fact of the indexes and counts, of the states and nodes after it.
 use Rattle.std.proofs.Common.{◌≡◌, ◌∙◌, ◌+◌, ◌==◌, ◌&&◌, ◌||◌, ℕ, Bool, true, false, cond, if◌then◌else◌, Option, Some, None, List, [], ◌∷◌, length, map, filter, option_map, refl, ap, sym, subst, arith}
 use Rattle.std.specs.List.{find, list_any, AllByRecursion}
-use Rattle.std.proofs.lemmas.Bool.Decides.{nat_tests}
 use Rattle.pfs_addr_values.specs.Packets.{PacketView}
 use Rattle.pfs_addr_values.specs.declared.addresses.Addr.{Addr}
 use Rattle.pfs_addr_values.specs.declared.packets.FlowKey.{FlowKey}
@@ -13,11 +12,11 @@ use Rattle.pfs_store_contract.specs.Counts.{is_connection, is_of_node, node_conn
 use Rattle.pfs_store_contract.specs.Touching.{completes_at, goes_forward, nodes_scored, nodes_touched, numbered_state_after, state_after_packet}
 use Rattle.pfs_store_contract.specs.declared.records.NodeScope.{NodeScope}
 use Rattle.pfs_store_contract.specs.declared.records.State.{State}
-use Rattle.pfs_store_records.specs.Records.{Placed, placed_at, put, states_of}
+use Rattle.pfs_store_records.specs.Records.{Placed, placed_at, states_of}
 use Rattle.pfs_store_records.specs.Tallies.{is_tally, nodes_of}
 use Rattle.pfs_store_records.specs.declared.nodes.Tally.{Tally}
 use Rattle.pfs_store_records.specs.Changes.{HasTally, IsScored, IsScoped, at_node, is_at, met_by}
-use Rattle.pfs_store_index.specs.Ties.{IsCounted, entry_of, has_key, key_in}
+use Rattle.pfs_store_index.specs.Ties.{IsCounted, entry_of}
 use Rattle.pfs_store_index.proofs.Leavings.{record_number, state_number}
 use Rattle.pfs_store_records.proofs.OneNode.{of_node, tally-at}
 use Rattle.pfs_store_records.proofs.Rising.{Apart, IsRisingBy, has_number, head-apart, head-is, rest-rising, same_number}
@@ -70,85 +69,34 @@ pub states-renewed : (n : ℕ) (p : PacketView) (now : ℕ) (rs : List Placed) �
 states-renewed n p now [] = refl
 states-renewed n p now (r ∷ rs) = ap (λ xs. numbered_state_after n p now r.state ∷ xs) (states-renewed n p now rs)
 
-renew-apart : (n : ℕ) (p : PacketView) (now : ℕ) (rs : List Placed) → Apart record_number n rs → map (renewed_record n p now) rs ≡ rs
+pub renew-apart : (n : ℕ) (p : PacketView) (now : ℕ) (rs : List Placed) → Apart record_number n rs → map (renewed_record n p now) rs ≡ rs
 renew-apart n p now [] a = refl
 renew-apart n p now (r ∷ rs) (a, more) = rw a (ap (λ xs. r ∷ xs) (renew-apart n p now rs more))
 
-put-apart : (n : ℕ) (st : State) (rs : List Placed) → st.number ≡ n → Apart record_number n rs → map (put st) rs ≡ rs
-put-apart n st [] e a = refl
-put-apart n st (r ∷ rs) e (a, more) =
-    let a' : (r.state.number == st.number) ≡ false = ap (λ k. r.state.number == k) e ∙ a in
-    rw a' (ap (λ xs. r ∷ xs) (put-apart n st rs e more))
+-- ---- the indexes by key
 
-pub put-renewed : (n : ℕ) (p : PacketView) (now : ℕ) (s : Placed) (st : State) (rs : List Placed) → IsRisingBy record_number rs → find (has_number record_number n) rs ≡ Some s
-    → st ≡ numbered_state_after n p now s.state → st.number ≡ n → map (put st) rs ≡ map (renewed_record n p now) rs
-put-renewed n p now s st [] r f e k = refl
-put-renewed n p now s st (x ∷ xs) r f e k = go (put-renewed n p now s st xs (rest-rising record_number x xs r)) (x.state.number == n) refl
+pub entry-renewed : (n : ℕ) (p : PacketView) (now : ℕ) (test : Placed → Bool) → ((r : Placed) → test (placed_at r.place (state_after_packet p now r.state)) ≡ test r) → (rs : List Placed)
+    → option_map entry_of (find test (map (renewed_record n p now) rs)) ≡ option_map entry_of (find test rs)
+entry-renewed n p now test same [] = refl
+entry-renewed n p now test same (r ∷ rs) = on (r.state.number == n) (entry-renewed n p now test same rs)
   where
-    go : (find (has_number record_number n) xs ≡ Some s → st ≡ numbered_state_after n p now s.state → st.number ≡ n → map (put st) xs ≡ map (renewed_record n p now) xs)
-        → (b : Bool) → (x.state.number == n) ≡ b → map (put st) (x ∷ xs) ≡ map (renewed_record n p now) (x ∷ xs)
-    go more true t =
-        let q = head-is record_number n x s xs t f in
-        let a : Apart record_number n xs = subst (λ m. Apart record_number m xs) (same_number n x.state.number t) (head-apart record_number x xs r) in
-        let y : (x.state.number == st.number) ≡ true = ap (λ m. x.state.number == m) k ∙ t in
-        let h : put st x ≡ renewed_record n p now x =
-        ap (λ (b : Bool). if b then placed_at x.place st else x) y ∙ ap (placed_at x.place) (e ∙ ap (λ (z : Placed). numbered_state_after n p now z.state) (sym q)) in
-        (λ i. h i ∷ (put-apart n st xs k a ∙ sym (renew-apart n p now xs a)) i)
-    go more false t =
-        let y : (x.state.number == st.number) ≡ false = ap (λ m. x.state.number == m) k ∙ t in
-        rw (y, t) (ap (λ ys. x ∷ ys) (more (rw t at f) e k))
-
--- the record with a key is that with its number
-pub key-number : (k : FlowKey) (s : Placed) (rs : List Placed) → IsRisingBy record_number rs → find (has_key k) rs ≡ Some s → find (has_number record_number s.state.number) rs ≡ Some s
-key-number k s [] r h = absurd cc
-key-number k s (x ∷ xs) r h = go (key-number k s xs (rest-rising record_number x xs r)) (has_key k x) refl
-  where
-    same_self : (m : ℕ) → (m == m) ≡ true
-    same_self m = grind (arith, nat_tests)
-
-    flip : (a b : ℕ) → (b == a) ≡ false → (a == b) ≡ false
-    flip a b e = grind (arith, nat_tests)
-
-    later : (ys : List Placed) → Apart record_number x.state.number ys → find (has_key k) ys ≡ Some s → (s.state.number == x.state.number) ≡ false
-    later [] a f = absurd cc
-    later (y ∷ ys) (a, more) f = on (later ys more) (has_key k y) refl
-      where
-        on : (find (has_key k) ys ≡ Some s → (s.state.number == x.state.number) ≡ false) → (b : Bool) → has_key k y ≡ b → (s.state.number == x.state.number) ≡ false
-        on m true t = let f' : Some y ≡ Some s = (rw t at f) in let q : y ≡ s = cc in ap (λ (z : Placed). z.state.number == x.state.number) (sym q) ∙ a
-        on m false t = m (rw t at f)
-
-    go : (find (has_key k) xs ≡ Some s → find (has_number record_number s.state.number) xs ≡ Some s) → (b : Bool) → has_key k x ≡ b
-        → find (has_number record_number s.state.number) (x ∷ xs) ≡ Some s
-    go more true t =
-        let h' : Some x ≡ Some s = (rw t at h) in
-        let q : x ≡ s = cc in
-        let y : (x.state.number == s.state.number) ≡ true = ap (λ (z : Placed). z.state.number == s.state.number) q ∙ same_self s.state.number in
-        rw y h'
-    go more false t =
-        let h' : find (has_key k) xs ≡ Some s = (rw t at h) in
-        let y : (x.state.number == s.state.number) ≡ false = flip x.state.number s.state.number (later xs (head-apart record_number x xs r) h') in
-        rw y (more h')
-
--- ---- the index by key
-
-pub key-renewed : (n : ℕ) (p : PacketView) (now : ℕ) (k : FlowKey) (rs : List Placed) → option_map entry_of (find (has_key k) (map (renewed_record n p now) rs)) ≡ option_map entry_of (find (has_key k) rs)
-key-renewed n p now k [] = refl
-key-renewed n p now k (r ∷ rs) = on (r.state.number == n) (key-renewed n p now k rs)
-  where
-    go : (x : Placed) → entry_of x ≡ entry_of r → (b : Bool) → option_map entry_of (find (has_key k) (map (renewed_record n p now) rs)) ≡ option_map entry_of (find (has_key k) rs)
-        → option_map entry_of (cond b (Some x) (find (has_key k) (map (renewed_record n p now) rs))) ≡ option_map entry_of (cond b (Some r) (find (has_key k) rs))
+    go : (x : Placed) → entry_of x ≡ entry_of r → (b : Bool) → option_map entry_of (find test (map (renewed_record n p now) rs)) ≡ option_map entry_of (find test rs)
+        → option_map entry_of (cond b (Some x) (find test (map (renewed_record n p now) rs))) ≡ option_map entry_of (cond b (Some r) (find test rs))
     go x e true m = ap Some e
     go x e false m = m
 
-    on : (c : Bool) → option_map entry_of (find (has_key k) (map (renewed_record n p now) rs)) ≡ option_map entry_of (find (has_key k) rs)
-        → option_map entry_of (cond (has_key k (placed_at r.place (if c then state_after_packet p now r.state else r.state))) (Some (placed_at r.place (if c then state_after_packet p now r.state else r.state))) (find (has_key k) (map (renewed_record n p now) rs)))
-        ≡ option_map entry_of (cond (has_key k r) (Some r) (find (has_key k) rs))
-    on true m = go (placed_at r.place (state_after_packet p now r.state)) refl (has_key k r) m
-    on false m = go r refl (has_key k r) m
+    on : (c : Bool) → option_map entry_of (find test (map (renewed_record n p now) rs)) ≡ option_map entry_of (find test rs)
+        → option_map entry_of (cond (test (placed_at r.place (if c then state_after_packet p now r.state else r.state))) (Some (placed_at r.place (if c then state_after_packet p now r.state else r.state))) (find test (map (renewed_record n p now) rs)))
+        ≡ option_map entry_of (cond (test r) (Some r) (find test rs))
+    on true m =
+        ap (λ b. option_map entry_of (cond b (Some (placed_at r.place (state_after_packet p now r.state))) (find test (map (renewed_record n p now) rs)))) (same r)
+        ∙ go (placed_at r.place (state_after_packet p now r.state)) refl (test r) m
+    on false m = go r refl (test r) m
 
-pub keys-renewed : (n : ℕ) (p : PacketView) (now : ℕ) (rs : List Placed) → map key_in (map (renewed_record n p now) rs) ≡ map key_in rs
-keys-renewed n p now [] = refl
-keys-renewed n p now (r ∷ rs) = (λ i. blind n p now (λ (s : State). s.key) (λ s. refl) r.state i ∷ keys-renewed n p now rs i)
+pub keys-renewed : (key : State → FlowKey) (n : ℕ) (p : PacketView) (now : ℕ) → ((s : State) → key (state_after_packet p now s) ≡ key s) → (rs : List Placed)
+    → map (λ (r : Placed). key r.state) (map (renewed_record n p now) rs) ≡ map (λ (r : Placed). key r.state) rs
+keys-renewed key n p now same [] = refl
+keys-renewed key n p now same (r ∷ rs) = (λ i. blind n p now key same r.state i ∷ keys-renewed key n p now same rs i)
 
 -- ---- the node of the state
 

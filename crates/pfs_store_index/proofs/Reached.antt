@@ -4,20 +4,16 @@ use Rattle.std.specs.List.{find, list_any}
 use Rattle.std.proofs.lemmas.Bool.{and_from}
 use Rattle.std.proofs.lemmas.Bool.Decides.{nat_tests}
 use Rattle.pfs_addr_values.specs.Packets.{PacketView}
-use Rattle.pfs_addr_values.specs.Sameness.{same_key}
-use Rattle.pfs_addr_values.specs.declared.packets.FlowKey.{FlowKey}
-use Rattle.pfs_store_contract.specs.Calls.{state_number as number_of_state}
 use Rattle.pfs_store_contract.specs.Purging.{state_numbers}
 use Rattle.pfs_store_contract.specs.Touching.{state_after_packet}
 use Rattle.pfs_store_contract.specs.declared.records.Found.{Found}
 use Rattle.pfs_store_contract.specs.declared.records.State.{State}
-use Rattle.pfs_store_contract.specs.declared.records.StateNo.{StateNo}
 use Rattle.pfs_store_records.specs.Records.{IsRecordAt, IsRising, Placed, is_placed, placed_at, stands_at, states_of}
 use Rattle.pfs_store_index.specs.declared.indexes.Entry.{Entry}
-use Rattle.pfs_store_index.specs.Holdings.{Holding, is_reached}
-use Rattle.pfs_store_index.specs.Ties.{entry_of, has_key}
+use Rattle.pfs_store_index.specs.Holdings.{is_reached}
+use Rattle.pfs_store_index.specs.Ties.{entry_of}
 use Rattle.pfs_store_index.proofs.Leavings.{record_number, state_number}
-use Rattle.pfs_store_index.proofs.Meetings.{key-number, renewed_record}
+use Rattle.pfs_store_index.proofs.Meetings.{renewed_record}
 use Rattle.pfs_store_index.proofs.Stands.{rising-records}
 use Rattle.pfs_store_records.proofs.Rising.{Apart, IsRisingBy, has_number, head-apart, rest-rising, same_number}
 use Rattle.pfs_store_records.proofs.Searches.{any-also, any-map, find-part, found-all}
@@ -28,32 +24,26 @@ pub record IsNumberAt (n at : ℕ) (rs : List Placed) : Type 0 where
   pub found : find (has_number record_number n) rs ≡ Some record_of
   pub place : record_of.place ≡ at
 
--- the record of the state with a key is at this place
-pub record IsKeyAt (k : FlowKey) (at : ℕ) (rs : List Placed) : Type 0 where
-  pub record_of : Placed
-  pub found : find (has_key k) rs ≡ Some record_of
-  pub place : record_of.place ≡ at
-
 same_self : (n : ℕ) → (n == n) ≡ true
 same_self n = grind (arith, nat_tests)
 
--- ---- from the index by key
+-- ---- from an index by key
 
-pub entry-reached : (k : FlowKey) (e : Entry) (rs : List Placed) → Some e ≡ option_map entry_of (find (has_key k) rs) → list_any (is_placed e.number e.place) rs ≡ true
-entry-reached k e rs h = go (find (has_key k) rs) refl
+pub entry-reached : (test : Placed → Bool) (e : Entry) (rs : List Placed) → Some e ≡ option_map entry_of (find test rs) → list_any (is_placed e.number e.place) rs ≡ true
+entry-reached test e rs h = go (find test rs) refl
   where
-    go : (o : Option Placed) → find (has_key k) rs ≡ o → list_any (is_placed e.number e.place) rs ≡ true
+    go : (o : Option Placed) → find test rs ≡ o → list_any (is_placed e.number e.place) rs ≡ true
     go None f = let z : Some e ≡ None = h ∙ ap (option_map entry_of) f in absurd (cc z)
     go (Some p) f =
         let z : Some e ≡ Some (entry_of p) = h ∙ ap (option_map entry_of) f in
         let q : e ≡ entry_of p = cc in
-        any-also (has_key k) (is_placed e.number e.place) p rs f
+        any-also test (is_placed e.number e.place) p rs f
         (and_from (p.state.number == e.number) (p.place == e.place)
         (ap (λ (x : Entry). p.state.number == x.number) q ∙ same_self p.state.number) (ap (λ (x : Entry). p.place == x.place) q ∙ same_self p.place))
 
 -- ---- to the record
 
-none-placed : (n at : ℕ) (rs : List Placed) → Apart record_number n rs → list_any (is_placed n at) rs ≡ false
+pub none-placed : (n at : ℕ) (rs : List Placed) → Apart record_number n rs → list_any (is_placed n at) rs ≡ false
 none-placed n at [] h = refl
 none-placed n at (x ∷ xs) (h, hs) = rw h (none-placed n at xs hs)
 
@@ -75,33 +65,6 @@ at-place n at (x ∷ xs) r a = on (at-place n at xs (rest-rising record_number x
     on more false t =
         let i = more (rw t at a) in
         record { record_of = i.record_of; found = rw t i.found; place = i.place }
-
--- what was found by a key leads to the record with the key
-key-record : (k : FlowKey) (f : Found) (rs : List Placed) → IsRising (state_numbers (states_of rs))
-    → option_map number_of_state (find (λ (s : State). same_key s.key k) (states_of rs)) ≡ Some f.number → is_reached rs f ≡ true → IsKeyAt k f.place rs
-key-record k f rs r h a = go (find (has_key k) rs) refl
-  where
-    numbered : (o : Option Placed) → find (has_key k) rs ≡ o → option_map number_of_state (option_map (λ (p : Placed). p.state) o) ≡ Some f.number
-    numbered o e = sym (ap (option_map number_of_state) (find-part (λ (p : Placed). p.state) (λ (s : State). same_key s.key k) rs ∙ ap (option_map (λ (p : Placed). p.state)) e)) ∙ h
-
-    go : (o : Option Placed) → find (has_key k) rs ≡ o → IsKeyAt k f.place rs
-    go None e = let z : None ≡ Some f.number = numbered None e in absurd (cc z)
-    go (Some p) e =
-        let z : Some (number_of_state p.state) ≡ Some f.number = numbered (Some p) e in
-        let q : number_of_state p.state ≡ f.number = cc in
-        let n : p.state.number ≡ f.number.0 = ap (λ (x : StateNo). x.0) q in
-        let rising = rising-records rs r in
-        let i = at-place f.number.0 f.place rs rising a in
-        let same : find (has_number record_number f.number.0) rs ≡ Some p = subst (λ (m : ℕ). find (has_number record_number m) rs ≡ Some p) n (key-number k p rs rising e) in
-        let w : Some i.record_of ≡ Some p = sym i.found ∙ same in
-        let y : i.record_of ≡ p = cc in
-        record { record_of = p; found = e; place = ap (λ (x : Placed). x.place) (sym y) ∙ i.place }
-
-pub key-at : (k : FlowKey) (f : Found) (rs : List Placed) (x : Holding) → IsRising (state_numbers (states_of rs)) → states_of rs ≡ x.states → rs ≡ x.records
-    → option_map number_of_state (find (λ (s : State). same_key s.key k) x.states) ≡ Some f.number → is_reached x.records f ≡ true → IsKeyAt k f.place rs
-key-at k f rs x r states records h a =
-    key-record k f rs r (ap (λ (xs : List State). option_map number_of_state (find (λ (s : State). same_key s.key k) xs)) states ∙ h)
-    (ap (λ (ps : List Placed). is_reached ps f) records ∙ a)
 
 -- the state at its place is that of its number
 pub state-at : (f : Found) (s : State) (rs : List Placed) → IsRising (state_numbers (states_of rs)) → is_reached rs f ≡ true → IsRecordAt f.place s rs

@@ -3,7 +3,7 @@ use Rattle.std.proofs.Common.{◌≡◌, ◌∙◌, ◌+◌, ◌==◌, ◌||◌,
 use Rattle.std.specs.List.{find, list_any, AllByRecursion, IsDistinct}
 use Rattle.std.proofs.lemmas.Bool.Decides.{nat_tests}
 use Rattle.std.proofs.lemmas.Map.Keys.{IsDistinct-head, IsDistinct-tail, IsDistinct-cons}
-use Rattle.pfs_addr_values.proofs.SameLaws.{same_key_true, same_key_self}
+use Rattle.pfs_addr_values.proofs.SameLaws.{same_key_self}
 use Rattle.pfs_addr_values.specs.Sameness.{same_key}
 use Rattle.pfs_addr_values.specs.declared.packets.FlowKey.{FlowKey}
 use Rattle.pfs_store_records.proofs.Rising.{Apart, IsRisingBy, has_number, head-apart, head-is, rest-rising, same_number}
@@ -107,69 +107,9 @@ module _ {X : Type 0} where
       go more true u = rw u (h, more)
       go more false u = rw u more
 
--- ---- the element with a key
+-- ---- the keys of those that are left
 
 module _ {X : Type 0} (number : X → ℕ) (key : X → FlowKey) where
-  -- an element has the key
-  abbrev pub has_key : FlowKey → X → Bool
-  has_key k x = same_key (key x) k
-
-  find-strange : (k : FlowKey) (xs : List X) → AllByRecursion (λ y. same_key k y ≡ false) (map key xs) → find (has_key k) xs ≡ None
-  find-strange k [] d = refl
-  find-strange k (x ∷ xs) (d, ds) = go (find-strange k xs ds) (same_key (key x) k) refl
-    where
-      go : find (has_key k) xs ≡ None → (b : Bool) → same_key (key x) k ≡ b → find (has_key k) (x ∷ xs) ≡ None
-      go more true t =
-          let q = same_key_true (key x) k t in
-          let d' : same_key k k ≡ false = ap (same_key k) (sym q) ∙ d in
-          absurd (cc (d', same_key_self k))
-      go more false t = rw t more
-
-  -- the key of a later element is not that of the first
-  later-differs : (n : ℕ) (k : FlowKey) (s : X) (xs : List X) → AllByRecursion (λ y. same_key k y ≡ false) (map key xs) → find (has_number number n) xs ≡ Some s → same_key k (key s) ≡ false
-  later-differs n k s [] d f = absurd cc
-  later-differs n k s (x ∷ xs) (d, ds) f = go (later-differs n k s xs ds) (number x == n) refl
-    where
-      go : (find (has_number number n) xs ≡ Some s → same_key k (key s) ≡ false) → (b : Bool) → (number x == n) ≡ b → same_key k (key s) ≡ false
-      go more true t = ap (λ (y : X). same_key k (key y)) (sym (head-is number n x s xs t f)) ∙ d
-      go more false t = more (rw t at f)
-
-  pub find-removed : (k : FlowKey) (n : ℕ) (s : X) (xs : List X) → IsRisingBy number xs → IsDistinct same_key (map key xs) → find (has_number number n) xs ≡ Some s
-      → find (has_key k) (filter (other number n) xs) ≡ cond (same_key (key s) k) None (find (has_key k) xs)
-  find-removed k n s [] r d f = absurd cc
-  find-removed k n s (x ∷ xs) r d f =
-      go (find-removed k n s xs (rest-rising number x xs r) (IsDistinct-tail same_key (key x) (map key xs) d)) (IsDistinct-head same_key (key x) (map key xs) d) (number x == n) refl (same_key (key x) k) refl
-    where
-      found : (b : Bool) → same_key (key x) k ≡ b → AllByRecursion (λ y. same_key (key x) y ≡ false) (map key xs)
-          → find (has_key k) xs ≡ cond (same_key (key x) k) None (cond (same_key (key x) k) (Some x) (find (has_key k) xs))
-      found true u hd = rw u (find-strange k xs (subst (λ (j : FlowKey). AllByRecursion (λ y. same_key j y ≡ false) (map key xs)) (same_key_true (key x) k u) hd))
-      found false u hd = rw u refl
-
-      go : (find (has_number number n) xs ≡ Some s → find (has_key k) (filter (other number n) xs) ≡ cond (same_key (key s) k) None (find (has_key k) xs))
-          → AllByRecursion (λ y. same_key (key x) y ≡ false) (map key xs) → (b : Bool) → (number x == n) ≡ b → (b' : Bool) → same_key (key x) k ≡ b'
-          → find (has_key k) (filter (other number n) (x ∷ xs)) ≡ cond (same_key (key s) k) None (find (has_key k) (x ∷ xs))
-      go more hd true t b' u =
-          let q = head-is number n x s xs t f in
-          let a : Apart number n xs = subst (λ m. Apart number m xs) (same_number n (number x) t) (head-apart number x xs r) in
-          rw (sym q, t, other-apart number n xs a) (found b' u hd)
-      go more hd false t true u =
-          let f' = (rw t at f) in
-          let w = later-differs n (key x) s xs hd f' in
-          let v : same_key (key s) k ≡ false = differs (key x) (key s) k u w in
-          rw (t, u, v) refl
-        where
-          differs : (a b c : FlowKey) → same_key a c ≡ true → same_key a b ≡ false → same_key b c ≡ false
-          differs a b c u w = on (same_key b c) refl
-            where
-              on : (z : Bool) → same_key b c ≡ z → same_key b c ≡ false
-              on true e =
-                  let p = same_key_true a c u in
-                  let q = same_key_true b c e in
-                  let v : same_key a b ≡ true = ap (λ j. same_key a j) (q ∙ sym p) ∙ same_key_self a in
-                  absurd (cc (v, w))
-              on false e = e
-      go more hd false t false u = rw (t, u) (more (rw t at f))
-
   pub distinct-filter : (p : X → Bool) (xs : List X) → IsDistinct same_key (map key xs) → IsDistinct same_key (map key (filter p xs))
   distinct-filter p [] d = d
   distinct-filter p (x ∷ xs) d = go (distinct-filter p xs (IsDistinct-tail same_key (key x) (map key xs) d)) (IsDistinct-head same_key (key x) (map key xs) d) (p x) refl
@@ -185,3 +125,68 @@ module _ {X : Type 0} (number : X → ℕ) (key : X → FlowKey) where
       go : IsDistinct same_key (map key (filter p xs)) → AllByRecursion (λ y. same_key (key x) y ≡ false) (map key xs) → (b : Bool) → p x ≡ b → IsDistinct same_key (map key (filter p (x ∷ xs)))
       go more hd true u = rw u (IsDistinct-cons same_key (key x) (map key (filter p xs)) (still xs hd) more)
       go more hd false u = rw u more
+
+-- ---- the element that passes a test, which says which key it has
+
+module _ {X : Type 0} (number : X → ℕ) (key : X → FlowKey) (p : X → Bool) (k : FlowKey) (tells : (x : X) → p x ≡ true → key x ≡ k) where
+  -- two of different keys do not both pass
+  both-pass : (x y : X) → same_key (key x) (key y) ≡ false → p x ≡ true → p y ≡ false
+  both-pass x y d h = go (p y) refl
+    where
+      go : (b : Bool) → p y ≡ b → p y ≡ false
+      go true e =
+          let q : key x ≡ key y = tells x h ∙ sym (tells y e) in
+          let t : same_key (key x) (key y) ≡ true = ap (same_key (key x)) (sym q) ∙ same_key_self (key x) in
+          absurd (cc (t, d))
+      go false e = e
+
+  pub none-passes : (x : X) (ys : List X) → AllByRecursion (λ y. same_key (key x) y ≡ false) (map key ys) → p x ≡ true → find p ys ≡ None
+  none-passes x [] d h = refl
+  none-passes x (y ∷ ys) (d, ds) h = rw (both-pass x y d h) (none-passes x ys ds h)
+
+  passes-not : (n : ℕ) (s x : X) (ys : List X) → AllByRecursion (λ y. same_key (key x) y ≡ false) (map key ys) → find (has_number number n) ys ≡ Some s → p x ≡ true → p s ≡ false
+  passes-not n s x [] d f h = absurd cc
+  passes-not n s x (y ∷ ys) (d, ds) f h = go (passes-not n s x ys ds) (number y == n) refl
+    where
+      go : (find (has_number number n) ys ≡ Some s → p x ≡ true → p s ≡ false) → (b : Bool) → (number y == n) ≡ b → p s ≡ false
+      go more true t = ap p (sym (head-is number n y s ys t f)) ∙ both-pass x y d h
+      go more false t = more (rw t at f) h
+
+  pub passing-removed : (n : ℕ) (s : X) (xs : List X) → IsRisingBy number xs → IsDistinct same_key (map key xs) → find (has_number number n) xs ≡ Some s
+      → find p (filter (other number n) xs) ≡ cond (p s) None (find p xs)
+  passing-removed n s [] r d f = absurd cc
+  passing-removed n s (x ∷ xs) r d f =
+      go (passing-removed n s xs (rest-rising number x xs r) (IsDistinct-tail same_key (key x) (map key xs) d)) (IsDistinct-head same_key (key x) (map key xs) d) (number x == n) refl (p x) refl
+    where
+      go : (find (has_number number n) xs ≡ Some s → find p (filter (other number n) xs) ≡ cond (p s) None (find p xs))
+          → AllByRecursion (λ y. same_key (key x) y ≡ false) (map key xs) → (b : Bool) → (number x == n) ≡ b → (b' : Bool) → p x ≡ b'
+          → find p (filter (other number n) (x ∷ xs)) ≡ cond (p s) None (find p (x ∷ xs))
+      go more hd true t true u =
+          let q = head-is number n x s xs t f in
+          let a : Apart number n xs = subst (λ m. Apart number m xs) (same_number n (number x) t) (head-apart number x xs r) in
+          rw (sym q, t, other-apart number n xs a, u) (none-passes x xs hd u)
+      go more hd true t false u =
+          let q = head-is number n x s xs t f in
+          let a : Apart number n xs = subst (λ m. Apart number m xs) (same_number n (number x) t) (head-apart number x xs r) in
+          rw (sym q, t, other-apart number n xs a, u) refl
+      go more hd false t true u = rw (t, u, passes-not n s x xs hd (rw t at f) u) refl
+      go more hd false t false u = rw (t, u) (more (rw t at f))
+
+  -- the one that is found among those that pass is the only one
+  pub passing-found : (s : X) (xs : List X) (q : X → Bool) → IsDistinct same_key (map key xs) → p s ≡ true → find q xs ≡ Some s → find p xs ≡ Some s
+  passing-found s [] q d own f = absurd cc
+  passing-found s (x ∷ xs) q d own f =
+      go (passing-found s xs q (IsDistinct-tail same_key (key x) (map key xs) d) own) (IsDistinct-head same_key (key x) (map key xs) d) (q x) refl (p x) refl
+    where
+      go : (find q xs ≡ Some s → find p xs ≡ Some s) → AllByRecursion (λ y. same_key (key x) y ≡ false) (map key xs) → (b : Bool) → q x ≡ b → (b' : Bool) → p x ≡ b' → find p (x ∷ xs) ≡ Some s
+      go more hd true t true u = rw u (rw t at f)
+      go more hd true t false u =
+          let f' : Some x ≡ Some s = (rw t at f) in
+          let e : x ≡ s = cc in
+          let z : p x ≡ true = ap p e ∙ own in
+          absurd (cc (z, u))
+      go more hd false t true u =
+          let m : find p xs ≡ Some s = more (rw t at f) in
+          let z : None ≡ Some s = sym (none-passes x xs hd u) ∙ m in
+          absurd (cc z)
+      go more hd false t false u = rw u (more (rw t at f))

@@ -1,100 +1,127 @@
 -- The record of the state that was found, what a packet makes of it, and what is reported of its node.
-use Rattle.std.proofs.Common.{◌≡◌, ◌∙◌, ◌+◌, ◌<◌, ◌==◌, ◌||◌, ℕ, Bool, true, false, cond, if◌then◌else◌, Option, Some, None, is_some, unwrap_or, List, [], ◌∷◌, map, option_map, refl, ap, sym, subst, arith}
+use Rattle.std.proofs.Common.{◌≡◌, ◌∙◌, ◌+◌, ◌==◌, ◌||◌, ℕ, Bool, true, false, cond, Option, Some, None, is_some, unwrap_or, List, [], ◌∷◌, map, option_map, refl, ap, sym, subst, arith}
 use Rattle.std.specs.List.{find, list_any, AllByRecursion}
 use Rattle.std.proofs.lemmas.Bool.Decides.{nat_tests}
 use Rattle.pfs_addr_values.specs.Packets.{PacketView}
-use Rattle.pfs_addr_values.specs.Sameness.{same_key}
 use Rattle.pfs_addr_values.specs.declared.addresses.Addr.{Addr}
-use Rattle.pfs_addr_values.specs.declared.packets.FlowKey.{FlowKey}
 use Rattle.pfs_conf_values.specs.Configs.{Conf}
 use Rattle.pfs_track.specs.Scores.{zero_score}
 use Rattle.pfs_track.proofs.DoneLaws.{done-after, done-once}
 use Rattle.pfs_track.specs.StatePhases.{completes, is_done}
 use Rattle.pfs_track.specs.declared.scores.Score.{Score}
-use Rattle.pfs_store_contract.specs.Calls.{state_number as number_of}
+use Rattle.pfs_track.specs.declared.state_phases.StatePhase.{StatePhase}
+use Rattle.pfs_store_contract.specs.declared.records.Found.{Found}
 use Rattle.pfs_store_contract.specs.Counts.{is_node, node_connections}
 use Rattle.pfs_store_contract.specs.Purging.{state_numbers}
-use Rattle.pfs_store_contract.specs.Touching.{connections_in, goes_forward, numbered_state_after, score_in, state_after_packet}
+use Rattle.pfs_store_contract.specs.Touching.{connections_in, goes_forward, score_in, state_after_packet}
 use Rattle.pfs_store_contract.specs.declared.records.Node.{Node}
 use Rattle.pfs_store_contract.specs.declared.records.NodeScope.{NodeScope}
 use Rattle.pfs_store_contract.specs.declared.records.State.{State}
-use Rattle.pfs_store_contract.specs.declared.records.StateNo.{StateNo}
-use Rattle.pfs_store_records.specs.Records.{IsRecordAt, IsRising, Placed, is_placed, put, states_of}
+use Rattle.pfs_store_records.specs.Aside.{IsKeptAt, rekeyed}
+use Rattle.pfs_store_records.specs.Records.{IsRising, Placed, is_placed, placed_at, renewed, renewed_at, states_of}
 use Rattle.pfs_store_records.specs.Tallies.{is_tally, nodes_of}
 use Rattle.pfs_store_records.specs.declared.nodes.Tally.{Tally}
-use Rattle.pfs_store_index.specs.Ties.{IsCounted, has_key}
+use Rattle.pfs_store_index.specs.Holdings.{is_reached}
+use Rattle.pfs_store_index.specs.Ties.{IsCounted}
 use Rattle.pfs_store_records.specs.Changes.{connections_at, score_at}
 use Rattle.pfs_store_index.proofs.Leavings.{record_number, state_number}
-use Rattle.pfs_store_index.proofs.Meetings.{CountsDone, key-number, put-renewed, renewed_record}
+use Rattle.pfs_store_index.proofs.Meetings.{CountsDone, renew-apart, renewed_record}
 use Rattle.pfs_store_records.proofs.OneNode.{scope_is, source_is}
-use Rattle.pfs_store_records.proofs.Searches.{any-also, any-found, find-part, found-all, found-passes}
-use Rattle.pfs_store_index.proofs.Reached.{IsKeyAt}
+use Rattle.pfs_store_records.proofs.Searches.{any-found, find-part, found-all, found-passes}
+use Rattle.pfs_store_index.proofs.Reached.{at-place, none-placed}
 use Rattle.pfs_store_index.proofs.Stands.{rising-records}
-use Rattle.std.proofs.lemmas.Bool.{and_from}
-use Rattle.pfs_store_records.proofs.Rising.{IsRisingBy, has_number, head-above, rest-rising}
+use Rattle.pfs_store_records.proofs.Rising.{Apart, IsRisingBy, has_number, head-apart, rest-rising, same_number}
 
 same_self : (n : ℕ) → (n == n) ≡ true
 same_self n = grind (arith, nat_tests)
 
-pub read-is : (k : FlowKey) (at : ℕ) (s : State) (rs : List Placed) (h : IsKeyAt k at rs) → IsRecordAt at s rs → h.record_of.state ≡ s
-read-is k at s rs h is = found-all (λ (p : Placed). p.place ≡ at → p.state ≡ s) (has_key k) h.record_of rs is h.found h.place
+-- the state of a number that is held
+pub record IsHeldAs (n : ℕ) (xs : List State) : Type 0 where
+  pub state : State
+  pub found : find (has_number state_number n) xs ≡ Some state
+  pub number : state.number ≡ n
 
-pub write-held : (k : FlowKey) (at n : ℕ) (rs : List Placed) (h : IsKeyAt k at rs) → h.record_of.state.number ≡ n → list_any (is_placed n at) rs ≡ true
-write-held k at n rs h q =
-    any-also (has_key k) (is_placed n at) h.record_of rs h.found
-    (and_from (h.record_of.state.number == n) (h.record_of.place == at) (ap (λ m. m == n) q ∙ same_self n) (ap (λ m. m == at) h.place ∙ same_self at))
-
-pub state-found : (k : FlowKey) (at : ℕ) (s : State) (rs : List Placed) (h : IsKeyAt k at rs) → h.record_of.state ≡ s → find (λ (x : State). same_key x.key k) (states_of rs) ≡ Some s
-state-found k at s rs h q = find-part (λ (p : Placed). p.state) (λ (x : State). same_key x.key k) rs ∙ ap (option_map (λ (p : Placed). p.state)) h.found ∙ ap Some q
-
-pub number-found : (k : FlowKey) (at : ℕ) (s : State) (rs : List Placed) (h : IsKeyAt k at rs) → h.record_of.state ≡ s → IsRising (state_numbers (states_of rs))
-    → find (has_number state_number s.number) (states_of rs) ≡ Some s
-number-found k at s rs h q r =
-    let f : find (has_number record_number s.number) rs ≡ Some h.record_of =
-    subst (λ (x : State). find (has_number record_number x.number) rs ≡ Some h.record_of) q (key-number k h.record_of rs (rising-records rs r) h.found) in
-    find-part (λ (p : Placed). p.state) (has_number state_number s.number) rs ∙ ap (option_map (λ (p : Placed). p.state)) f ∙ ap Some q
-
-lower_differs : (a b : ℕ) → a < b → (a == b) ≡ false
-lower_differs a b h = grind (arith, nat_tests)
-
--- a state that is found is found by its number
-by-number : (p : State → Bool) (s : State) (xs : List State) → IsRisingBy state_number xs → find p xs ≡ Some s → find (has_number state_number s.number) xs ≡ Some s
-by-number p s [] r f = absurd cc
-by-number p s (x ∷ xs) r f = go (by-number p s xs (rest-rising state_number x xs r)) (p x) refl
+pub held-as : (n : ℕ) (xs : List State) → list_any (has_number state_number n) xs ≡ true → IsHeldAs n xs
+held-as n xs h = go (find (has_number state_number n) xs) refl
   where
-    go : (find p xs ≡ Some s → find (has_number state_number s.number) xs ≡ Some s) → (b : Bool) → p x ≡ b → find (has_number state_number s.number) (x ∷ xs) ≡ Some s
+    go : (o : Option State) → find (has_number state_number n) xs ≡ o → IsHeldAs n xs
+    go None e =
+        let z : false ≡ true = ap is_some (sym e) ∙ any-found (has_number state_number n) xs ∙ h in
+        absurd (cc z)
+    go (Some u) e = record {
+      state = u;
+      found = e;
+      number = same_number n u.number (found-passes (has_number state_number n) u xs e);
+    }
+
+-- ---- the state of the record that was found
+
+-- what the record at a place keeps is the state of this number
+pub record IsKeptAs (n : ℕ) (kept : State) (rs : List Placed) : Type 0 where
+  pub state : State
+  pub found : find (has_number state_number n) (states_of rs) ≡ Some state
+  pub same : rekeyed kept state ≡ kept
+  pub number : state.number ≡ n
+
+pub kept-as : (f : Found) (kept : State) (rs : List Placed) → IsRising (state_numbers (states_of rs)) → is_reached rs f ≡ true → IsKeptAt f.place kept rs → IsKeptAs f.number.0 kept rs
+kept-as f kept rs r a is =
+    let i = at-place f.number.0 f.place rs (rising-records rs r) a in
+    record {
+      state = i.record_of.state;
+      found = find-part (λ (p : Placed). p.state) (has_number state_number f.number.0) rs ∙ ap (option_map (λ (p : Placed). p.state)) i.found;
+      same = found-all (λ (p : Placed). p.place ≡ f.place → rekeyed kept p.state ≡ kept) (has_number record_number f.number.0) i.record_of rs is i.found i.place;
+      number = same_number f.number.0 i.record_of.state.number (found-passes (has_number record_number f.number.0) i.record_of rs i.found);
+    }
+
+-- a record at a place is that of the number, and is renewed as by a packet
+abbrev pub IsStepped : ℕ → ℕ → PacketView → ℕ → StatePhase → ℕ → Placed → Type 0
+IsStepped n at p now phase last x = x.place ≡ at → (x.state.number ≡ n) × (renewed phase last x.state ≡ state_after_packet p now x.state)
+
+-- what a packet does to what is kept it does to the state, whose keys it leaves
+pub steps-alike : (p : PacketView) (now : ℕ) (phase : StatePhase) (last : ℕ) (kept s : State) → rekeyed kept s ≡ kept → renewed phase last kept ≡ state_after_packet p now kept
+    → renewed phase last s ≡ state_after_packet p now s
+steps-alike p now phase last kept s e h =
+    let a : phase ≡ (state_after_packet p now s).phase = ap (λ (x : State). x.phase) h ∙ ap (λ (x : State). (state_after_packet p now x).phase) (sym e) in
+    let b : last ≡ (state_after_packet p now s).last = ap (λ (x : State). x.last) h ∙ ap (λ (x : State). (state_after_packet p now x).last) (sym e) in
+    λ i. record s { phase = a i; last = b i }
+
+stepped-apart : (n at : ℕ) (p : PacketView) (now : ℕ) (phase : StatePhase) (last : ℕ) (rs : List Placed) → Apart record_number n rs → AllByRecursion (IsStepped n at p now phase last) rs
+    → map (renewed_at at phase last) rs ≡ rs
+stepped-apart n at p now phase last [] a h = refl
+stepped-apart n at p now phase last (x ∷ xs) (a, as-well) (h, hs) = go (stepped-apart n at p now phase last xs as-well hs) (x.place == at) refl
+  where
+    go : map (renewed_at at phase last) xs ≡ xs → (b : Bool) → (x.place == at) ≡ b → map (renewed_at at phase last) (x ∷ xs) ≡ x ∷ xs
     go more true t =
-        let f' : Some x ≡ Some s = (rw t at f) in
-        let q : x ≡ s = cc in
-        let y : (x.number == s.number) ≡ true = ap (λ (z : State). z.number == s.number) q ∙ same_self s.number in
-        rw y f'
-    go more false t =
-        let f' : find p xs ≡ Some s = (rw t at f) in
-        let l : x.number < s.number = found-all (λ (y : State). x.number < y.number) p s xs (head-above state_number x xs r) f' in
-        let y : (x.number == s.number) ≡ false = lower_differs x.number s.number l in
-        rw y (more f')
+        let k = (h (same_number at x.place t)).0 in
+        let z : true ≡ false = sym (same_self n) ∙ ap (λ m. m == n) (sym k) ∙ a in
+        absurd (cc z)
+    go more false t = rw t (ap (λ ys. x ∷ ys) more)
 
--- the state that has a key is that of its number
-pub key-of-number : (k : FlowKey) (n : StateNo) (s : State) (xs : List State) → IsRisingBy state_number xs → find (has_number state_number n.0) xs ≡ Some s
-    → option_map number_of (find (λ (x : State). same_key x.key k) xs) ≡ Some n → find (λ (x : State). same_key x.key k) xs ≡ Some s
-key-of-number k n s xs r f h = go (find (λ (x : State). same_key x.key k) xs) refl h
+pub stepped-record : (n at : ℕ) (p : PacketView) (now : ℕ) (phase : StatePhase) (last : ℕ) (rs : List Placed) → IsRisingBy record_number rs → list_any (is_placed n at) rs ≡ true
+    → AllByRecursion (IsStepped n at p now phase last) rs → map (renewed_at at phase last) rs ≡ map (renewed_record n p now) rs
+stepped-record n at p now phase last [] r a h = refl
+stepped-record n at p now phase last (x ∷ xs) r a (h, hs) = on (stepped-record n at p now phase last xs (rest-rising record_number x xs r)) (x.place == at) refl
   where
-    go : (o : Option State) → find (λ (x : State). same_key x.key k) xs ≡ o → option_map number_of o ≡ Some n → find (λ (x : State). same_key x.key k) xs ≡ Some s
-    go None e i = absurd cc
-    go (Some u) e i =
-        let q : number_of u ≡ n = cc in
-        let m = by-number (λ (x : State). same_key x.key k) u xs r e in
-        e ∙ sym m ∙ ap (λ (z : StateNo). find (has_number state_number z.0) xs) q ∙ f
+    apart : x.state.number ≡ n → Apart record_number n xs
+    apart k = subst (λ m. Apart record_number m xs) k (head-apart record_number x xs r)
 
-renewed-self : (p : PacketView) (now : ℕ) (s : State) → numbered_state_after s.number p now s ≡ state_after_packet p now s
-renewed-self p now s = ap (λ (b : Bool). if b then state_after_packet p now s else s) (same_self s.number)
+    on : (list_any (is_placed n at) xs ≡ true → AllByRecursion (IsStepped n at p now phase last) xs → map (renewed_at at phase last) xs ≡ map (renewed_record n p now) xs)
+        → (b : Bool) → (x.place == at) ≡ b → map (renewed_at at phase last) (x ∷ xs) ≡ map (renewed_record n p now) (x ∷ xs)
+    on more true t =
+        let (k, e) = h (same_number at x.place t) in
+        let y : (x.state.number == n) ≡ true = ap (λ m. m == n) k ∙ same_self n in
+        rw (t, y) (λ i. placed_at x.place (e i) ∷ (stepped-apart n at p now phase last xs (apart k) hs ∙ sym (renew-apart n p now xs (apart k))) i)
+    on more false t = by (x.state.number == n) refl
+      where
+        a' : (c : Bool) → (x.state.number == n) ≡ c → list_any (is_placed n at) xs ≡ true
+        a' true y = (rw (y, t) at a)
+        a' false y = (rw y at a)
 
-pub written : (k : FlowKey) (at : ℕ) (p : PacketView) (now : ℕ) (s after : State) (rs : List Placed) (h : IsKeyAt k at rs) → h.record_of.state ≡ s → IsRising (state_numbers (states_of rs))
-    → after ≡ state_after_packet p now s → map (put after) rs ≡ map (renewed_record s.number p now) rs
-written k at p now s after rs h q r a =
-    let f : find (has_number record_number s.number) rs ≡ Some h.record_of =
-    subst (λ (x : State). find (has_number record_number x.number) rs ≡ Some h.record_of) q (key-number k h.record_of rs (rising-records rs r) h.found) in
-    put-renewed s.number p now h.record_of after rs (rising-records rs r) f (a ∙ sym (renewed-self p now s) ∙ ap (numbered_state_after s.number p now) (sym q)) (ap (λ (x : State). x.number) a)
+        by : (c : Bool) → (x.state.number == n) ≡ c → map (renewed_at at phase last) (x ∷ xs) ≡ map (renewed_record n p now) (x ∷ xs)
+        by true y =
+            let z : false ≡ true = sym (none-placed n at xs (apart (same_number n x.state.number y))) ∙ a' true y in
+            absurd (cc z)
+        by false y = rw (t, y) (ap (λ ys. x ∷ ys) (more (a' false y) hs))
 
 -- ---- a handshake is counted once
 

@@ -1,8 +1,6 @@
 -- The records of states as the states themselves, by number and by key.
 use Rattle.std.proofs.Common.{◌≡◌, ◌∙◌, ◌<◌, ◌≤◌, ◌==◌, ℕ, Bool, true, false, if◌then◌else◌, not, Option, Some, None, List, [], ◌∷◌, length, map, filter, option_map, refl, ap, sym, subst, ◌⊎◌, inl, inr, IsSome}
 use Rattle.std.specs.List.{find}
-use Rattle.pfs_addr_values.specs.Sameness.{same_key}
-use Rattle.pfs_addr_values.specs.declared.packets.FlowKey.{FlowKey}
 use Rattle.std.specs.Option.{option_and_then}
 use Rattle.std.proofs.lemmas.Bool.{cases_lt}
 use Rattle.std.proofs.lemmas.Option.{slice_get_past}
@@ -14,7 +12,7 @@ use Rattle.pfs_store_contract.specs.Purging.{state_numbers}
 use Rattle.pfs_store_contract.specs.declared.records.State.{State}
 use Rattle.pfs_store_records.specs.Records.{IsAbove, IsRising, Placed, leaves_number, states_of}
 use Rattle.pfs_store_index.specs.declared.indexes.Entry.{Entry}
-use Rattle.pfs_store_index.specs.Ties.{entry_of, has_key}
+use Rattle.pfs_store_index.specs.Ties.{entry_of}
 use Rattle.pfs_store_index.proofs.Leavings.{record_number}
 use Rattle.pfs_store_records.proofs.Searches.{find-part}
 use Rattle.pfs_store_records.proofs.Rising.{IsRisingBy}
@@ -38,18 +36,18 @@ none-found test rs f = go (find (λ (p : Placed). test p.state) rs) refl
         let z : Some p.state ≡ None = sym (find-part (λ (p : Placed). p.state) test rs ∙ ap (option_map (λ (p : Placed). p.state)) e) ∙ f in
         absurd (cc z)
 
--- what the index by key gives for the state with a key
-pub number-at : (k : FlowKey) (rs : List Placed) (g : Option Entry) → g ≡ option_map entry_of (find (has_key k) rs)
-    → option_map (λ (e : Entry). record { 0 = e.number }) g ≡ option_map state_number (find (λ (s : State). same_key s.key k) (states_of rs))
-number-at k rs g e = ap (option_map (λ (e : Entry). record { 0 = e.number })) e ∙ go (find (has_key k) rs) ∙ ap (option_map state_number) (sym (find-part (λ (p : Placed). p.state) (λ (s : State). same_key s.key k) rs))
+-- what an index by key gives for the state that passes a test
+pub number-at : (test : State → Bool) (rs : List Placed) (g : Option Entry) → g ≡ option_map entry_of (find (λ (p : Placed). test p.state) rs)
+    → option_map (λ (e : Entry). record { 0 = e.number }) g ≡ option_map state_number (find test (states_of rs))
+number-at test rs g e = ap (option_map (λ (e : Entry). record { 0 = e.number })) e ∙ go (find (λ (p : Placed). test p.state) rs) ∙ ap (option_map state_number) (sym (find-part (λ (p : Placed). p.state) test rs))
   where
     go : (o : Option Placed) → option_map (λ (e : Entry). record { 0 = e.number }) (option_map entry_of o) ≡ option_map state_number (option_map (λ (p : Placed). p.state) o)
     go None = refl
     go (Some p) = refl
 
-pub rule-at : (k : FlowKey) (rs : List Placed) (g : Option Entry) → g ≡ option_map entry_of (find (has_key k) rs)
-    → option_map (λ (e : Entry). e.rule) g ≡ option_map state_rule (find (λ (s : State). same_key s.key k) (states_of rs))
-rule-at k rs g e = ap (option_map (λ (e : Entry). e.rule)) e ∙ go (find (has_key k) rs) ∙ ap (option_map state_rule) (sym (find-part (λ (p : Placed). p.state) (λ (s : State). same_key s.key k) rs))
+pub rule-at : (test : State → Bool) (rs : List Placed) (g : Option Entry) → g ≡ option_map entry_of (find (λ (p : Placed). test p.state) rs)
+    → option_map (λ (e : Entry). e.rule) g ≡ option_map state_rule (find test (states_of rs))
+rule-at test rs g e = ap (option_map (λ (e : Entry). e.rule)) e ∙ go (find (λ (p : Placed). test p.state) rs) ∙ ap (option_map state_rule) (sym (find-part (λ (p : Placed). p.state) test rs))
   where
     go : (o : Option Placed) → option_map (λ (e : Entry). e.rule) (option_map entry_of o) ≡ option_map state_rule (option_map (λ (p : Placed). p.state) o)
     go None = refl

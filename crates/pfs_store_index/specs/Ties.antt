@@ -1,5 +1,5 @@
 -- How the indexes and the counts are tied to the states and the source nodes that are held. (own)
-use Rattle.std.specs.Prelude.{ℕ, ◌≡◌, ◌<◌, Bool, List, length, map, option_map}
+use Rattle.std.specs.Prelude.{ℕ, ◌≡◌, ◌<◌, Bool, false, Option, Some, None, List, length, map, option_map}
 use Rattle.std.specs.BTreeSet as tree
 use Rattle.std.specs.HashMap as hash
 use Rattle.std.specs.HashMap.{HashMap}
@@ -12,6 +12,8 @@ use Rattle.pfs_addr_values.specs.declared.packets.FlowKey.{FlowKey}
 use Rattle.pfs_conf_values.specs.Configs.{Conf}
 use Rattle.pfs_store_contract.specs.Counts.{node_connections, node_scope_of, node_states}
 use Rattle.pfs_store_contract.specs.Plain.{AreCounts}
+use Rattle.pfs_store_contract.specs.Worlds.{inner_key}
+use Rattle.pfs_store_contract.specs.declared.records.Found.{Found}
 use Rattle.pfs_store_contract.specs.declared.records.State.{State}
 use Rattle.pfs_store_records.specs.Records.{Placed, states_of}
 use Rattle.pfs_store_records.specs.declared.nodes.Tally.{Tally}
@@ -29,9 +31,29 @@ has_key key p = same_key p.state.key key
 abbrev pub key_in : Placed → FlowKey
 key_in p = p.state.key
 
--- what the index by key has of a record
+-- this is the inner key, where it is another than that on the wire
+abbrev pub is_inner : FlowKey → Option FlowKey → Bool
+is_inner key None = false
+is_inner key (Some inner) = same_key inner key
+
+-- a record has this key inside, and another on the wire
+abbrev pub has_apart : FlowKey → Placed → Bool
+has_apart key p = is_inner key p.state.inner
+
+-- a record has this key inside
+abbrev pub has_inside : FlowKey → Placed → Bool
+has_inside key p = same_key (inner_key p.state) key
+
+abbrev pub inner_in : Placed → FlowKey
+inner_in p = inner_key p.state
+
+-- what the indexes by key have of a record
 abbrev pub entry_of : Placed → Entry
 entry_of p = record { number = p.state.number; rule = p.state.rule; place = p.place }
+
+-- what was found, by it
+abbrev pub found_of : Entry → Found
+found_of e = record { number = record { 0 = e.number }; rule = e.rule; place = e.place }
 
 -- ---- the counts of nodes
 
@@ -52,9 +74,11 @@ abbrev pub HasRule : ℕ → State → Type 0
 HasRule count s = s.rule.0 < count
 
 -- each index and each count is that of the records
-pub record IsTied {S : Type 0} (conf : Conf) (records : List Placed) (keys : HashMap FlowKey Entry S) (counts : List ℕ) (tallies : List Tally) (filing : Filing) : Type 0 where
+pub record IsTied {S : Type 0} (conf : Conf) (records : List Placed) (keys insides : HashMap FlowKey Entry S) (counts : List ℕ) (tallies : List Tally) (filing : Filing) : Type 0 where
   pub by_key : (key : FlowKey) → hash.get same_key keys key ≡ option_map entry_of (find (has_key key) records)
+  pub by_inner : (key : FlowKey) → hash.get same_key insides key ≡ option_map entry_of (find (has_apart key) records)
   pub distinct : IsDistinct same_key (map key_in records)
+  pub distinct_inside : IsDistinct same_key (map inner_in records)
   pub by_rule : AreCounts counts (states_of records)
   pub size : length counts ≡ length conf.items
   pub ruled : AllByRecursion (HasRule (length counts)) (states_of records)

@@ -74,7 +74,7 @@ fn strike<S: BuildHasher>(
     let profile = indexes.profile();
     let state = indexes.read(number, meter);
     if is_flushed(profile, &what, &state) {
-        indexes.take_out(state, now);
+        indexes.take_out(&state, now);
     }
 }
 

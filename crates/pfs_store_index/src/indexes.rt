@@ -2,20 +2,21 @@
 
 ghost use Rattle.std.specs.Prelude.{◌≡◌, ◌+◌, ◌-◌, ◌<◌, ◌≤◌, ◌^◌, ◌==◌, ◌||◌, ◌++◌, ◌∷◌, [], IfOk, IfSome, IsSome, None, OnErr, OnOk, Some, false, filter, is_some, length, map, not, option_map, slice_get, true, ℕ};
 ghost use Rattle.std.specs.List.{AllByRecursion, find};
+ghost use Rattle.std.specs.Option.{option_and_then};
 ghost use Rattle.indexmap.specs.IndexMap.{get};
-ghost use Rattle.pfs_addr_values.specs.Keys.{key_of};
 ghost use Rattle.pfs_addr_values.specs.Packets.{run_limit};
 ghost use Rattle.pfs_addr_values.specs.Sameness.{same_key};
 ghost use Rattle.pfs_conf_values.specs.Configs.{options_at};
 ghost use Rattle.pfs_store_contract.specs.Admission.{new_node, nodes_with};
 ghost use Rattle.pfs_store_contract.specs.Counts.{half_open, has_node, node_scope_of, node_states, rule_states, scope_nodes};
 ghost use Rattle.pfs_store_contract.specs.Leaving.{is_beside, node_after_leaving};
-ghost use Rattle.pfs_store_contract.specs.Calls.{other_than, told_at, touch_of, state_number, state_rule};
+ghost use Rattle.pfs_store_contract.specs.Calls.{onward_key, other_than, told_at, touch_of, state_number, state_rule};
 ghost use Rattle.pfs_store_contract.specs.Plain.{AreCounts};
 ghost use Rattle.pfs_store_contract.specs.Purging.{is_over, node_numbers, state_numbers};
 ghost use Rattle.pfs_store_contract.specs.Quiet.{NodeStays};
 ghost use Rattle.pfs_store_contract.specs.Touching.{completes_at, nodes_touched, numbered_state_after};
-ghost use Rattle.pfs_store_contract.specs.Worlds.{IsUpToNow, holds_number, lists, state_with};
+ghost use Rattle.pfs_store_contract.specs.Worlds.{IsUpToNow, holds_number, inner_key, lists, state_inside, state_with};
+ghost use Rattle.pfs_store_records.specs.Aside.{rekeyed};
 ghost use Rattle.pfs_store_records.specs.Changes.{IsScope};
 ghost use Rattle.pfs_store_records.specs.Records.{IsAbove, IsRising, between, placed_at, states_of};
 ghost use Rattle.pfs_store_records.specs.Sourced.{IsSourced};
@@ -23,9 +24,10 @@ ghost use Rattle.pfs_store_records.specs.Tallies.{nodes_of};
 ghost use Rattle.pfs_store_records.specs.Walks.{IsPassing, StopsWalkAt, looks_of};
 ghost use Rattle.pfs_store_index.specs.Holdings.{IsUncompleted, is_reached};
 ghost use Rattle.pfs_store_index.specs.Rounds.{waiting_of, waiting};
-ghost use Rattle.pfs_store_index.specs.Ties.{HasRule, entry_of};
+ghost use Rattle.pfs_store_index.specs.Ties.{HasRule, entry_of, found_of, has_inside};
 
 use crate::filing::Filing;
+use crate::insides;
 use crate::placing::place;
 use crate::rounds::next_between;
 use crate::sources::Source;
@@ -34,7 +36,7 @@ use indexmap::IndexMap;
 use pfs_addr_values::{Addr, Dir, FlowKey, Meter, NoMemory, Packet};
 use pfs_conf_values::{Config, Profile, RuleNo};
 use pfs_store_contract::{Found, Node, NodeScope, State, StateNo, Touched};
-use pfs_store_records::{Nodes, Passed, Records, Round, Sought, Tally, leave, meet};
+use pfs_store_records::{Kept, Nodes, Passed, Records, Round, Sought, Tally, leave, meet};
 use pfs_store_rules::node_scope;
 use pfs_track::Score;
 use std::alloc::{AllocError, Global};
@@ -42,19 +44,12 @@ use std::hash::BuildHasher;
 use std::marker::Model;
 use std::ops::Bound;
 
-/// What the index by key has of a state: its number, its rule, and the place of its record. It takes 12 bytes.
+/// What the indexes by key have of a state: its number, its rule, and the place of its record. It takes 12 bytes.
 #[derive(Clone, Copy)]
 pub(crate) struct Entry {
     pub(crate) number: u32,
     pub(crate) rule: RuleNo,
     pub(crate) place: u32,
-}
-
-/// A state before its packet, and what is reported of the packet.
-#[derive(Clone, Copy)]
-pub(crate) struct Renewed {
-    pub(crate) before: State,
-    pub(crate) touched: Touched,
 }
 
 /// The states and the source nodes that are held for a configuration, with what finds and counts them. Callers see them as
@@ -64,6 +59,7 @@ pub(crate) struct Indexes<S: BuildHasher> {
     config: Config,
     records: Records,
     keys: IndexMap<Sought, Entry, S>,
+    insides: IndexMap<Sought, Entry, S>,
     counts: Vec<u64>,
     nodes: Nodes<S>,
     filing: Filing,
@@ -79,15 +75,16 @@ impl<S: BuildHasher> Model for Indexes<S> {
 
     ghost view = { λ x. record { config = x.config; states = states_of x.records; nodes = nodes_of x.nodes; records = x.records } };
 
-    ghost invariant = { λ x. IsTied x.config x.records x.keys x.counts.items x.nodes x.filing };
+    ghost invariant = { λ x. IsTied x.config x.records x.keys x.insides x.counts.items x.nodes x.filing };
 }
 
 impl<S: BuildHasher> Indexes<S> {
-    /// Nothing is held. The index by key hashes with the first hasher, and that of the nodes with the second.
+    /// Nothing is held. The indexes by key hash with the first hasher, and that of the nodes with the second.
     pub(crate) fn new(
         alloc: Global,
         config: Config,
         by_key: S,
+        by_inner: S,
         by_source: S,
     ) -> Result<Indexes<S>, AllocError>
     where
@@ -99,6 +96,7 @@ impl<S: BuildHasher> Indexes<S> {
             config,
             records: Records::new(alloc),
             keys: IndexMap::with_hasher(alloc, by_key),
+            insides: IndexMap::with_hasher(alloc, by_inner),
             counts,
             nodes: Nodes::new(alloc, by_source),
             filing: Filing::new(alloc),
@@ -175,20 +173,58 @@ impl<S: BuildHasher> Indexes<S> {
         self.nodes.stateless() == 0
     }
 
-    /// The state that has a key: one search.
+    /// The state that has a key on the wire: one search.
     pub(crate) fn find(&self, key: &FlowKey) -> Option<Found>
         ensures number { option_map (λ f. f.number) result ≡ option_map state_number (state_with key.now (lists self.now.states [] [] [] 0)) }
         ensures rule { option_map (λ f. f.rule) result ≡ option_map state_rule (state_with key.now (lists self.now.states [] [] [] 0)) }
         ensures reached { IfSome result (λ f. is_reached self.now.records f ≡ true) }
     {
         match entry_at(&self.keys, key) {
-            Some(entry) => Some(Found {
-                number: StateNo(u64::from(entry.number)),
-                rule: entry.rule,
-                place: entry.place,
-            }),
+            Some(entry) => Some(found_of(entry)),
             None => None,
         }
+    }
+
+    /// The state that has a key inside: one search where no state's keys are apart.
+    pub(crate) fn find_inside(&self, key: &FlowKey) -> Option<Found>
+        ensures number { option_map (λ f. f.number) result ≡ option_map state_number (state_inside key.now (lists self.now.states [] [] [] 0)) }
+        ensures rule { option_map (λ f. f.rule) result ≡ option_map state_rule (state_inside key.now (lists self.now.states [] [] [] 0)) }
+        ensures reached { IfSome result (λ f. is_reached self.now.records f ≡ true) }
+    {
+        // This call shows the records to the proof.
+        self.records.numbers_rise();
+        match self.entry_inside(key) {
+            Some(entry) => Some(found_of(entry)),
+            None => None,
+        }
+    }
+
+    /// What the indexes by key have of the state that has a key inside: of one whose keys are apart, or else of one that has the key
+    /// on the wire too.
+    fn entry_inside(&self, key: &FlowKey) -> Option<Entry>
+        ensures { result ≡ option_map entry_of (find (has_inside key.now) self.now.records) }
+    {
+        self.records.numbers_rise();
+        if self.insides.is_empty() {
+            return entry_at(&self.keys, key);
+        }
+        if let Some(entry) = entry_at(&self.insides, key) {
+            return Some(entry);
+        }
+        match entry_at(&self.keys, key) {
+            Some(entry) => match self.records.onward_key(u64::from(entry.number), Dir::In) {
+                Some(_) => None,
+                None => Some(entry),
+            },
+            None => None,
+        }
+    }
+
+    /// The key with which packets of a direction go on of the state of a number, where it is another than that with which they come.
+    pub(crate) fn onward_key(&self, number: u64, dir: Dir) -> Option<FlowKey>
+        ensures { result ≡ option_and_then (onward_key dir) (find (λ s. s.number == number) self.now.states) }
+    {
+        self.records.onward_key(number, dir)
     }
 
     /// How many states a rule has that keeps state.
@@ -283,6 +319,17 @@ impl<S: BuildHasher> Indexes<S> {
         self.records.read(number, meter)
     }
 
+    /// The record of the state that was found, which has all of it but its keys: one look, and no search.
+    pub(crate) fn record(&self, found: Found, meter: &mut Meter) -> &Kept
+        requires reached { is_reached self.now.records found ≡ true }
+        requires room { meter.old < 2 ^ 64 - 1 }
+        ensures value { option_map (rekeyed result.now) (find (λ s. s.number == found.number.0) self.now.states) ≡ Some result.now }
+        ensures looks { meter.new ≡ meter.old + 1 }
+    {
+        self.records.numbers_rise();
+        self.records.record_at(found.place, meter)
+    }
+
     /// The record of the state that was found: one look, and no search.
     pub(crate) fn read_found(&self, found: Found, meter: &mut Meter) -> State
         requires reached { is_reached self.now.records found ≡ true }
@@ -297,19 +344,20 @@ impl<S: BuildHasher> Indexes<S> {
 
     /// A state comes, and with it the node of its source where its rule tracks sources and the source has none.
     /// `NoMemory` where memory for them is refused; nothing changes then.
-    pub(crate) fn put(&mut self, state: State) -> Result<(), NoMemory>
-        requires above { IsAbove state.number (state_numbers self.old.states) }
-        requires nodes_above { IsAbove state.number (node_numbers self.old.nodes) }
-        requires fresh { state_with state.key (lists self.old.states [] [] [] 0) ≡ None }
-        requires rule { IsSome (options_at self.old.config state.rule.0) }
-        requires phase { IsUncompleted state }
-        requires sourced { IsSourced state }
-        requires small { state.number < 2 ^ 32 }
+    pub(crate) fn put(&mut self, state: &State) -> Result<(), NoMemory>
+        requires above { IsAbove state.now.number (state_numbers self.old.states) }
+        requires nodes_above { IsAbove state.now.number (node_numbers self.old.nodes) }
+        requires fresh { state_with state.now.key (lists self.old.states [] [] [] 0) ≡ None }
+        requires fresh_inside { state_inside (inner_key state.now) (lists self.old.states [] [] [] 0) ≡ None }
+        requires rule { IsSome (options_at self.old.config state.now.rule.0) }
+        requires phase { IsUncompleted state.now }
+        requires sourced { IsSourced state.now }
+        requires small { state.now.number < 2 ^ 32 }
         requires few { length self.old.states ≤ run_limit }
         ensures config { self.new.config ≡ self.old.config }
-        ensures states { OnOk result (self.new.states ≡ self.old.states ++ state ∷ []) }
+        ensures states { OnOk result (self.new.states ≡ self.old.states ++ state.now ∷ []) }
         ensures nodes { OnOk result (self.new.nodes
-            ≡ nodes_with self.old.nodes state.number state.source state.last (node_scope_of self.old.config state.rule.0)) }
+            ≡ nodes_with self.old.nodes state.now.number state.now.source state.now.last (node_scope_of self.old.config state.now.rule.0)) }
         ensures err { OnErr result (self.new ≡ self.old) }
     {
         let rule = state.rule.0 as usize;
@@ -318,6 +366,7 @@ impl<S: BuildHasher> Indexes<S> {
         if self.keys.reserve(1).is_err() {
             return Err(NoMemory);
         }
+        insides::make_room(&mut self.insides, state)?;
         let spot = place(
             &mut self.records,
             &mut self.filing,
@@ -328,7 +377,8 @@ impl<S: BuildHasher> Indexes<S> {
         )?;
         self.counts[rule] += 1;
         let key = Sought { key: state.key };
-        let entry = entry_of(&state, spot);
+        let entry = entry_of(state, spot);
+        insides::insert(&mut self.insides, state, entry);
         match self.keys.insert(key, entry) {
             Ok(_) => Ok(()),
             Err(_) => unreachable!(),
@@ -365,8 +415,8 @@ impl<S: BuildHasher> Indexes<S> {
         })
     }
 
-    /// Takes a packet of the state that was found by its key: one look, and no search by key. What the source's node has is told
-    /// where the handshake completes, and where it is asked for.
+    /// Takes a packet of the state that was found: one look, and no search. What the source's node has is told where the handshake
+    /// completes, and where it is asked for.
     pub(crate) fn renew(
         &mut self,
         found: Found,
@@ -374,67 +424,65 @@ impl<S: BuildHasher> Indexes<S> {
         asked: bool,
         now: u64,
         meter: &mut Meter,
-    ) -> Renewed
-        requires held { option_map state_number (state_with (key_of packet.now) (lists self.old.states [] [] [] 0)) ≡ Some found.number }
+    ) -> Touched
         requires reached { is_reached self.old.records found ≡ true }
         requires order { IsUpToNow now (lists [] self.old.nodes [] [] 0) }
         requires few { length self.old.states ≤ run_limit }
         requires room { meter.old < 2 ^ 64 - 1 }
-        ensures before { state_with (key_of packet.now) (lists self.old.states [] [] [] 0) ≡ Some result.before }
-        ensures states { self.new.states ≡ map (numbered_state_after result.before.number packet.now now) self.old.states }
-        ensures nodes { self.new.nodes
-            ≡ nodes_touched self.old.config self.old.nodes result.before now (completes_at packet.now result.before) }
-        ensures told { result.touched ≡ told_at (asked || completes_at packet.now result.before)
-            (touch_of self.old.config (lists self.old.states self.old.nodes [] [] 0) packet.now now result.before) }
+        ensures states { self.new.states ≡ map (numbered_state_after found.number.0 packet.now now) self.old.states }
+        ensures nodes { Some self.new.nodes
+            ≡ option_map (λ s. nodes_touched self.old.config self.old.nodes s now (completes_at packet.now s)) (find (λ s. s.number == found.number.0) self.old.states) }
+        ensures told { Some result ≡ option_map (λ s. told_at (asked || completes_at packet.now s)
+            (touch_of self.old.config (lists self.old.states self.old.nodes [] [] 0) packet.now now s)) (find (λ s. s.number == found.number.0) self.old.states) }
         ensures reached { is_reached self.new.records found ≡ true }
         ensures config { self.new.config ≡ self.old.config }
         ensures looks { meter.new ≡ meter.old + 1 }
     {
         self.records.numbers_rise();
-        let state = self.records.read_at(found.place, meter);
-        let step = stepped(&state, packet, now);
-        self.records.write_at(found.place, step.after);
+        let kept = self.records.record_at(found.place, meter);
+        let (rule, source, dir, tag) = (kept.rule(), kept.source(), kept.dir(), kept.tag());
+        let step = stepped(kept, packet, now);
+        self.records.renew_at(found.place, step.phase, step.last);
         let met = meet(
             &self.config,
             &mut self.nodes,
-            &state,
+            rule,
+            source,
             step.completed,
             asked,
             now,
         );
-        Renewed {
-            before: state,
-            touched: Touched {
-                rule: state.rule,
-                source: state.source,
-                dir: state.dir,
-                completed: step.completed,
-                taken: step.taken,
-                asks: step.asks,
-                tag: state.tag,
-                connections: met.connections,
-                score: met.score,
-            },
+        Touched {
+            rule,
+            source,
+            dir,
+            completed: step.completed,
+            taken: step.taken,
+            asks: step.asks,
+            tag,
+            connections: met.connections,
+            score: met.score,
         }
     }
 
     /// A state leaves. Its node, where it was the last, is kept for its retention from now on.
-    pub(crate) fn take_out(&mut self, state: State, now: u64)
+    pub(crate) fn take_out(&mut self, state: &State, now: u64)
         requires moment { now ≤ 2 ^ 63 }
-        requires held { find (λ s. s.number == state.number) self.old.states ≡ Some state }
-        requires small { state.number < 2 ^ 32 }
+        requires held { find (λ s. s.number == state.now.number) self.old.states ≡ Some state.now }
+        requires small { state.now.number < 2 ^ 32 }
         ensures config { self.new.config ≡ self.old.config }
-        ensures states { self.new.states ≡ filter (other_than state.number) self.old.states }
+        ensures states { self.new.states ≡ filter (other_than state.now.number) self.old.states }
         ensures nodes { self.new.nodes
-            ≡ map (node_after_leaving self.old.config self.old.states (filter (other_than state.number) self.old.states) now) self.old.nodes }
+            ≡ map (node_after_leaving self.old.config self.old.states (filter (other_than state.now.number) self.old.states) now) self.old.nodes }
     {
         self.records.numbers_rise();
         let rule = state.rule.0 as usize;
         let scope = node_scope(&self.config, state.rule);
         self.keys.swap_remove(&Sought { key: state.key });
-        self.filing.remove(self.config.profile(), &state);
+        insides::remove(&mut self.insides, state);
+        self.filing.remove(self.config.profile(), state);
         self.counts[rule] -= 1;
-        leave(&self.config, &mut self.nodes, scope, &state, now);
+        leave(&self.config, &mut self.nodes, scope, state, now);
         self.records.remove(state.number);
     }
 
@@ -451,14 +499,25 @@ impl<S: BuildHasher> Indexes<S> {
     }
 }
 
-/// What the index by key has of a key.
+/// What was found, by what an index by key has of it.
+fn found_of(entry: Entry) -> Found
+    ensures { result ≡ found_of entry }
+{
+    Found {
+        number: StateNo(u64::from(entry.number)),
+        rule: entry.rule,
+        place: entry.place,
+    }
+}
+
+/// What an index by key has of a key.
 fn entry_at<S: BuildHasher>(keys: &IndexMap<Sought, Entry, S>, key: &FlowKey) -> Option<Entry>
     ensures { result ≡ get same_key keys.now key.now }
 {
     keys.get(&Sought { key: *key }).copied()
 }
 
-/// What the index by key has of a state whose record is at this place.
+/// What the indexes by key have of a state whose record is at this place.
 fn entry_of(state: &State, place: u32) -> Entry
     requires { state.now.number < 2 ^ 32 }
     ensures { result ≡ entry_of (placed_at place state.now) }

@@ -61,6 +61,6 @@ fn strike<S: BuildHasher>(
     indexes.state_numbers_rise();
     let state = indexes.read(number, meter);
     if hosts.is_of(&state) {
-        indexes.take_out(state, now);
+        indexes.take_out(&state, now);
     }
 }

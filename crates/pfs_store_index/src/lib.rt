@@ -6,6 +6,7 @@ mod expiring;
 mod filing;
 mod flushing;
 mod indexes;
+mod insides;
 mod killing;
 mod laws;
 mod limits;

@@ -25,36 +25,36 @@ pub(crate) fn place<S: BuildHasher>(
     records: &mut Records,
     filing: &mut Filing,
     nodes: &mut Nodes<S>,
-    state: State,
+    state: &State,
     scope: Option<NodeScope>,
     profile: Profile,
 ) -> Result<u32, NoMemory>
     requires few { AllByRecursion IsFew nodes.old }
-    requires above { IsAbove state.number (state_numbers (states_of records.old)) }
-    requires nodes_above { IsAbove state.number (node_numbers (nodes_of nodes.old)) }
-    requires sourced { IsSourced state }
-    requires small { state.number < 2 ^ 32 }
-    requires absent { (dir : Dir) → IsAddr (filed_under profile dir state) →
-        contains pair_cmp (pairs_on profile dir filing.old) (ordered_source (filed_under profile dir state), state.number) ≡ false }
-    ensures records { IfOk result (λ place. records.new ≡ records.old ++ placed_at place state ∷ []) }
-    ensures filed { OnOk result (HasFiled profile state filing.old filing.new) }
-    ensures nodes { OnOk result (nodes.new ≡ tallies_with_state scope state nodes.old) }
-    ensures addr { (dir : Dir) → IsAddr (filed_under profile dir state) }
+    requires above { IsAbove state.now.number (state_numbers (states_of records.old)) }
+    requires nodes_above { IsAbove state.now.number (node_numbers (nodes_of nodes.old)) }
+    requires sourced { IsSourced state.now }
+    requires small { state.now.number < 2 ^ 32 }
+    requires absent { (dir : Dir) → IsAddr (filed_under profile dir state.now) →
+        contains pair_cmp (pairs_on profile dir filing.old) (ordered_source (filed_under profile dir state.now), state.now.number) ≡ false }
+    ensures records { IfOk result (λ place. records.new ≡ records.old ++ placed_at place state.now ∷ []) }
+    ensures filed { OnOk result (HasFiled profile state.now filing.old filing.new) }
+    ensures nodes { OnOk result (nodes.new ≡ tallies_with_state scope state.now nodes.old) }
+    ensures addr { (dir : Dir) → IsAddr (filed_under profile dir state.now) }
     ensures same_records { OnErr result (records.new ≡ records.old) }
     ensures same_filed { OnErr result (SameFiled profile filing.old filing.new) }
     ensures same_nodes { OnErr result (nodes.new ≡ nodes.old) }
 {
-    match filing.insert(profile, &state) {
+    match filing.insert(profile, state) {
         Err(_) => Err(NoMemory),
-        Ok(_) => match records.push(&state) {
+        Ok(_) => match records.push(state) {
             Err(_) => {
-                filing.remove(profile, &state);
+                filing.remove(profile, state);
                 Err(NoMemory)
             }
-            Ok(place) => match join(nodes, scope, &state) {
+            Ok(place) => match join(nodes, scope, state) {
                 Err(_) => {
                     records.remove(state.number);
-                    filing.remove(profile, &state);
+                    filing.remove(profile, state);
                     Err(NoMemory)
                 }
                 Ok(_) => Ok(place),

@@ -208,7 +208,7 @@ fn examine<S: BuildHasher>(
     match walk.leaver {
         Some(state) => {
             let cursor = state.number;
-            indexes.take_out(state, now);
+            indexes.take_out(&state, now);
             Stretch {
                 cursor,
                 examined: stayed + 1,

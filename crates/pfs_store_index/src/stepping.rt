@@ -3,10 +3,12 @@
 ghost use Rattle.std.specs.Prelude.{◌≡◌};
 ghost use Rattle.pfs_store_contract.specs.Admission.{new_phase};
 ghost use Rattle.pfs_store_contract.specs.Touching.{completes_at, goes_forward, is_asking, is_taken, state_after_packet};
+ghost use Rattle.pfs_store_records.specs.Records.{renewed};
 
 use pfs_addr_values::Packet;
 use pfs_conf_values::{Config, RuleNo};
-use pfs_store_contract::{State, is_answered};
+use pfs_store_contract::is_answered;
+use pfs_store_records::Kept;
 use pfs_track::StatePhase;
 
 /// The phase of the state that a packet makes at a rule: where pf answers the packet itself, one in which pf leads the handshakes.
@@ -24,42 +26,40 @@ pub(crate) fn new_phase(config: &Config, rule: RuleNo, packet: &Packet, cookie: 
     }
 }
 
-/// A state after a packet of it, whether its handshake completes with it, whether pf takes it itself, and whether it asks the
-/// other peer then.
+/// What a packet of a state makes of it: its phase and the moment of its last packet, whether its handshake completes, whether pf takes
+/// the packet itself, and whether it asks the other peer then.
 #[derive(Clone, Copy)]
 pub(crate) struct Step {
-    pub(crate) after: State,
+    pub(crate) phase: StatePhase,
+    pub(crate) last: u64,
     pub(crate) completed: bool,
     pub(crate) taken: bool,
     pub(crate) asks: bool,
 }
 
-/// What a packet of a state does.
-pub(crate) fn stepped(state: &State, packet: &Packet, now: u64) -> Step
-    ensures state { result.after ≡ state_after_packet packet.now now state.now }
-    ensures completes { result.completed ≡ completes_at packet.now state.now }
-    ensures taken { result.taken ≡ is_taken packet.now state.now }
-    ensures asks { result.asks ≡ is_asking packet.now state.now }
+/// What a packet of a state does, as the record of the state has it.
+pub(crate) fn stepped(kept: &Kept, packet: &Packet, now: u64) -> Step
+    ensures state { renewed result.phase result.last kept.now ≡ state_after_packet packet.now now kept.now }
+    ensures completes { result.completed ≡ completes_at packet.now kept.now }
+    ensures taken { result.taken ≡ is_taken packet.now kept.now }
+    ensures asks { result.asks ≡ is_asking packet.now kept.now }
 {
-    let forward = goes_forward(packet, state);
-    let taken = state.phase.takes(forward, packet.flags());
-    let asks = state.phase.asks_peer(forward, packet.flags());
-    let (phase, completed) = state.phase.step(forward, packet.flags());
-    let after = State {
-        phase,
-        last: if taken { state.last } else { now },
-        ..*state
-    };
+    let before = kept.phase();
+    let forward = goes_forward(packet, kept);
+    let taken = before.takes(forward, packet.flags());
+    let asks = before.asks_peer(forward, packet.flags());
+    let (phase, completed) = before.step(forward, packet.flags());
     Step {
-        after,
+        phase,
+        last: if taken { kept.last() } else { now },
         completed,
         taken,
         asks,
     }
 }
 
-fn goes_forward(packet: &Packet, state: &State) -> bool
-    ensures { result ≡ goes_forward packet.now state.now }
+fn goes_forward(packet: &Packet, kept: &Kept) -> bool
+    ensures { result ≡ goes_forward packet.now kept.now }
 {
-    packet.dir() == state.dir
+    packet.dir() == kept.dir()
 }

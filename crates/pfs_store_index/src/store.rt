@@ -1,13 +1,11 @@
 //! A store by indexes.
 
 ghost use Rattle.std.specs.Prelude.{◌≡◌, ◌+◌, ◌<◌, ◌≤◌, ◌^◌, ◌||◌, [], IfOk, IsOk, IsSome, None, Some, OnErr, OnOk, false, option_map, true};
-ghost use Rattle.pfs_addr_values.specs.Keys.{key_of};
 ghost use Rattle.pfs_addr_values.specs.Packets.{run_limit};
-ghost use Rattle.pfs_conf_values.specs.Configs.{options_at};
-ghost use Rattle.pfs_store_contract.specs.Admission.{leaves_node, world_after_admission, world_after_refusal};
-ghost use Rattle.pfs_store_contract.specs.Calls.{state_number, told_at, touch_of, world_touched};
+ghost use Rattle.pfs_store_contract.specs.Admission.{leaves_node, world_after_refusal};
+ghost use Rattle.pfs_store_contract.specs.Calls.{told_at, touch_of, world_touched};
 ghost use Rattle.pfs_store_contract.specs.Touching.{completes_at};
-ghost use Rattle.pfs_store_contract.specs.Worlds.{IsUpToNow, empty_world, state_with};
+ghost use Rattle.pfs_store_contract.specs.Worlds.{IsUpToNow, empty_world, holds_number, state_numbered};
 ghost use Rattle.pfs_store_index.specs.Holdings.{is_reached};
 
 use crate::expiring::counted_rules;
@@ -22,6 +20,7 @@ use pfs_addr_values::{Addr, Dir, FlowKey, Meter, NoMemory, Packet};
 use pfs_conf_values::{Config, LimitName, RuleNo, RulesHasher};
 use pfs_store_contract::{
     Found, FromTo, Limit, Slice, State, StateNo, Staying, Store, Touched, Watched,
+    apart, inner_key, wire_key,
 };
 use pfs_store_records::Round;
 use std::alloc::Global;
@@ -61,24 +60,25 @@ impl<S: BuildHasher> Model for IndexStore<S> {
 }
 
 impl IndexStore {
-    /// An empty store, made for this configuration, of which it keeps a copy. Both its hashes, of keys and of source
+    /// An empty store, made for this configuration, of which it keeps a copy. Its hashes, of keys and of source
     /// nodes, begin with all that the configuration says (`RulesHasher`). `NoMemory` where memory for the copy is
     /// refused.
     pub fn new(alloc: Global, config: &Config) -> Result<IndexStore, NoMemory>
         ensures { IfOk result (λ s. s ≡ record { config = config.now; world = empty_world; records = [] }) }
     {
         let hasher = config.hasher();
-        IndexStore::with_hashers(alloc, config, hasher, hasher)
+        IndexStore::with_hashers(alloc, config, hasher, hasher, hasher)
     }
 }
 
 impl<S: BuildHasher> IndexStore<S> {
-    /// An empty store as `new` makes it, but with other hashers: the index by key has the first of these, and that
-    /// of the source nodes the second.
+    /// An empty store as `new` makes it, but with other hashers: the index by the key on the wire has the first of these, that by the
+    /// key inside the second, and that of the source nodes the third.
     pub fn with_hashers(
         alloc: Global,
         config: &Config,
         by_key: S,
+        by_inner: S,
         by_source: S,
     ) -> Result<IndexStore<S>, NoMemory>
     where
@@ -87,54 +87,12 @@ impl<S: BuildHasher> IndexStore<S> {
     {
         let counts = vec![in alloc; 0; counted_rules(config)]?;
         Ok(IndexStore {
-            indexes: Indexes::new(alloc, config.copy()?, by_key, by_source)?,
+            indexes: Indexes::new(alloc, config.copy()?, by_key, by_inner, by_source)?,
             made: 0,
             states_round: Round { cursor: 0, mark: 0 },
             nodes_round: Round { cursor: 0, mark: 0 },
             counts,
         })
-    }
-}
-
-impl<S: BuildHasher> IndexStore<S> {
-    /// Makes the state of a packet at a rule, which goes on as another, and with it the node of its source where it has none, whatever
-    /// limits they meet.
-    fn make(
-        &mut self,
-        packet: &Packet,
-        going: &Packet,
-        rule: RuleNo,
-        cookie: bool,
-        now: u64,
-    ) -> Result<StateNo, NoMemory>
-        requires fresh { state_with (key_of packet.now) self.old.world ≡ None }
-        requires keeps { IsSome (options_at self.old.config rule.0) }
-        requires room { self.old.world.made < run_limit }
-        ensures number { IfOk result (λ n. n.0 ≡ self.old.world.made + 1) }
-        ensures ok { OnOk result (self.new.world ≡ world_after_admission self.old.config self.old.world packet.now going.now rule.0 cookie now) }
-        ensures err { OnErr result (self.new.world ≡ self.old.world) }
-        ensures config { self.new.config ≡ self.old.config }
-    {
-        let source = packet.src();
-        self.indexes.state_numbers_rise();
-        let number = self.made + 1;
-        let state = State {
-            number,
-            key: FlowKey::of(packet),
-            dir: packet.dir(),
-            source,
-            rule,
-            phase: new_phase(self.indexes.config(), rule, packet, cookie),
-            last: now,
-            tag: going.tag(),
-        };
-        match self.indexes.put(state) {
-            Ok(()) => {
-                self.made = number;
-                Ok(StateNo(number))
-            }
-            Err(_) => Err(NoMemory),
-        }
     }
 }
 
@@ -162,8 +120,8 @@ impl<S: BuildHasher> IndexStore<S> {
 }
 
 impl<S: BuildHasher> IndexStore<S> {
-    /// Takes a packet of the state that was found by its key. What the source's node has is told where the handshake completes,
-    /// and where it is asked for.
+    /// Takes a packet of the state that was found. What the source's node has is told where the handshake completes, and where it is
+    /// asked for.
     fn take(
         &mut self,
         found: Found,
@@ -172,20 +130,20 @@ impl<S: BuildHasher> IndexStore<S> {
         now: u64,
         meter: &mut Meter,
     ) -> Touched
-        requires held { option_map state_number (state_with (key_of packet.now) self.old.world) ≡ Some found.number }
+        requires held { holds_number self.old.world.states found.number.0 ≡ true }
         requires reached { is_reached self.old.records found ≡ true }
         requires order { IsUpToNow now self.old.world }
         requires meter { meter.old ≤ 2 ^ 63 }
         ensures answer { Some result
-            ≡ option_map (λ s. told_at (asked || completes_at packet.now s) (touch_of self.old.config self.old.world packet.now now s)) (state_with (key_of packet.now) self.old.world) }
+            ≡ option_map (λ s. told_at (asked || completes_at packet.now s) (touch_of self.old.config self.old.world packet.now now s)) (state_numbered found.number.0 self.old.world) }
         ensures world { self.new.world
-            ≡ world_touched self.old.config self.old.world packet.now now (state_with (key_of packet.now) self.old.world) }
+            ≡ world_touched self.old.config self.old.world packet.now now (state_numbered found.number.0 self.old.world) }
         ensures reached { is_reached self.new.records found ≡ true }
         ensures looks { meter.new ≡ meter.old + 1 }
         ensures config { self.new.config ≡ self.old.config }
     {
         self.indexes.state_numbers_rise();
-        self.indexes.renew(found, packet, asked, now, meter).touched
+        self.indexes.renew(found, packet, asked, now, meter)
     }
 }
 
@@ -200,6 +158,14 @@ impl<S: BuildHasher> Store for IndexStore<S> {
 
     fn find(&self, key: &FlowKey) -> Option<Found> {
         self.indexes.find(key)
+    }
+
+    fn find_inside(&self, key: &FlowKey) -> Option<Found> {
+        self.indexes.find_inside(key)
+    }
+
+    fn onward_key(&self, found: Found, dir: Dir) -> Option<FlowKey> {
+        self.indexes.onward_key(found.number.0, dir)
     }
 
     fn holds(&self, number: StateNo) -> bool {
@@ -226,23 +192,49 @@ impl<S: BuildHasher> Store for IndexStore<S> {
         self.made
     }
 
-    fn admit(
+    fn meet_limit(
+        &mut self,
+        source: Addr,
+        rule: RuleNo,
+        now: u64,
+    ) -> Result<Option<Limit>, NoMemory> {
+        match limit_met(&self.indexes, rule, source) {
+            Some(limit) => match self.refuse(limit, source, rule, now) {
+                Ok(()) => Ok(Some(limit)),
+                Err(refused) => Err(refused),
+            },
+            None => Ok(None),
+        }
+    }
+
+    fn make(
         &mut self,
         packet: &Packet,
         going: &Packet,
         rule: RuleNo,
         cookie: bool,
         now: u64,
-    ) -> Result<Result<StateNo, Limit>, NoMemory> {
-        match limit_met(&self.indexes, rule, packet.src()) {
-            Some(limit) => match self.refuse(limit, packet.src(), rule, now) {
-                Ok(()) => Ok(Err(limit)),
-                Err(refused) => Err(refused),
-            },
-            None => match self.make(packet, going, rule, cookie, now) {
-                Ok(number) => Ok(Ok(number)),
-                Err(refused) => Err(refused),
-            },
+    ) -> Result<StateNo, NoMemory> {
+        self.indexes.state_numbers_rise();
+        let number = self.made + 1;
+        let key = wire_key(packet, going);
+        let state = State {
+            number,
+            key,
+            inner: apart(&key, &inner_key(packet, going)),
+            dir: packet.dir(),
+            source: packet.src(),
+            rule,
+            phase: new_phase(self.indexes.config(), rule, packet, cookie),
+            last: now,
+            tag: going.tag(),
+        };
+        match self.indexes.put(&state) {
+            Ok(()) => {
+                self.made = number;
+                Ok(StateNo(number))
+            }
+            Err(_) => Err(NoMemory),
         }
     }
 
@@ -254,15 +246,15 @@ impl<S: BuildHasher> Store for IndexStore<S> {
         self.take(found, packet, false, now, meter)
     }
 
-    fn has_closed(&self, found: Found, _key: &FlowKey, meter: &mut Meter) -> bool {
+    fn has_closed(&self, found: Found, meter: &mut Meter) -> bool {
         self.indexes.state_numbers_rise();
-        self.indexes.read_found(found, meter).phase.has_closed()
+        self.indexes.record(found, meter).phase().has_closed()
     }
 
     fn kill(&mut self, found: Found, now: u64, meter: &mut Meter) {
         self.indexes.state_numbers_rise();
         let state = self.indexes.read_found(found, meter);
-        self.indexes.take_out(state, now);
+        self.indexes.take_out(&state, now);
     }
 
     fn flush(

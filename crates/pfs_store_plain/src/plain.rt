@@ -1,10 +1,9 @@
 //! A store over plain lists.
 
-ghost use Rattle.std.specs.Prelude.{◌≡◌, ◌+◌, ◌<◌, ◌≤◌, ◌^◌, [], ◌∷◌, ◌++◌, false, true, IfOk, IsOk, IsSome, None, OnErr, OnOk, length, vec_capacity};
+ghost use Rattle.std.specs.Prelude.{◌≡◌, ◌+◌, ◌<◌, ◌≤◌, ◌^◌, [], ◌∷◌, ◌++◌, false, true, IfOk, IsOk, IsSome, None, OnErr, OnOk, length, option_map, vec_capacity};
 ghost use Rattle.pfs_addr_values.specs.Packets.{run_limit};
-ghost use Rattle.pfs_conf_values.specs.Configs.{options_at};
 ghost use Rattle.pfs_store_contract.specs.Admission.{leaves_node, new_phase, nodes_with, world_after_admission, world_after_refusal};
-ghost use Rattle.pfs_store_contract.specs.Calls.{packet_limit};
+ghost use Rattle.pfs_store_contract.specs.Calls.{state_number, state_rule};
 ghost use Rattle.pfs_store_plain.specs.Rooms.{AreScores};
 ghost use Rattle.pfs_store_contract.specs.Worlds.{empty_world};
 
@@ -12,11 +11,12 @@ use crate::counts::{HalfOpen, count, has_node};
 use crate::leaving::{Elsewhere, Flushed, Going, OtherThan, Unflushed, holds_number, leave};
 use crate::limits::limit_met;
 use crate::purging::{slice_nodes, slice_states};
-use crate::touching::{self, state_with};
+use crate::touching::{self, state_inside, state_numbered, state_with};
 use pfs_addr_values::{Addr, Dir, FlowKey, Meter, NoMemory, Packet};
 use pfs_conf_values::{Config, RuleNo};
 use pfs_store_contract::{
-    Found, FromTo, Limit, Node, NodeScope, Slice, State, StateNo, Store, Touched, is_answered,
+    Found, FromTo, Limit, Node, NodeScope, Slice, State, StateNo, Store, Touched, apart,
+    inner_key, is_answered, wire_key,
 };
 use pfs_store_rules::node_scope;
 use pfs_track::{Score, StatePhase};
@@ -67,14 +67,6 @@ impl PlainStore {
         })
     }
 
-    /// The first limit that a packet meets at a rule.
-    fn limit_for(&self, packet: &Packet, rule: RuleNo) -> Option<Limit>
-        requires { IsSome (options_at self.now.config rule.0) }
-        ensures { result ≡ packet_limit self.now.config self.now.world packet.now rule.0 }
-    {
-        limit_met(&self.config, &self.states, &self.nodes, rule, packet.src())
-    }
-
     /// The state of a packet that meets no limit and goes on as another, and its source's node.
     fn place(
         &mut self,
@@ -99,9 +91,11 @@ impl PlainStore {
         let number = self.made + 1;
         let source = packet.src();
         add_node(&mut self.nodes, number, source, now, scope);
+        let key = wire_key(packet, going);
         self.states.push_reserved(State {
             number,
-            key: FlowKey::of(packet),
+            key,
+            inner: apart(&key, &inner_key(packet, going)),
             dir: packet.dir(),
             source,
             rule,
@@ -161,12 +155,16 @@ impl Store for PlainStore {
     ghost reaches = { λ s found. true };
 
     fn find(&self, key: &FlowKey) -> Option<Found> {
-        match state_with(&self.states, key) {
-            Some(state) => Some(Found {
-                number: StateNo(state.number),
-                rule: state.rule,
-                place: 0,
-            }),
+        found(state_with(&self.states, key))
+    }
+
+    fn find_inside(&self, key: &FlowKey) -> Option<Found> {
+        found(state_inside(&self.states, key))
+    }
+
+    fn onward_key(&self, found: Found, dir: Dir) -> Option<FlowKey> {
+        match state_numbered(&self.states, found.number.0) {
+            Some(state) => state.onward_key(dir),
             None => None,
         }
     }
@@ -191,38 +189,48 @@ impl Store for PlainStore {
         self.made
     }
 
-    fn admit(
+    fn meet_limit(
+        &mut self,
+        source: Addr,
+        rule: RuleNo,
+        now: u64,
+    ) -> Result<Option<Limit>, NoMemory> {
+        match limit_met(&self.config, &self.states, &self.nodes, rule, source) {
+            Some(limit) => match self.refuse(source, rule, now, limit) {
+                Ok(()) => Ok(Some(limit)),
+                Err(_) => Err(NoMemory),
+            },
+            None => Ok(None),
+        }
+    }
+
+    fn make(
         &mut self,
         packet: &Packet,
         going: &Packet,
         rule: RuleNo,
         cookie: bool,
         now: u64,
-    ) -> Result<Result<StateNo, Limit>, NoMemory> {
-        if let Some(limit) = self.limit_for(packet, rule) {
-            return match self.refuse(packet.src(), rule, now, limit) {
-                Ok(()) => Ok(Err(limit)),
-                Err(_) => Err(NoMemory),
-            };
-        }
+    ) -> Result<StateNo, NoMemory> {
         match self.place(packet, going, rule, cookie, now) {
-            Ok(number) => Ok(Ok(number)),
+            Ok(number) => Ok(number),
             Err(_) => Err(NoMemory),
         }
     }
 
-    fn touch(&mut self, _found: Found, packet: &Packet, now: u64, _meter: &mut Meter) -> Touched {
+    fn touch(&mut self, found: Found, packet: &Packet, now: u64, _meter: &mut Meter) -> Touched {
         touching::touch(
             &self.config,
             self.states.as_mut_slice(),
             self.nodes.as_mut_slice(),
+            found.number.0,
             packet,
             now,
         )
     }
 
-    fn has_closed(&self, _found: Found, key: &FlowKey, _meter: &mut Meter) -> bool {
-        touching::has_closed(&self.states, key)
+    fn has_closed(&self, found: Found, _meter: &mut Meter) -> bool {
+        touching::has_closed(&self.states, found.number.0)
     }
 
     fn kill(&mut self, found: Found, now: u64, _meter: &mut Meter) {
@@ -294,6 +302,21 @@ impl Store for PlainStore {
             &mut self.pending_nodes,
             now,
         )
+    }
+}
+
+/// What was found, where it is this state.
+fn found(state: Option<State>) -> Option<Found>
+    ensures number { option_map (λ f. f.number) result ≡ option_map state_number state }
+    ensures rule { option_map (λ f. f.rule) result ≡ option_map state_rule state }
+{
+    match state {
+        Some(state) => Some(Found {
+            number: StateNo(state.number),
+            rule: state.rule,
+            place: 0,
+        }),
+        None => None,
     }
 }
 

@@ -1,7 +1,6 @@
 //! A packet of a state that is held, in lists of states and nodes.
 
 ghost use Rattle.std.specs.Prelude.{◌≡◌, ◌≤◌, ℕ, [], IfSome, IsSome, List, Some, map, option_map};
-ghost use Rattle.pfs_addr_values.specs.Keys.{key_of};
 ghost use Rattle.pfs_conf_values.specs.Configs.{options_of};
 ghost use Rattle.pfs_conf_values.specs.Bounds.{IsRate};
 ghost use Rattle.pfs_track.specs.StatePhases.{has_closed};
@@ -9,7 +8,7 @@ ghost use Rattle.pfs_store_contract.specs.Counts.{node_scope_of};
 ghost use Rattle.pfs_store_plain.specs.Rooms.{AreScores};
 ghost use Rattle.pfs_store_contract.specs.Touching.{completes_at, connections_in, goes_forward, is_asking, is_taken, node_score, nodes_scored, nodes_touched, numbered_state_after, node_after_handshake, score_in, state_after_packet};
 ghost use Rattle.pfs_store_contract.specs.Calls.{touch_of, world_touched};
-ghost use Rattle.pfs_store_contract.specs.Worlds.{IsUpToNow, lists, state_with};
+ghost use Rattle.pfs_store_contract.specs.Worlds.{IsUpToNow, lists, state_inside, state_numbered, state_with};
 ghost use Rattle.pfs_store_contract.specs.declared.records.State.{State};
 
 use crate::counts::{Connections, OfNode, count};
@@ -19,31 +18,32 @@ use pfs_store_contract::{Node, NodeScope, State, Touched};
 use pfs_store_rules::node_scope;
 use pfs_track::Score;
 
-/// Takes a packet of the state that has its key.
+/// Takes a packet of the state of a number.
 pub(crate) fn touch(
     config: &Config,
     states: &mut [State],
     nodes: &mut [Node],
+    number: u64,
     packet: &Packet,
     now: u64,
 ) -> Touched
-    requires held { IsSome (state_with (key_of packet.now) (lists states.old [] [] [] 0)) }
+    requires held { IsSome (state_numbered number (lists states.old [] [] [] 0)) }
     requires order { IsUpToNow now (lists [] nodes.old [] [] 0) }
     requires scores { AreScores nodes.old }
     ensures world { (state_numbers node_numbers : List ℕ) (made : ℕ) → lists states.new nodes.new state_numbers node_numbers made
         ≡ world_touched config.now (lists states.old nodes.old state_numbers node_numbers made) packet.now now
-        (state_with (key_of packet.now) (lists states.old [] [] [] 0)) }
+        (state_numbered number (lists states.old [] [] [] 0)) }
     ensures answer { Some result
-        ≡ option_map (touch_of config.now (lists states.old nodes.old [] [] 0) packet.now now) (state_with (key_of packet.now) (lists states.old [] [] [] 0)) }
+        ≡ option_map (touch_of config.now (lists states.old nodes.old [] [] 0) packet.now now) (state_numbered number (lists states.old [] [] [] 0)) }
     ensures scores { AreScores nodes.new }
 {
-    match state_with(states, &FlowKey::of(packet)) {
+    match state_numbered(states, number) {
         Some(state) => touch_state(config, states, nodes, state, packet, now),
         None => unreachable!(),
     }
 }
 
-/// The state that has a key.
+/// The state that has a key on the wire.
 pub(crate) fn state_with(states: &[State], key: &FlowKey) -> Option<State>
     ensures { result ≡ state_with key.now (lists states.now [] [] [] 0) }
 {
@@ -55,12 +55,36 @@ pub(crate) fn state_with(states: &[State], key: &FlowKey) -> Option<State>
     None
 }
 
-/// Whether both peers of the state that has a key have closed their connection, or it was reset.
-pub(crate) fn has_closed(states: &[State], key: &FlowKey) -> bool
-    requires held { IsSome (state_with key.now (lists states.now [] [] [] 0)) }
-    ensures { Some result ≡ option_map (λ (s : State). has_closed s.phase) (state_with key.now (lists states.now [] [] [] 0)) }
+/// The state that has a key inside.
+pub(crate) fn state_inside(states: &[State], key: &FlowKey) -> Option<State>
+    ensures { result ≡ state_inside key.now (lists states.now [] [] [] 0) }
 {
-    match state_with(states, key) {
+    for state in states {
+        if state.inner_key() == *key {
+            return Some(*state);
+        }
+    }
+    None
+}
+
+/// The state of a number.
+pub(crate) fn state_numbered(states: &[State], number: u64) -> Option<State>
+    ensures { result ≡ state_numbered number (lists states.now [] [] [] 0) }
+{
+    for state in states {
+        if state.number == number {
+            return Some(*state);
+        }
+    }
+    None
+}
+
+/// Whether both peers of the state of a number have closed their connection, or it was reset.
+pub(crate) fn has_closed(states: &[State], number: u64) -> bool
+    requires held { IsSome (state_numbered number (lists states.now [] [] [] 0)) }
+    ensures { Some result ≡ option_map (λ (s : State). has_closed s.phase) (state_numbered number (lists states.now [] [] [] 0)) }
+{
+    match state_numbered(states, number) {
         Some(state) => state.phase.has_closed(),
         None => unreachable!(),
     }

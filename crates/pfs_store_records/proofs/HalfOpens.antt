@@ -1,5 +1,5 @@
 -- How many states are half open: where one comes, is written anew, or leaves.
-use Rattle.std.proofs.Common.{◌≡◌, ◌∙◌, ◌≤◌, ◌+◌, ◌==◌, ℕ, Bool, true, false, Option, Some, List, [], ◌∷◌, ◌++◌, filter, length, map, refl, ap, arith}
+use Rattle.std.proofs.Common.{◌≡◌, ◌∙◌, ◌≤◌, ◌+◌, ◌==◌, ℕ, Bool, true, false, Option, Some, List, [], ◌∷◌, ◌++◌, if◌then◌else◌, filter, length, map, refl, ap, arith}
 use Rattle.std.specs.List.{find, AllByRecursion}
 use Rattle.std.proofs.lemmas.List.{length-map}
 use Rattle.std.proofs.lemmas.List.Sums.{count_by-le-length, length-filter}
@@ -8,7 +8,7 @@ use Rattle.pfs_store_contract.specs.Calls.{other_than}
 use Rattle.pfs_store_contract.specs.Counts.{half_open}
 use Rattle.pfs_store_contract.specs.declared.records.State.{State}
 use Rattle.pfs_store_records.specs.Keeping.{IsPlaced, RecordIsAt, number_in, one_if, values_at}
-use Rattle.pfs_store_records.specs.Records.{Placed, put_state, states_of}
+use Rattle.pfs_store_records.specs.Records.{Placed, states_of}
 use Rattle.pfs_store_records.proofs.Ordered.{length-held}
 use Rattle.pfs_store_records.proofs.Rising.{Apart, IsRisingBy, head-apart, head-is, rest-rising, same_number}
 
@@ -59,6 +59,10 @@ half-removed n s (x ∷ xs) r f = go (half-removed n s xs (rest-rising number_of
         rw t (omega (arith, m, half-more x xs, half-more x (filter (other_than n) xs)))
 
 -- ---- a state is written anew
+
+-- the state of a number, written in place of the one that has it
+abbrev pub put_state : State → State → State
+put_state state s = if s.number == state.number then state else s
 
 apart-put : (s : State) (xs : List State) → Apart number_of s.number xs → map (put_state s) xs ≡ xs
 apart-put s [] h = refl

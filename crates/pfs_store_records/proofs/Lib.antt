@@ -1,4 +1,5 @@
 mod HalfOpens
+mod Joining
 pub mod NodeLaws
 pub mod OneNode
 mod Ordered

@@ -1,5 +1,5 @@
 -- The records of states: what a slab holds, seen as records by number, and as states alone.
-use Rattle.std.proofs.Common.{◌≡◌, ℕ, ◌==◌, Bool, true, false, Option, Some, None, IsSome, List, [], ◌∷◌, ◌++◌, map, option_map, refl, sym, ap, subst, ◌∙◌, ◌+◌, ◌≤◌, arith, filter}
+use Rattle.std.proofs.Common.{◌≡◌, ℕ, ◌==◌, Bool, true, false, Option, Some, None, IsSome, List, [], ◌∷◌, ◌++◌, ◌&&◌, ◌||◌, if◌then◌else◌, map, option_map, refl, sym, ap, subst, ◌∙◌, ◌+◌, ◌≤◌, arith, filter}
 use Rattle.std.specs.List.{list_any, find, AllByRecursion}
 use Rattle.std.specs.Map.{lookup}
 use Rattle.std.specs.BTreeMap.{is_at}
@@ -7,13 +7,14 @@ use Rattle.std.specs.Ordering.{nat_cmp}
 use Rattle.std.proofs.lemmas.Bool.Decides.{nat_tests}
 use Rattle.slab.specs.Slab.{Slab, get, Updates, ContainsKey, with_value}
 use Rattle.slab.proofs.SlabLemmas.{Updates-with_value}
+use Rattle.pfs_track.specs.declared.state_phases.StatePhase.{StatePhase}
 use Rattle.pfs_store_contract.specs.Calls.{other_than}
 use Rattle.pfs_store_contract.specs.Counts.{half_open}
 use Rattle.pfs_store_contract.specs.Purging.{state_numbers}
 use Rattle.pfs_store_contract.specs.declared.records.State.{State}
 use Rattle.pfs_store_records.specs.Keeping.{values_at, IsPlaced, AreCounted, AreInPlace, number_in, RecordIsAt, record_in}
-use Rattle.pfs_store_records.specs.Records.{IsRecordAt, IsRising, Placed, is_placed, leaves_number, placed_at, put, put_state, stands_at, states_of}
-use Rattle.pfs_store_records.proofs.HalfOpens.{half-found, half-put, opens}
+use Rattle.pfs_store_records.specs.Records.{IsRecordAt, IsRising, Placed, is_placed, leaves_number, placed_at, renewed, renewed_at, stands_at, states_of}
+use Rattle.pfs_store_records.proofs.HalfOpens.{half-found, half-put, opens, put_state}
 use Rattle.pfs_store_records.proofs.Ordered.{IsUpdated, find_placed, found, held-all, kept-all, kept-written, look-placed, rising-held, view-written}
 
 -- ---- records as states
@@ -43,6 +44,10 @@ states-filter n (p ∷ ps) = go (states-filter n ps) (p.state.number == n) refl
         → states_of (filter (leaves_number n) (p ∷ ps)) ≡ filter (other_than n) (states_of (p ∷ ps))
     go more true t = rw t more
     go more false t = rw t (ap (λ xs. p.state ∷ xs) more)
+
+-- the record of a number, with this state in place of the one that it had
+abbrev pub put : State → Placed → Placed
+put state p = if p.state.number == state.number then placed_at p.place state else p
 
 put-state : (st : State) (p : Placed) → (put st p).state ≡ put_state st p.state
 put-state st p = go (p.state.number == st.number) refl
@@ -191,3 +196,61 @@ counted-put s es p st before count rest after k a g e f =
       kept = kept-put s es p st k.kept a;
       counted = omega (arith, k.counted, e, f, put-count, now);
     }
+
+-- ---- a state is renewed at a place
+
+-- the record at a place is that of its number
+pub stands-placed : (s : Slab State) (es : List (ℕ × ℕ)) (p : ℕ) (before : State) → AllByRecursion (IsPlaced number_in RecordIsAt (record_in s)) es → get s p ≡ Some before
+    → list_any (stands_at p) (values_at (record_in s) es) ≡ true → Stands s es p before
+stands-placed s [] p before h g a = absurd cc
+stands-placed s (e ∷ es) p before (h, hs) g a =
+    let a' : list_any (stands_at p) (h.0 ∷ values_at (record_in s) es) ≡ true = (rw h.1 at a) in
+    rw h.1 (go (stands-placed s es p before hs g) a' (h.0.place == p) refl)
+  where
+    same_self : (n : ℕ) → (n == n) ≡ true
+    same_self n = grind (arith, nat_tests)
+
+    or_true : (b : Bool) → (b || true) ≡ true
+    or_true true = refl
+    or_true false = refl
+
+    go : (list_any (stands_at p) (values_at (record_in s) es) ≡ true → Stands s es p before) → list_any (stands_at p) (h.0 ∷ values_at (record_in s) es) ≡ true → (b : Bool) → (h.0.place == p) ≡ b
+        → list_any (is_placed before.number p) (h.0 ∷ values_at (record_in s) es) ≡ true
+    go more a' true t =
+        let q : h.0.place ≡ p = grind (arith, nat_tests) in
+        let x : get s e.1 ≡ Some h.0.state = state_at (get s e.1) e.1 h.0 h.1 in
+        let y : get s e.1 ≡ Some before = ap (get s) (sym h.3 ∙ q) ∙ g in
+        let z : h.0.state ≡ before = cc in
+        let n : (h.0.state.number == before.number) ≡ true = ap (λ (u : State). u.number == before.number) z ∙ same_self before.number in
+        rw (n, t) refl
+    go more a' false t =
+        let m = more (rw t at a') in
+        rw m (or_true (h.0.state.number == before.number && (h.0.place == p)))
+
+pub view-renewed : (s : Slab State) (es : List (ℕ × ℕ)) (p : ℕ) (phase : StatePhase) (last : ℕ) (before : State) → AllByRecursion (IsPlaced number_in RecordIsAt (record_in s)) es → get s p ≡ Some before
+    → values_at (record_in (with_value s p (renewed phase last before))) es ≡ map (renewed_at p phase last) (values_at (record_in s) es)
+view-renewed s [] p phase last before h g = refl
+view-renewed s (e ∷ es) p phase last before (h, hs) g =
+    go (view-renewed s es p phase last before hs g) (h.0.place == p) refl
+  where
+    new : Slab State
+    new = with_value s p (renewed phase last before)
+
+    u : IsUpdated (record_in s) (record_in new) p (Some (placed_at p (renewed phase last before)))
+    u = updated s new p (Some (renewed phase last before)) (Updates-with_value s p (renewed phase last before) (rw g refl))
+
+    go : values_at (record_in new) es ≡ map (renewed_at p phase last) (values_at (record_in s) es) → (b : Bool) → (h.0.place == p) ≡ b
+        → values_at (record_in new) (e ∷ es) ≡ map (renewed_at p phase last) (values_at (record_in s) (e ∷ es))
+    go more true t =
+        let q : h.0.place ≡ p = grind (arith, nat_tests) in
+        let k : e.1 ≡ p = sym h.3 ∙ q in
+        let x : get s e.1 ≡ Some h.0.state = state_at (get s e.1) e.1 h.0 h.1 in
+        let y : get s e.1 ≡ Some before = ap (get s) k ∙ g in
+        let z : h.0.state ≡ before = cc in
+        let c : record_in new e.1 ≡ Some (placed_at p (renewed phase last before)) = ap (record_in new) k ∙ u.changed in
+        let w : renewed_at p phase last h.0 ≡ placed_at p (renewed phase last before) =
+        ap (λ (b : Bool). if b then placed_at h.0.place (renewed phase last h.0.state) else h.0) t ∙ (λ i. placed_at (q i) (renewed phase last (z i))) in
+        rw (h.1, c) (λ i. sym w i ∷ more i)
+    go more false t =
+        let d : record_in new e.1 ≡ Some h.0 = u.others e.1 (λ k. let y : (h.0.place == p) ≡ true = grind (arith, nat_tests, h.3, k) in absurd (cc (y, t))) ∙ h.1 in
+        rw (h.1, d) (λ i. (ap (λ (b : Bool). if b then placed_at h.0.place (renewed phase last h.0.state) else h.0) (sym t) i) ∷ more i)

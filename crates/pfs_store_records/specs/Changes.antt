@@ -6,6 +6,7 @@ use Rattle.pfs_conf_values.specs.Bounds.{IsRate}
 use Rattle.pfs_conf_values.specs.Configs.{Conf, scope_of}
 use Rattle.pfs_conf_values.specs.declared.actions.Rate.{Rate}
 use Rattle.pfs_conf_values.specs.declared.actions.Scope.TheVariants as scope
+use Rattle.pfs_conf_values.specs.declared.items.RuleNo.{RuleNo}
 use Rattle.pfs_track.specs.Scores.{score_after, zero_score}
 use Rattle.pfs_track.specs.StatePhases.{is_done}
 use Rattle.pfs_track.specs.declared.scores.Score.{Score}
@@ -44,9 +45,13 @@ IsScoped conf t = IsScope conf t.node.scope
 abbrev pub IsScored : Tally → Type 0
 IsScored t = t.node.score.value ≤ 4294968000
 
+-- where a rule tracks sources, this source has a node
+abbrev pub HasTallyFor : Conf → List Tally → RuleNo → Addr → Type 0
+HasTallyFor conf tallies rule source = (scope : NodeScope) → node_scope_of conf rule.0 ≡ Some scope → list_any (is_tally scope source) tallies ≡ true
+
 -- a state of a rule that tracks sources has a node
 abbrev pub HasTally : Conf → List Tally → State → Type 0
-HasTally conf tallies s = (scope : NodeScope) → node_scope_of conf s.rule.0 ≡ Some scope → list_any (is_tally scope s.source) tallies ≡ true
+HasTally conf tallies s = HasTallyFor conf tallies s.rule s.source
 
 -- ---- a state leaves
 

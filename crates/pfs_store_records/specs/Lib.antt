@@ -1,3 +1,4 @@
+pub mod Aside
 pub mod Changes
 pub mod Keeping
 pub mod Numbered

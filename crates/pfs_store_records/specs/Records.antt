@@ -3,6 +3,7 @@ use Rattle.std.specs.Prelude.{◌≡◌, ℕ, ◌<◌, ◌==◌, ◌&&◌, nat_l
 use Rattle.std.specs.List.{AllByRecursion}
 use Rattle.std.specs.List.Sorted.{IsStrictlySortedBy}
 use Rattle.std.specs.Ordering.{nat_cmp}
+use Rattle.pfs_track.specs.declared.state_phases.StatePhase.{StatePhase}
 use Rattle.pfs_store_contract.specs.declared.records.State.{State}
 
 -- a state, and the place of its record
@@ -51,9 +52,10 @@ IsRecordAt place s records = AllByRecursion (λ (p : Placed). p.place ≡ place 
 abbrev pub leaves_number : ℕ → Placed → Bool
 leaves_number number p = not (p.state.number == number)
 
--- the state of a number, written in place of the one that has it
-abbrev pub put_state : State → State → State
-put_state state s = if s.number == state.number then state else s
+-- the state has this phase, and this moment of its last packet
+abbrev pub renewed : StatePhase → ℕ → State → State
+renewed phase last s = record s { phase = phase; last = last }
 
-abbrev pub put : State → Placed → Placed
-put state p = if p.state.number == state.number then placed_at p.place state else p
+-- that of the record at a place has them
+abbrev pub renewed_at : ℕ → StatePhase → ℕ → Placed → Placed
+renewed_at place phase last p = if stands_at place p then placed_at p.place (renewed phase last p.state) else p

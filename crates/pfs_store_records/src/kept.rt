@@ -1,9 +1,10 @@
-//! A state as its record keeps it: without its source, which follows from its key and its direction, and with a number
-//! of 32 bits: a run makes at most 2,000,000,000 states.
+//! A state as its record keeps it: of its keys that of the packet that made it, as it was sent; without its source, which follows from
+//! that key and its direction; and with a number of 32 bits: a run makes at most 2,000,000,000 states.
 
-ghost use Rattle.std.specs.Prelude.{◌≡◌, ◌<◌, ◌^◌};
+ghost use Rattle.std.specs.Prelude.{◌≡◌, ◌<◌, ◌^◌, None};
+ghost use Rattle.pfs_store_records.specs.Records.{renewed};
 ghost use Rattle.pfs_store_records.specs.Sides.{dir_of_side, number_of_tag, side_from, tag_at_side};
-ghost use Rattle.pfs_store_records.specs.Sourced.{IsSourced, source_at};
+ghost use Rattle.pfs_store_records.specs.Sourced.{IsSourced, bare, source_at};
 ghost use Rattle.pfs_track.specs.StatePhases.{slot};
 
 use pfs_addr_values::{Addr, Dir, Endpoint, FlowKey, Proto, TagNo};
@@ -25,12 +26,13 @@ pub(crate) enum Side {
     TaggedOut,
 }
 
-/// A state whose source is the end of its key from which packets of its direction come. Clauses see the state.
+/// A state, without the other key where its keys are apart. Its source is the end, from which packets of its direction come, of the
+/// key of the packet that made it, as it was sent. Clauses see a state that has this key alone.
 ///
 /// The fields are in memory in this order: what a walk reads comes first, and none of the 64 bytes is unused. So the ends of the key
 /// are kept in parts. The number of the tag is 0 where the state has none.
 #[derive(Clone, Copy)]
-pub(crate) struct Kept {
+pub struct Kept {
     last: u64,
     number: u32,
     rule: RuleNo,
@@ -50,7 +52,7 @@ impl Model for Kept {
     ghost use Rattle.pfs_store_contract.specs.declared.records.State.{State};
     ghost use Rattle.pfs_store_records.specs.Sides.{IsTagAt, dir_of_side, number_of_tag, side_back, side_from, tag_at_side};
     ghost use Rattle.pfs_store_records.specs.Sourced.{source_at};
-    ghost use Rattle.std.specs.Prelude.{ℕ};
+    ghost use Rattle.std.specs.Prelude.{ℕ, None};
     ghost use Rattle.std.proofs.Common.{ap};
     ghost use Rattle.pfs_store_records.specs.declared.kept.Side.{Side};
 
@@ -59,6 +61,7 @@ impl Model for Kept {
     ghost view = { λ k. record {
       number = k.number;
       key = record { proto = k.proto; a = record { addr = k.addr; port = k.port }; b = record { addr = k.other_addr; port = k.other_port } };
+      inner = None;
       dir = dir_of_side k.side;
       source = source_at (dir_of_side k.side) (record { proto = k.proto; a = record { addr = k.addr; port = k.port }; b = record { addr = k.other_addr; port = k.other_port } });
       rule = k.rule;
@@ -91,8 +94,9 @@ impl Kept {
     pub(crate) fn of(state: &State) -> Kept
         requires sourced { IsSourced state.now }
         requires small { state.now.number < 2 ^ 32 }
-        ensures { result ≡ state.now }
+        ensures { result ≡ bare state.now }
     {
+        let key = state.sent_key();
         Kept {
             last: state.last,
             number: state.number as u32,
@@ -100,23 +104,47 @@ impl Kept {
             phase: state.phase,
             side: side_from(state.dir, state.tag),
             tag: number_of_tag(state.tag),
-            proto: state.key.proto,
-            port: state.key.a.port,
-            other_port: state.key.b.port,
-            addr: state.key.a.addr,
-            other_addr: state.key.b.addr,
+            proto: key.proto,
+            port: key.a.port,
+            other_port: key.b.port,
+            addr: key.a.addr,
+            other_addr: key.b.addr,
         }
     }
 
     /// The rule that made the state. It takes no memory.
-    pub(crate) fn rule(&self) -> RuleNo
+    pub fn rule(&self) -> RuleNo
         ensures { result ≡ self.now.rule }
     {
         self.rule
     }
 
+    /// The direction of the packet that made the state. It takes no memory.
+    pub fn dir(&self) -> Dir
+        ensures { result ≡ self.now.dir }
+    {
+        dir_of_side(self.side)
+    }
+
+    /// The source address of the packet that made the state. It takes no memory.
+    pub fn source(&self) -> Addr
+        ensures { result ≡ self.now.source }
+    {
+        match self.dir() {
+            Dir::In => self.addr,
+            Dir::Out => self.other_addr,
+        }
+    }
+
+    /// The tag of the state, if it has one. It takes no memory.
+    pub fn tag(&self) -> Option<TagNo>
+        ensures { result ≡ self.now.tag }
+    {
+        tag_at_side(self.side, self.tag)
+    }
+
     /// How far the connection of the state has come. It takes no memory.
-    pub(crate) fn phase(&self) -> StatePhase
+    pub fn phase(&self) -> StatePhase
         ensures { result ≡ self.now.phase }
     {
         self.phase
@@ -130,16 +158,24 @@ impl Kept {
     }
 
     /// The moment of the last packet of the state, in seconds. It takes no memory.
-    pub(crate) fn last(&self) -> u64
+    pub fn last(&self) -> u64
         ensures { result ≡ self.now.last }
     {
         self.last
     }
 
+    /// A packet of the state came: the state has this phase now, and this moment of its last packet, in seconds. It takes no memory.
+    pub(crate) fn renew(&mut self, phase: StatePhase, last: u64)
+        ensures { self.new ≡ renewed phase last self.old }
+    {
+        self.phase = phase;
+        self.last = last;
+    }
+
     /// The state. It takes no memory.
     pub(crate) fn state(&self) -> State
         ensures value { result ≡ self.now }
-        ensures sourced { IsSourced result }
+        ensures bare { result.inner ≡ None }
         ensures small { result.number < 2 ^ 32 }
     {
         let dir = dir_of_side(self.side);
@@ -147,6 +183,7 @@ impl Kept {
         State {
             number: u64::from(self.number),
             key,
+            inner: None,
             dir,
             source: source_of(dir, &key),
             rule: self.rule,

@@ -2,9 +2,11 @@
 //! are found.
 #![tactic(auto)]
 
+mod aside;
 mod changes;
 mod kept;
 mod nodes;
+mod packed;
 mod places;
 mod records;
 mod retaining;
@@ -14,6 +16,7 @@ mod stays;
 mod tallying;
 mod walks;
 
+pub use kept::Kept;
 pub use nodes::{Nodes, Passed, Tally};
 pub use places::{Places, PlacesBetween};
 pub use records::Records;

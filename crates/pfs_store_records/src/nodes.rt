@@ -17,7 +17,7 @@ ghost use Rattle.pfs_store_records.specs.Walks.{IsPassing, StopsWalkAt, looks_of
 
 use crate::changes::{Change, changed};
 use crate::places::Places;
-use crate::records::short;
+use crate::packed::short;
 use crate::retaining::{is_over, kept_until};
 use crate::scope_counts::ScopeCounts;
 use crate::sought::Tracked;

@@ -1,49 +1,47 @@
-//! The records of states: the one module that reads a record, and ticks the meter for it.
+//! The records of states, with all their keys.
 
-ghost use Rattle.std.specs.Prelude.{◌≡◌, ◌+◌, ◌-◌, ◌<◌, ◌≤◌, ◌^◌, ◌==◌, ◌++◌, ◌∷◌, [], IfOk, IfSome, OnErr, OnOk, Some, filter, length, map, slice_get, true};
+ghost use Rattle.std.specs.Prelude.{◌≡◌, ◌+◌, ◌-◌, ◌<◌, ◌≤◌, ◌^◌, ◌==◌, ◌++◌, ◌∷◌, [], IfOk, IfSome, OnErr, OnOk, Some, filter, length, map, true};
 ghost use Rattle.std.specs.List.{find, list_any};
 ghost use Rattle.std.specs.Map.{keys_of};
-ghost use Rattle.slab.specs.Slab.{ContainsKey, get};
-ghost use Rattle.pfs_track.specs.StatePhases.{is_half_open};
-ghost use Rattle.pfs_store_contract.specs.Calls.{other_than};
+ghost use Rattle.std.specs.Option.{option_and_then};
+ghost use Rattle.pfs_store_contract.specs.Calls.{onward_key, other_than};
 ghost use Rattle.pfs_store_contract.specs.Counts.{half_open};
 ghost use Rattle.pfs_store_contract.specs.Purging.{state_numbers};
 ghost use Rattle.pfs_store_contract.specs.Worlds.{holds_number};
-ghost use Rattle.pfs_store_records.specs.Keeping.{AreInPlace, RecordIsAt, number_in, one_if, record_in, values_at};
+ghost use Rattle.pfs_store_records.specs.Aside.{IsKeptAt};
+ghost use Rattle.pfs_store_records.specs.Records.{IsAbove, IsRecordAt, IsRising, leaves_number, placed_at, renewed_at, stands_at, states_of};
 ghost use Rattle.pfs_store_records.specs.Sourced.{IsSourced};
 ghost use Rattle.pfs_store_records.specs.Walks.{IsWalk, StayUntil, end_of, state_has_expired, looks_of};
-ghost use Rattle.pfs_store_records.specs.Records.{IsAbove, IsRecordAt, IsRising, is_placed, leaves_number, placed_at, put, put_state, stands_at, states_of};
 
+use crate::aside::Aside;
 use crate::kept::Kept;
+use crate::packed::Packed;
 use crate::places::Places;
-use crate::stays::{Stay, stays_until};
 use crate::walks::{Lifetimes, Round, Walk};
-use pfs_addr_values::{Meter, NoMemory};
+use pfs_addr_values::{Dir, FlowKey, Meter, NoMemory};
 use pfs_store_contract::State;
 use pfs_track::StatePhase;
-use slab::Slab;
 use std::alloc::Global;
 use std::marker::Model;
 
 /// The records of the states that are held, by rising number. Callers see each with its place, which it keeps until it
-/// is removed. To read a record is a look, and ticks the meter. How many states are half open is counted beside them.
+/// is removed. To read a record is a look, and ticks the meter. Of a state whose keys are apart both keys lie aside.
 #[derive(Drop)]
 pub struct Records {
-    slab: Slab<Kept>,
-    places: Places,
-    half_open: u64,
+    packed: Packed,
+    aside: Aside,
 }
 
 impl Model for Records {
-    ghost use Rattle.std.specs.Prelude.{List};
-    ghost use Rattle.pfs_store_records.specs.Records.{Placed};
-    ghost use Rattle.pfs_store_records.specs.Keeping.{AreCounted, record_in, values_at};
+    ghost use Rattle.std.specs.Prelude.{List, map};
+    ghost use Rattle.pfs_store_records.specs.Aside.{AreHeld, whole_record};
+    ghost use Rattle.pfs_store_records.specs.Records.{Placed, states_of};
 
     ghost Value = { List Placed };
 
-    ghost view = { λ r. values_at (record_in r.slab) r.places.entries };
+    ghost view = { λ r. map (whole_record r.aside) r.packed };
 
-    ghost invariant = { λ r. AreCounted r.slab r.places.entries r.half_open };
+    ghost invariant = { λ r. AreHeld r.aside (states_of r.packed) };
 }
 
 impl Records {
@@ -52,9 +50,8 @@ impl Records {
         ensures { result ≡ [] }
     {
         Records {
-            slab: Slab::new(alloc),
-            places: Places::new(alloc),
-            half_open: 0,
+            packed: Packed::new(alloc),
+            aside: Aside::new(alloc),
         }
     }
 
@@ -62,21 +59,21 @@ impl Records {
     pub fn len(&self) -> u64
         ensures { result ≡ length self.now }
     {
-        self.places.len() as u64
+        self.packed.len()
     }
 
     /// How many of the states are half open. It is no look, and takes no memory.
     pub fn half_open_count(&self) -> u64
         ensures { result ≡ half_open (states_of self.now) }
     {
-        self.half_open
+        self.packed.half_open_count()
     }
 
     /// The numbers of the states rise: a fact for proofs, which computes nothing.
     pub fn numbers_rise(&self)
         ensures { IsRising (state_numbers (states_of self.now)) }
     {
-        let _ = &self.places;
+        self.packed.numbers_rise();
     }
 
     /// The places of the records, in the order of their numbers. It is no look, and takes no memory.
@@ -84,7 +81,19 @@ impl Records {
         ensures numbers { keys_of result.now.entries ≡ state_numbers (states_of self.now) }
         ensures rising { IsRising (keys_of result.now.entries) }
     {
-        &self.places
+        self.packed.order()
+    }
+
+    /// The key with which packets of a direction go on of the state of a number, where it is another than that with which they come.
+    /// It is no look, and takes no memory.
+    pub fn onward_key(&self, number: u64, dir: Dir) -> Option<FlowKey>
+        ensures { result ≡ option_and_then (onward_key dir) (find (λ s. s.number == number) (states_of self.now)) }
+    {
+        match (self.aside.get(number), dir) {
+            (None, _) => None,
+            (Some(keys), Dir::In) => Some(keys.inner),
+            (Some(keys), Dir::Out) => Some(keys.wire),
+        }
     }
 
     /// The state of this number, of which there is a record: one look, and one search by number. It takes no memory.
@@ -95,22 +104,32 @@ impl Records {
         ensures small { result.number < 2 ^ 32 }
         ensures looks { meter.new ≡ meter.old + 1 }
     {
-        match self.places.get(number) {
-            Some(place) => look(&self.slab, place as usize, meter).state(),
-            None => unreachable!(),
-        }
+        let mut state = self.packed.read(number, meter);
+        self.aside.join(&mut state);
+        state
     }
 
-    /// The state of the record at this place: one look, and no search. It takes no memory.
+    /// The state of the record at this place: one look, and no search but of its keys. It takes no memory.
     pub fn read_at(&self, place: u32, meter: &mut Meter) -> State
         requires held { list_any (stands_at place) self.now ≡ true }
         requires room { meter.old < 2 ^ 64 - 1 }
         ensures value { IsRecordAt place result self.now }
-        ensures sourced { IsSourced result }
         ensures small { result.number < 2 ^ 32 }
         ensures looks { meter.new ≡ meter.old + 1 }
     {
-        look(&self.slab, place as usize, meter).state()
+        let mut state = self.packed.read_at(place, meter);
+        self.aside.join(&mut state);
+        state
+    }
+
+    /// The record at this place, which has all of its state but the keys: one look, and no search. It takes no memory.
+    pub fn record_at(&self, place: u32, meter: &mut Meter) -> &Kept
+        requires held { list_any (stands_at place) self.now ≡ true }
+        requires room { meter.old < 2 ^ 64 - 1 }
+        ensures value { IsKeptAt place result.now self.now }
+        ensures looks { meter.new ≡ meter.old + 1 }
+    {
+        self.packed.record_at(place, meter)
     }
 
     /// Walks over the records that are still to be examined in a round, from the least number on: over at most `share` of
@@ -132,32 +151,20 @@ impl Records {
         ensures small { IfSome result.leaver (λ s. s.number < 2 ^ 32) }
         ensures looks { meter.new ≡ meter.old + looks_of result.stayed result.leaver }
     {
-        walk_range(
-            &self.slab,
-            &self.places,
-            round,
-            share,
-            now,
-            lifetimes,
-            meter,
-        )
+        let mut walk = self.packed.walk(round, share, now, lifetimes, meter);
+        if let Some(leaver) = &mut walk.leaver {
+            self.aside.join(leaver);
+        }
+        walk
     }
 
-    /// Writes a state into the record of its number, which is at this place. It is no look, since who writes a record has looked at it,
-    /// and takes no memory.
-    pub fn write_at(&mut self, place: u32, state: State)
-        requires placed { list_any (is_placed state.number place) self.old ≡ true }
-        requires sourced { IsSourced state }
-        requires small { state.number < 2 ^ 32 }
-        ensures records { self.new ≡ map (put state) self.old }
-        ensures states { states_of self.new ≡ map (put_state state) (states_of self.old) }
-        ensures rising { IsRising (state_numbers (states_of self.new)) }
+    /// A packet came of the state whose record is at this place: the state has this phase now, and this moment of its last packet. It
+    /// is no look, since who writes a record has looked at it, and takes no memory.
+    pub fn renew_at(&mut self, place: u32, phase: StatePhase, last: u64)
+        requires held { list_any (stands_at place) self.old ≡ true }
+        ensures records { self.new ≡ map (renewed_at place phase last) self.old }
     {
-        // As in `push`: the count is not near the greatest number.
-        let _count = self.places.len();
-        let before = self.slab[place as usize];
-        self.slab[place as usize] = Kept::of(&state);
-        self.half_open = with(without(self.half_open, before.phase()), state.phase);
+        self.packed.renew_at(place, phase, last);
     }
 
     /// Adds the record of a state whose number is above all others, and returns its place. It returns `NoMemory` where
@@ -171,17 +178,15 @@ impl Records {
         ensures err { OnErr result (self.new ≡ self.old) }
         ensures rising { IsRising (state_numbers (states_of self.new)) }
     {
-        // This call states to the proof that the count is not near the greatest number, which follows from the order.
-        let _count = self.places.len();
-        self.slab.reserve(1)?;
-        let place = short(self.slab.vacant_key())?;
-        self.places.push(state.number, place)?;
-        // The proof needs the types of a key named here.
-        let key = &state.key;
-        let _proto = &key.proto;
-        self.slab.insert_reserved(Kept::of(state));
-        self.half_open = with(self.half_open, state.phase);
-        Ok(place)
+        self.packed.numbers_rise();
+        self.aside.insert(state)?;
+        match self.packed.push(state) {
+            Ok(place) => Ok(place),
+            Err(_) => {
+                self.aside.remove(state.number);
+                Err(NoMemory)
+            }
+        }
     }
 
     /// Removes the record of this number, of which there is one. It is no look, since who removes a record has looked at it, and takes
@@ -192,107 +197,7 @@ impl Records {
         ensures states { states_of self.new ≡ filter (other_than number) (states_of self.old) }
         ensures rising { IsRising (state_numbers (states_of self.new)) }
     {
-        match self.places.remove(number) {
-            Some(place) => {
-                let kept = self.slab.remove(place as usize);
-                self.half_open = without(self.half_open, kept.phase());
-            }
-            None => unreachable!(),
-        }
-    }
-}
-
-/// How many states are half open, with one of this phase more.
-fn with(half_open: u64, phase: StatePhase) -> u64
-    requires { half_open < 2 ^ 64 - 1 }
-    ensures { result ≡ half_open + one_if (is_half_open phase) }
-{
-    if phase.is_half_open() {
-        half_open + 1
-    } else {
-        half_open
-    }
-}
-
-/// How many states are half open, with one of this phase less.
-fn without(half_open: u64, phase: StatePhase) -> u64
-    requires { one_if (is_half_open phase) ≤ half_open }
-    ensures { result + one_if (is_half_open phase) ≡ half_open }
-{
-    if phase.is_half_open() {
-        half_open - 1
-    } else {
-        half_open
-    }
-}
-
-/// A place in 32 bits: those of the at most 2,000,000,000 states of a run fit. It returns `NoMemory` where one does not.
-pub(crate) fn short(place: usize) -> Result<u32, NoMemory>
-    ensures { IfOk result (λ p. p ≡ place) }
-{
-    match u32::try_from(place) {
-        Ok(number) => Ok(number),
-        Err(_) => Err(NoMemory),
-    }
-}
-
-/// Reads the record at a place: the one look.
-fn look<'a>(slab: &'a Slab<Kept>, place: usize, meter: &mut Meter) -> &'a Kept
-    requires held { ContainsKey slab.now place }
-    requires room { meter.old < 2 ^ 64 - 1 }
-    ensures value { get slab.now place ≡ Some result.now }
-    ensures looks { meter.new ≡ meter.old + 1 }
-{
-    meter.tick();
-    &slab[place]
-}
-
-#[inline(never)]
-fn walk_range<T: Lifetimes>(
-    slab: &Slab<Kept>,
-    places: &Places,
-    round: Round,
-    share: u64,
-    now: u64,
-    lifetimes: &T,
-    meter: &mut Meter,
-) -> Walk
-    requires kept { AreInPlace number_in RecordIsAt (record_in slab.now) places.now.entries }
-    requires range { round.cursor ≤ round.mark }
-    requires room { meter.old + share < 2 ^ 64 }
-    ensures walk { IsWalk (state_has_expired (T.lifetime lifetimes.now) now) (states_of (values_at (record_in slab.now) places.now.entries)) round.cursor round.mark share
-        result.stayed result.last result.leaver }
-    ensures until { StayUntil (end_of (T.lifetime lifetimes.now)) (states_of (values_at (record_in slab.now) places.now.entries)) round.cursor result.last result.until }
-    ensures small { IfSome result.leaver (λ s. s.number < 2 ^ 32) }
-    ensures looks { meter.new ≡ meter.old + looks_of result.stayed result.leaver }
-{
-    let mut rest = places.between(round.cursor, round.mark);
-    let mut stayed = 0;
-    let mut last = round.cursor;
-    let mut until = u64::MAX;
-    let mut known = Stay::unknown();
-    let leaver = loop {
-        if stayed == share {
-            break None;
-        }
-        let Some((number, place)) = rest.next() else {
-            break None;
-        };
-        let kept = look(slab, place as usize, meter);
-        if !known.is_of(kept) {
-            known = Stay::of(lifetimes, kept);
-        }
-        match stays_until(kept, known.seconds, now) {
-            Some(moment) => until = until.min(moment),
-            None => break Some(kept.state()),
-        }
-        stayed += 1;
-        last = number;
-    };
-    Walk {
-        stayed,
-        last,
-        until,
-        leaver,
+        self.packed.remove(number);
+        self.aside.remove(number);
     }
 }

@@ -10,7 +10,7 @@ ghost use Rattle.pfs_store_contract.specs.Purging.{node_numbers};
 ghost use Rattle.pfs_store_contract.specs.Worlds.{IsUpToNow, lists};
 ghost use Rattle.pfs_store_records.specs.Records.{IsAbove};
 ghost use Rattle.pfs_store_records.specs.Tallies.{is_tally, nodes_of};
-ghost use Rattle.pfs_store_records.specs.Changes.{HasTally, IsFew, IsScored, at_node, connections_at, tallies_with_state, left_of, met_by, score_at};
+ghost use Rattle.pfs_store_records.specs.Changes.{HasTallyFor, IsFew, IsScored, at_node, connections_at, tallies_with_state, left_of, met_by, score_at};
 
 use crate::changes::Change;
 use crate::nodes::{Nodes, Tally};
@@ -98,35 +98,36 @@ pub fn leave<S: BuildHasher>(
     }
 }
 
-/// A packet of a state comes, which completes its handshake or does not: a connection more of its node, and the score where
-/// its rule has a rate. Where it completes none, the node is looked up only if what it has is asked for.
+/// A packet comes of a state of a rule and a source, which completes its handshake or does not: a connection more of its node, and the
+/// score where the rule has a rate. Where it completes none, the node is looked up only if what it has is asked for.
 pub fn meet<S: BuildHasher>(
     config: &Config,
     nodes: &mut Nodes<S>,
-    state: &State,
+    rule: RuleNo,
+    source: Addr,
     completed: bool,
     asked: bool,
     now: u64,
 ) -> Met
-    requires has { HasTally config.now nodes.old state.now }
+    requires has { HasTallyFor config.now nodes.old rule source }
     requires few { AllByRecursion IsFew nodes.old }
     requires scored { AllByRecursion IsScored nodes.old }
     requires order { IsUpToNow now (lists [] (nodes_of nodes.old) [] [] 0) }
     ensures nodes { nodes.new
-        ≡ map (at_node (node_scope_of config.now state.now.rule.0) state.now.source (met_by (options_of config.now state.now.rule.0).max_src_conn_rate now completed)) nodes.old }
+        ≡ map (at_node (node_scope_of config.now rule.0) source (met_by (options_of config.now rule.0).max_src_conn_rate now completed)) nodes.old }
     ensures connections { result.connections
-        ≡ (if asked || completed then connections_at (node_scope_of config.now state.now.rule.0) state.now.source nodes.new else 0) }
+        ≡ (if asked || completed then connections_at (node_scope_of config.now rule.0) source nodes.new else 0) }
     ensures score { result.score
-        ≡ (if asked || completed then score_at (node_scope_of config.now state.now.rule.0) state.now.source nodes.new else zero_score) }
+        ≡ (if asked || completed then score_at (node_scope_of config.now rule.0) source nodes.new else zero_score) }
 {
     if !(asked || completed) {
         return Met::none();
     }
-    match node_scope(config, state.rule) {
+    match node_scope(config, rule) {
         None => Met::none(),
         Some(scope) => {
-            let rate = rate_of(config, state.rule);
-            let tally = meet_at(nodes, scope, state.source, rate, completed, now);
+            let rate = rate_of(config, rule);
+            let tally = meet_at(nodes, scope, source, rate, completed, now);
             Met {
                 connections: tally.connections,
                 score: tally.node.score,

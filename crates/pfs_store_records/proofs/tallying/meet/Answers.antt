@@ -10,9 +10,9 @@ use Rattle.pfs_store_records.proofs.tallying.meet.Goals as goal
 
 pub returns-then-not-completed-clause-nodes : goal.returns-then-not-completed-clause-nodes
 returns-then-not-completed-clause-nodes g c =
-    unmet (node_scope_of c.args.config.now c.args.state.now.rule.0) c.args.state.now.source (options_of c.args.config.now c.args.state.now.rule.0).max_src_conn_rate c.args.now c.args.completed c.if-not-completed.true.1 c.args.nodes.now
+    unmet (node_scope_of c.args.config.now c.args.rule.0) c.args.source (options_of c.args.config.now c.args.rule.0).max_src_conn_rate c.args.now c.args.completed c.if-not-completed.true.1 c.args.nodes.now
 
 pub returns-in-None-clause-nodes : goal.returns-in-None-clause-nodes
 returns-in-None-clause-nodes g c =
-    let f = met_by (options_of c.args.config.now c.args.state.now.rule.0).max_src_conn_rate c.args.now c.args.completed in
-    no-scope c.args.state.now.source f c.args.nodes.now ∙ ap (λ (o : Option NodeScope). map (at_node o c.args.state.now.source f) c.args.nodes.now) c.in-None.ensures
+    let f = met_by (options_of c.args.config.now c.args.rule.0).max_src_conn_rate c.args.now c.args.completed in
+    no-scope c.args.source f c.args.nodes.now ∙ ap (λ (o : Option NodeScope). map (at_node o c.args.source f) c.args.nodes.now) c.in-None.ensures

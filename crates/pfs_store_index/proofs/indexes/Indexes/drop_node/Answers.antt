@@ -18,7 +18,7 @@ invariant_of-self g c =
     ap (λ (h : Holding). find (λ (n : Node). n.number == c.args.node.number) h.nodes) c.self.view_is ∙ c.requires.held in
     let z = ap (λ (h : Holding). node_states h.config c.args.node.scope c.args.node.source h.states) c.self.view_is ∙ c.requires.stateless in
     rw c.remove.ensures.nodes
-    (tied-dropped c.self.inside.config c.self.inside.records c.self.inside.keys c.self.inside.counts.items c.self.inside.nodes c.self.inside.filing c.args.node c.self.invariant c.are_orderly.ensures.rising f z)
+    (tied-dropped c.self.inside.config c.self.inside.records c.self.inside.keys c.self.inside.insides c.self.inside.counts.items c.self.inside.nodes c.self.inside.filing c.args.node c.self.invariant c.are_orderly.ensures.rising f z)
 
 pub returns-clause-nodes : goal.returns-clause-nodes
 returns-clause-nodes g c =

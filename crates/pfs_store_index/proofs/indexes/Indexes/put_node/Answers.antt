@@ -24,8 +24,8 @@ invariant_of-self g c =
     ap (λ (x : Score). record { node = record { number = c.args.number; scope = c.args.scope; source = c.args.source; score = x; expires = c.args.now }; states = 0; connections = 0 }) z in
     let k : IsScope c.self.inside.config c.args.scope = subst (λ (h : Holding). IsScope h.config c.args.scope) (sym c.self.view_is) c.requires.scoped in
     let f = node-absent c.args.scope c.args.source c.self.inside.nodes (ap (λ (h : Holding). has_node c.args.scope c.args.source h.nodes) c.self.view_is ∙ c.requires.absent) in
-    on-either c.push.result (λ (ts : List Tally). IsTied c.self.inside.config c.self.inside.records c.self.inside.keys c.self.inside.counts.items ts c.self.inside.filing)
+    on-either c.push.result (λ (ts : List Tally). IsTied c.self.inside.config c.self.inside.records c.self.inside.keys c.self.inside.insides c.self.inside.counts.items ts c.self.inside.filing)
     c.self.inside.nodes (c.self.inside.nodes ++ t ∷ []) c.push.new.self c.push.ensures.ok c.push.ensures.err
-    (tied-left_node c.self.inside.config c.self.inside.records c.self.inside.keys c.self.inside.counts.items c.self.inside.nodes c.self.inside.filing t c.args.number c.args.scope c.args.source c.args.now e k
+    (tied-left_node c.self.inside.config c.self.inside.records c.self.inside.keys c.self.inside.insides c.self.inside.counts.items c.self.inside.nodes c.self.inside.filing t c.args.number c.args.scope c.args.source c.args.now e k
     (none-any _ c.self.inside.nodes f) c.self.invariant)
     c.self.invariant

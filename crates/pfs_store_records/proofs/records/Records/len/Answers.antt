@@ -1,9 +1,8 @@
--- Answer of Records::len: there are as many records as numbers in order.
-use Rattle.std.proofs.Common.{length, ◌∙◌, ap, sym}
-use Rattle.pfs_store_records.specs.Keeping.{number_in, RecordIsAt, record_in}
-use Rattle.pfs_store_records.proofs.Ordered.{length-held}
+-- Answers of Records::len: a record with its keys is one record.
+use Rattle.std.proofs.Common.{◌∙◌, List, ap, length, sym}
+use Rattle.pfs_store_records.specs.Records.{Placed}
+use Rattle.pfs_store_records.proofs.Joining.{length-joined}
 use Rattle.pfs_store_records.proofs.records.Records.len.Goals as goal
 
 pub returns : goal.returns
-returns c =
-    c.len.ensures.len ∙ sym (length-held number_in RecordIsAt (record_in c.self.inside.slab) c.self.inside.places.entries c.self.invariant.kept.placed) ∙ ap length c.self.view_is
+returns c = c.len.ensures ∙ sym (length-joined c.self.inside.aside c.self.inside.packed) ∙ ap (λ (ps : List Placed). length ps) c.self.view_is

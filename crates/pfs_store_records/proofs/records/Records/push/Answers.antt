@@ -1,77 +1,48 @@
--- Answers of Records::push: a new record goes last (`records`, `states`), or room is refused; numbers rise.
-use Rattle.std.proofs.Common.{◌≡◌, ◌∙◌, ◌++◌, ◌∷◌, [], List, Some, ap, arith, refl, sym}
-use Rattle.pfs_store_contract.specs.Counts.{half_open}
-use Rattle.pfs_store_records.specs.Keeping.{values_at, number_in, RecordIsAt, record_in}
-use Rattle.pfs_store_records.specs.Records.{Placed, placed_at, states_of}
-use Rattle.pfs_store_records.proofs.HalfOpens.{few-half, half-pushed}
-use Rattle.pfs_store_records.proofs.Ordered.{below-keys, held-all, held-pushed, kept-all, kept-pushed}
-use Rattle.pfs_store_records.proofs.RecordLaws.{counted-grown, grown, numbers-states, rising-states, states-push, updated, vacant}
+-- Answers of Records::push: the keys of a state lie aside before its record is there, and where it is refused no more.
+use Rattle.std.proofs.Common.{◌∙◌, ◌++◌, ◌∷◌, [], List, ap, map, subst, sym}
+use Rattle.pfs_store_contract.specs.Purging.{state_numbers}
+use Rattle.pfs_store_records.specs.Aside.{whole_record, keys_apart}
+use Rattle.pfs_store_records.specs.Records.{IsAbove, IsRising, Placed, placed_at, states_of}
+use Rattle.pfs_store_records.proofs.Joining.{none-aside, numbers-joined, push-joined, same-joined, undone}
+use Rattle.pfs_store_records.proofs.RecordLaws.{states-push}
 use Rattle.pfs_store_records.proofs.records.Records.push.Goals as goal
 
-pub invariant_of-self : goal.invariant_of-self
-invariant_of-self c =
-    counted-grown c.self.inside.slab c.reserve.new.self c.self.inside.places.entries c.self.inside.half_open (grown c.self.inside.slab c.reserve.new.self _ c.reserve.ensures.rest_kept) c.self.invariant
+pub insert-requires : goal.insert-requires
+insert-requires c =
+    let above : IsAbove c.args.state.now.number (state_numbers (states_of c.self.inside.packed)) =
+    subst (IsAbove c.args.state.now.number) (ap (λ (ps : List Placed). state_numbers (states_of ps)) (sym c.self.view_is) ∙ numbers-joined c.self.inside.aside c.self.inside.packed) c.requires.above in
+    record { absent = none-aside c.args.state.now.number c.self.inside.aside (states_of c.self.inside.packed) c.self.invariant above }
 
-pub push-requires : goal.push-requires
-push-requires c = record {
-  above = below-keys number_in RecordIsAt c.args.state.now.number (record_in c.self.inside.slab) c.self.inside.places.entries c.self.invariant.kept.placed
-      (rw c.self.view_is (rw (numbers-states c.args.self.now) at c.requires.above));
-}
+pub returns-in_err-insert-clause-rising : goal.returns-in_err-insert-clause-rising
+returns-in_err-insert-clause-rising c = subst IsRising (sym (numbers-joined c.insert.new.self c.self.inside.packed)) c.numbers_rise.ensures
 
-pub returns-in_err-reserve-clause-rising : goal.returns-in_err-reserve-clause-rising
-returns-in_err-reserve-clause-rising c = rising-states c.reserve.new.self _ (invariant_of-self c).kept
+pub push-requires-clause-above : goal.push-requires-clause-above
+push-requires-clause-above c =
+    subst (IsAbove c.args.state.now.number) (ap (λ (ps : List Placed). state_numbers (states_of ps)) (sym c.self.view_is) ∙ numbers-joined c.self.inside.aside c.self.inside.packed) c.requires.above
 
-pub invariant_of-self-in_err-push : goal.invariant_of-self-in_err-push
-invariant_of-self-in_err-push c =
-    let k = counted-grown c.self.inside.slab c.reserve.new.self c.self.inside.places.entries c.self.inside.half_open (grown c.self.inside.slab c.reserve.new.self _ c.reserve.ensures.rest_kept) c.self.invariant in
-    rw c.in_err-push.ensures.err k
+pub returns-in-Ok-clause-records : goal.returns-in-Ok-clause-records
+returns-in-Ok-clause-records c =
+    let above : IsAbove c.args.state.now.number (state_numbers (states_of c.self.inside.packed)) =
+    subst (IsAbove c.args.state.now.number) (ap (λ (ps : List Placed). state_numbers (states_of ps)) (sym c.self.view_is) ∙ numbers-joined c.self.inside.aside c.self.inside.packed) c.requires.above in
+    ap (map (whole_record c.insert.new.self)) c.in-Ok.ensures.records
+    ∙ push-joined c.in-Ok.place c.args.state.now c.self.inside.aside c.insert.new.self c.self.inside.packed c.in_ok-insert.ensures.ok above
+    ∙ ap (λ ps. ps ++ placed_at c.in-Ok.place c.args.state.now ∷ []) c.self.view_is
 
-pub returns-in_err-push-clause-rising : goal.returns-in_err-push-clause-rising
-returns-in_err-push-clause-rising c = rising-states c.reserve.new.self _ (invariant_of-self-in_err-push c).kept
+pub returns-in-Ok-clause-states : goal.returns-in-Ok-clause-states
+returns-in-Ok-clause-states c = ap states_of (returns-in-Ok-clause-records c) ∙ states-push c.in-Ok.place c.args.state.now c.args.self.now
 
-pub invariant_of-self-in_err-place : goal.invariant_of-self-in_err-place
-invariant_of-self-in_err-place c =
-    counted-grown c.self.inside.slab c.reserve.new.self c.self.inside.places.entries c.self.inside.half_open (grown c.self.inside.slab c.reserve.new.self _ c.reserve.ensures.rest_kept) c.self.invariant
+pub returns-in-Ok-clause-rising : goal.returns-in-Ok-clause-rising
+returns-in-Ok-clause-rising c = subst IsRising (sym (numbers-joined c.insert.new.self c.push.new.self)) c.push.ensures.rising
 
-pub returns-in_err-place-clause-rising : goal.returns-in_err-place-clause-rising
-returns-in_err-place-clause-rising c = rising-states c.reserve.new.self _ (invariant_of-self-in_err-place c).kept
+pub returns-in-Err-clause-err : goal.returns-in-Err-clause-err
+returns-in-Err-clause-err c =
+    let above : IsAbove c.args.state.now.number (state_numbers (states_of c.self.inside.packed)) =
+    subst (IsAbove c.args.state.now.number) (ap (λ (ps : List Placed). state_numbers (states_of ps)) (sym c.self.view_is) ∙ numbers-joined c.self.inside.aside c.self.inside.packed) c.requires.above in
+    let absent = none-aside c.args.state.now.number c.self.inside.aside (states_of c.self.inside.packed) c.self.invariant above in
+    ap (map (whole_record c.remove.new.self)) c.in-Err.ensures.err
+    ∙ same-joined c.self.inside.aside c.remove.new.self c.self.inside.packed
+    (undone c.args.state.now.number (keys_apart c.args.state.now) c.self.inside.aside c.insert.new.self c.remove.new.self absent c.in_ok-insert.ensures.ok c.remove.ensures)
+    ∙ c.self.view_is
 
-pub with-self-inside-requires : goal.with-self-inside-requires
-with-self-inside-requires c =
-    let few = few-half (record_in c.self.inside.slab) c.self.inside.places.entries c.self.inside.half_open c.self.invariant.kept.placed c.self.invariant.counted in
-    omega (arith, few, c.len-count.ensures.len, c.len-count.ensures.small)
-
-pub returns-clause-records : goal.returns-clause-records
-returns-clause-records c =
-    let g = grown c.self.inside.slab c.reserve.new.self _ c.reserve.ensures.rest_kept in
-    let k = kept-all number_in RecordIsAt (record_in c.self.inside.slab) (record_in c.reserve.new.self) c.self.inside.places.entries g c.self.invariant.kept in
-    let w : values_at (record_in c.reserve.new.self) c.self.inside.places.entries ≡ c.args.self.now = held-all number_in RecordIsAt (record_in c.self.inside.slab) (record_in c.reserve.new.self) c.self.inside.places.entries g ∙ c.self.view_is in
-    let q = c.in_ok-place.ensures ∙ c.vacant_key.ensures.value ∙ sym c.insert_reserved.ensures.key in
-    held-pushed number_in RecordIsAt (record_in c.reserve.new.self) (record_in c.insert_reserved.new.self) c.insert_reserved.result (placed_at c.insert_reserved.result c.args.state.now) c.self.inside.places.entries _
-    (vacant c.reserve.new.self c.insert_reserved.result c.insert_reserved.ensures.was_vacant)
-    (updated c.reserve.new.self c.insert_reserved.new.self c.insert_reserved.result (Some c.args.state.now) (rw c.of.ensures at c.insert_reserved.ensures.updates))
-    k (rw w (rw (numbers-states c.args.self.now) at c.requires.above)) (rw q at c.in_ok-push.ensures.entries)
-    ∙ ap (λ xs. xs ++ placed_at c.insert_reserved.result c.args.state.now ∷ []) w
-    ∙ ap (λ place. c.args.self.now ++ placed_at place c.args.state.now ∷ []) (sym q)
-
-pub returns-clause-states : goal.returns-clause-states
-returns-clause-states c = ap states_of (returns-clause-records c) ∙ states-push c.in_ok-place.place c.args.state.now c.args.self.now
-
-pub invariant_of-self-2 : goal.invariant_of-self-2
-invariant_of-self-2 c =
-    let g = grown c.self.inside.slab c.reserve.new.self _ c.reserve.ensures.rest_kept in
-    let k = kept-all number_in RecordIsAt (record_in c.self.inside.slab) (record_in c.reserve.new.self) c.self.inside.places.entries g c.self.invariant.kept in
-    let w : values_at (record_in c.reserve.new.self) c.self.inside.places.entries ≡ c.args.self.now = held-all number_in RecordIsAt (record_in c.self.inside.slab) (record_in c.reserve.new.self) c.self.inside.places.entries g ∙ c.self.view_is in
-    let q = c.in_ok-place.ensures ∙ c.vacant_key.ensures.value ∙ sym c.insert_reserved.ensures.key in
-    let before = ap (λ (ps : List Placed). half_open (states_of ps)) c.self.view_is in
-    let after = ap half_open (returns-clause-states c) ∙ half-pushed c.args.state.now (states_of c.args.self.now) in
-    record {
-      kept = kept-pushed number_in RecordIsAt (record_in c.reserve.new.self) (record_in c.insert_reserved.new.self) c.insert_reserved.result (placed_at c.insert_reserved.result c.args.state.now) c.self.inside.places.entries _
-          (vacant c.reserve.new.self c.insert_reserved.result c.insert_reserved.ensures.was_vacant)
-          (updated c.reserve.new.self c.insert_reserved.new.self c.insert_reserved.result (Some c.args.state.now) (rw c.of.ensures at c.insert_reserved.ensures.updates))
-          k (rw w (rw (numbers-states c.args.self.now) at c.requires.above)) refl (rw q at c.in_ok-push.ensures.entries) c.push.ensures.ordered;
-      counted = omega (arith, c.with-self-inside.ensures, c.self.invariant.counted, before, after);
-    }
-
-pub returns-clause-rising : goal.returns-clause-rising
-returns-clause-rising c = rising-states c.insert_reserved.new.self _ (invariant_of-self-2 c).kept
+pub returns-in-Err-clause-rising : goal.returns-in-Err-clause-rising
+returns-in-Err-clause-rising c = subst IsRising (sym (numbers-joined c.remove.new.self c.push.new.self)) c.push.ensures.rising

@@ -1,22 +1,21 @@
--- Answers of Records::read: the number has a place, and the record there is the one that is returned (`value`).
-use Rattle.std.proofs.Common.{◌≡◌, ◌∙◌, ◌==◌, Some, ap, sym, true}
-use Rattle.std.specs.List.{list_any}
-use Rattle.pfs_store_records.specs.Keeping.{number_in, RecordIsAt, record_in}
-use Rattle.pfs_store_records.specs.Records.{Placed}
-use Rattle.pfs_store_records.proofs.Ordered.{found, in_none}
-use Rattle.pfs_store_records.proofs.RecordLaws.{any-states, has_place, read-value}
+-- Answers of Records::read: the state of a number, with the keys that lie aside for it (`value`).
+use Rattle.std.proofs.Common.{◌∙◌, ◌==◌, List, Some, ap, option_map, sym}
+use Rattle.std.specs.List.{find}
+use Rattle.pfs_store_contract.specs.Worlds.{holds_number}
+use Rattle.pfs_store_contract.specs.declared.records.State.{State}
+use Rattle.pfs_store_records.specs.Aside.{lying, with_keys}
+use Rattle.pfs_store_records.specs.Records.{Placed, states_of}
+use Rattle.pfs_store_records.proofs.Joining.{find-joined, holds-joined, numbered}
 use Rattle.pfs_store_records.proofs.records.Records.read.Goals as goal
 
-pub look-requires-clause-held : goal.look-requires-clause-held
-look-requires-clause-held c =
-    let f = found number_in RecordIsAt (record_in c.self.inside.slab) c.args.number c.in-Some.place c.self.inside.places.entries c.self.invariant.kept.placed (sym c.in-Some.ensures.value) in
-    has_place c.self.inside.slab c.in-Some.place f.0 f.1
-
-pub unreachable-requires : goal.unreachable-requires
-unreachable-requires c =
-    let a : list_any (λ (p : Placed). number_in p == c.args.number) c.args.self.now ≡ true = sym (any-states c.args.number c.args.self.now) ∙ c.requires.held in
-    in_none number_in RecordIsAt (record_in c.self.inside.slab) c.args.number c.self.inside.places.entries c.self.invariant.kept.placed (sym c.in-None.ensures.value) (rw c.self.view_is a)
+pub read-state-requires-clause-held : goal.read-state-requires-clause-held
+read-state-requires-clause-held c =
+    sym (holds-joined c.args.number c.self.inside.aside c.self.inside.packed) ∙ ap (λ (ps : List Placed). holds_number (states_of ps) c.args.number) c.self.view_is ∙ c.requires.held
 
 pub returns-clause-value : goal.returns-clause-value
 returns-clause-value c =
-    ap Some c.state.ensures.value ∙ rw (sym c.self.view_is) (read-value c.args.number c.self.inside.slab c.self.inside.places.entries c.in-Some.place c.look.result.now c.self.invariant.kept.placed (sym c.in-Some.ensures.value) c.look.ensures.value)
+    let n = numbered c.args.number c.read-state.result (states_of c.self.inside.packed) (sym c.read-state.ensures.value) in
+    ap Some (c.join.ensures ∙ ap (λ m. with_keys (lying c.self.inside.aside m) c.read-state.result) n)
+    ∙ ap (option_map (with_keys (lying c.self.inside.aside c.args.number))) c.read-state.ensures.value
+    ∙ sym (find-joined c.args.number c.self.inside.aside c.self.inside.packed)
+    ∙ ap (λ (ps : List Placed). find (λ (s : State). s.number == c.args.number) (states_of ps)) c.self.view_is

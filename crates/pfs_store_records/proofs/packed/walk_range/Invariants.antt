@@ -3,7 +3,7 @@ use Rattle.std.proofs.Common.{◌≡◌, ◌≤◌, ◌+◌, ◌-◌}
 use Rattle.pfs_store_records.specs.Stays.{IsStay}
 use Rattle.pfs_store_records.specs.Walks.{end_of, state_has_expired}
 use Rattle.pfs_store_records.proofs.Walking.{Each, Stays, Until, Walking}
-use Rattle.pfs_store_records.proofs.records.walk_range.Given as goal
+use Rattle.pfs_store_records.proofs.packed.walk_range.Given as goal
 
 abbrev pub invariant-loop-stayed : goal.invariant-loop-stayed
 invariant-loop-stayed g l = record {

@@ -11,8 +11,8 @@ use Rattle.pfs_store_records.specs.Stays.{IsStay}
 use Rattle.pfs_store_records.specs.declared.stays.Stay.{Stay}
 use Rattle.pfs_store_records.specs.Walks.{IsLeaver, IsWalk, end_of, state_has_expired}
 use Rattle.pfs_store_records.proofs.Walking.{Each, Stays, Until, each-empty, is-walk, next-leaves, next-there, none-leaves, one-stays, share-used, until-more, until-states, walking-init, walking-step}
-use Rattle.pfs_store_records.proofs.records.walk_range.Goals as goal
-use Rattle.pfs_store_records.proofs.records.walk_range.Goals.{then-stayed-share, else-stayed-share+in_default, else-stayed-share+in-Some+in-None, then-not-is_of, else-not-is_of}
+use Rattle.pfs_store_records.proofs.packed.walk_range.Goals as goal
+use Rattle.pfs_store_records.proofs.packed.walk_range.Goals.{then-stayed-share, else-stayed-share+in_default, else-stayed-share+in-Some+in-None, then-not-is_of, else-not-is_of}
 
 -- what is known of a rule and a timeout
 seconds-of : (lifetime : RuleNo → TimeoutName → ℕ) (known : Stay) (rule : RuleNo) (timeout : TimeoutName) → IsStay lifetime known → (known.is_known ≡ true) × (known.rule ≡ rule) × (known.timeout ≡ timeout)
