@@ -1,7 +1,7 @@
 -- Answers of by_rules: the keys of a state are free where no rule translates (`fresh`).
 use Rattle.std.proofs.Common.{◌≡◌, ◌∙◌, ap, subst, sym, true, ℕ, false, Some, None, Option, IfOk}
 use Rattle.pfs_addr_values.specs.Packets.{PacketView}
-use Rattle.pfs_engine_machine.specs.Machine.{packet_ruled, Held, answer_of_loss, answer_of_rule, deciding_rule, losing_rule}
+use Rattle.pfs_engine_machine.specs.Machine.{packet_ruled, Held, answer_of_loss, answer_of_rule, deciding_rule, losing_rule, answer_of_rules}
 use Rattle.pfs_engine_machine.specs.Guards.{asked}
 use Rattle.pfs_engine_machine.specs.Sides.{are_free}
 use Rattle.pfs_engine_machine.proofs.Leading.{led_on}
@@ -12,7 +12,7 @@ use Rattle.std.proofs.lemmas.Bool.{false≢true}
 use Rattle.pfs_conf_values.specs.declared.items.RuleNo.{RuleNo}
 use Rattle.pfs_engine_machine.specs.Visits.{AreVisits}
 use Rattle.pfs_engine_machine.specs.declared.events.Outcome.{Outcome}
-use Rattle.pfs_engine.specs.Held.{HeldView, IsAnswered}
+use Rattle.pfs_engine.specs.Held.{HeldView}
 use Rattle.pfs_engine.specs.Packets.{NeedsNoneBy, NeedsNoneUnlessLost}
 use Rattle.pfs_engine.specs.Ways.{HasRoutes}
 
@@ -35,8 +35,9 @@ returns-in-None-Some-clause-answered g c =
     let lost = sym (c.decide-decision.ensures.lost ∙ ap (losing_rule was.config was.held) c.asked.ensures) ∙ ap (option_map (λ (x : RuleNo). x.0)) c.in-None-Some.is-0 in
     let decides = sym (c.decide-decision.ensures.rule ∙ ap (deciding_rule was.config was.held) c.asked.ensures) ∙ ap (option_map (λ (x : RuleNo). x.0)) c.in-None-Some.is-1 in
     let going = c.decide-decision.ensures.packet ∙ ap (packet_ruled was.config was.held) c.asked.ensures in
-    let path = (λ i. answer_of_loss was.config was.held p (going i) c.args.cookie c.args.now (sym decides i) (sym lost i)) in
-    let a = subst (λ (v : HeldView _). IsAnswered r (answer_of_rule v.config v.held p c.decide-decision.result.packet c.args.cookie c.args.now (Some rule.0)) v after) c.held.view_is c.by_action.ensures.answered in
+    let path : answer_of_rule was.config was.held p c.decide-decision.result.packet c.args.cookie c.args.now (Some rule.0) ≡ answer_of_rules was.config was.held p c.args.cookie c.args.now =
+    λ i. answer_of_loss was.config was.held p (going i) c.args.cookie c.args.now (sym decides i) (sym lost i) in
+    let a = c.by_action.ensures.answered in
     record { ok = subst (λ (x : Outcome × Held). IfOk r (λ o. (o, after.held) ≡ x)) path a.ok; err = a.err; config = a.config }
 
 pub returns-in-None-Some-clause-going : goal.returns-in-None-Some-clause-going
@@ -67,4 +68,4 @@ returns-in-None-Some-clause-free g c = λ needs.
     let by = subst (λ (x : Option ℕ). NeedsNoneUnlessLost was.config was.held p ruled x None) decides
     (subst (λ (x : Option ℕ). NeedsNoneUnlessLost was.config was.held p ruled (deciding_rule was.config was.held (asked p c.args.cookie)) x) lost needs) in
     let here = subst (λ (x : PacketView). NeedsNoneBy was.config was.held p x (Some rule.0)) (sym going) by in
-    c.by_action.ensures.free (subst (λ (v : HeldView _). NeedsNoneBy v.config v.held p c.decide-decision.result.packet (Some rule.0)) (sym c.held.view_is) here)
+    c.by_action.ensures.free here
