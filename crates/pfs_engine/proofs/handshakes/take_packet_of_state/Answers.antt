@@ -24,6 +24,7 @@ use Rattle.pfs_engine.proofs.Numbered.{number-held, numbered-found}
 use Rattle.pfs_engine.proofs.handshakes.take_packet_of_state.Goals as goal
 use Rattle.pfs_engine.proofs.handshakes.take_packet_of_state.Goals.{else-may_go_on, then-may_go_on}
 use Rattle.pfs_engine.specs.Ways.{HasRoutes}
+use Rattle.std.proofs.lemmas.Bool.{false≢true}
 
 pub renew-touched-requires-clause-held : goal.renew-touched-requires-clause-held
 renew-touched-requires-clause-held g c =
@@ -136,5 +137,5 @@ returns-clause-going g c = λ routes cookie.
     ∙ ap (option_and_then (onward_key p.dir)) number_is in
     elim c.if-may_go_on.branch [
       | then-may_go_on x ↦ x.going-is ∙ ap (λ (q : PacketView). Some q) (x.sent_on.ensures ∙ going_on was.config store_conf was.held p cookie c.args.now c.args.found.number t.result c.key_beyond-key.result c.requires.found.number answer key)
-      | else-may_go_on x ↦ absurd (x.if-may_go_on.ensures.1 (subst HasRoutes (sym same.0) routes))
+      | else-may_go_on x ↦ absurd (false≢true (x.if-may_go_on.ensures.1 (subst HasRoutes (sym same.0) routes)))
     ]

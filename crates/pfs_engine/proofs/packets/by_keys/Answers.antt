@@ -18,7 +18,7 @@ returns-clause-answered g c =
     let was = c.args.held.now in
     let here = ap (λ (v : HeldView _). v.config) c.held.view_is in
     let free : are_free was.held.world p going ≡ true = elim c.else-translates.branch [
-      | else-translates-via-then-translates+else-not-are_free x ↦ sym (x.if-not-are_free.ensures ∙ ap (λ (v : HeldView _). are_free v.held.world p going) c.held.view_is)
+      | else-translates-via-then-translates+else-not-are_free x ↦ sym x.if-not-are_free.ensures
       | else-translates-via-else-translates x ↦ c.requires.fresh (sym (x.if-translates.ensures ∙ ap translates here))
     ] in
     let made = c.in_ok-make.ensures.ok ∙ (λ i. world_after_admission (c.held.invariant.store i) w p going c.args.rule.0 c.args.cookie c.args.now) in

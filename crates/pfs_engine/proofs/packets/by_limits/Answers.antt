@@ -11,6 +11,7 @@ use Rattle.pfs_engine.specs.Held.{HeldView}
 use Rattle.pfs_engine.specs.Packets.{NeedsNoneAtLimits}
 use Rattle.pfs_engine.proofs.Admitting.{keys_are_limits}
 use Rattle.pfs_engine.proofs.packets.by_limits.Goals as goal
+use Rattle.pfs_store_contract.specs.Admission.{limit_met}
 
 pub returns-in-None-clause-answered : goal.returns-in-None-clause-answered
 returns-in-None-clause-answered g c =
@@ -45,7 +46,7 @@ returns-in-None-clause-free g c =
     let none = sym c.in_ok-limit.ensures.answer ∙ c.in-None.is in
     let same = c.in_ok-limit.ensures.ok ∙ ap (world_asked store_conf w c.src.result c.args.rule.0 c.args.now) none in
     let met = ap (λ (x : HeldView _). packet_limit x.config x.held.world p c.args.rule.0) (sym c.held.view_is)
-    ∙ (λ i. packet_limit (sym c.held.invariant.store i) w p c.args.rule.0) ∙ (search rules) in
+    ∙ (λ i. limit_met (sym c.held.invariant.store i) w c.args.rule.0 (sym c.src.ensures i)) ∙ none in
     λ needs.
         let taken : are_free c.args.held.now.held.world p going ≡ false = subst (NeedsNoneAtLimits c.args.held.now.config c.args.held.now.held.world p going c.args.rule.0) met needs in
         c.by_keys.ensures.free (ap (λ (x : World). are_free x p going) (same ∙ ap (λ (x : HeldView _). x.held.world) c.held.view_is) ∙ taken)
