@@ -84,7 +84,12 @@ pub trait Store {
     /// node in its scope, a node is made and stays, which may leave from `now` on. Memory is taken for that node alone; `NoMemory` where
     /// it was refused, and then nothing changes. Fewer than 2,000,000,000 numbers were used before. It looks at no record.
     /// (pf.conf(5), OPTIONS, "set limit", and STATEFUL TRACKING OPTIONS; the order of the limits is own, and likely OpenBSD's)
-    fn meet_limit(&mut self, source: Addr, rule: RuleNo, now: u64) -> Result<Option<Limit>, NoMemory>
+    fn meet_limit(
+        &mut self,
+        source: Addr,
+        rule: RuleNo,
+        now: u64,
+    ) -> Result<Option<Limit>, NoMemory>
         requires keeps { IsSome (options_at (config self.old) rule.0) }
         requires room { (world self.old).made < run_limit }
         ensures answer { IfOk result (λ l. l ≡ limit_met (config self.old) (world self.old) rule.0 source) }

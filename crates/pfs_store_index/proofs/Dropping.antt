@@ -48,9 +48,9 @@ tied-dropped conf rs keys insides counts ts filing n i r f z =
     let y : node_states conf t.whole.node.scope t.whole.node.source (states_of rs) ≡ 0 = ap (λ (m : Node). node_states conf m.scope m.source (states_of rs)) t.same ∙ z in
     record {
       by_key = i.by_key;
-  by_inner = i.by_inner;
+      by_inner = i.by_inner;
       distinct = i.distinct;
-  distinct_inside = i.distinct_inside;
+      distinct_inside = i.distinct_inside;
       by_rule = i.by_rule;
       size = i.size;
       ruled = i.ruled;

@@ -19,8 +19,8 @@ use crate::stepping::new_phase;
 use pfs_addr_values::{Addr, Dir, FlowKey, Meter, NoMemory, Packet};
 use pfs_conf_values::{Config, LimitName, RuleNo, RulesHasher};
 use pfs_store_contract::{
-    Found, FromTo, Limit, Slice, State, StateNo, Staying, Store, Touched, Watched,
-    apart, inner_key, wire_key,
+    Found, FromTo, Limit, Slice, State, StateNo, Staying, Store, Touched, Watched, apart,
+    inner_key, wire_key,
 };
 use pfs_store_records::Round;
 use std::alloc::Global;

@@ -15,8 +15,8 @@ use crate::touching::{self, state_inside, state_numbered, state_with};
 use pfs_addr_values::{Addr, Dir, FlowKey, Meter, NoMemory, Packet};
 use pfs_conf_values::{Config, RuleNo};
 use pfs_store_contract::{
-    Found, FromTo, Limit, Node, NodeScope, Slice, State, StateNo, Store, Touched, apart,
-    inner_key, is_answered, wire_key,
+    Found, FromTo, Limit, Node, NodeScope, Slice, State, StateNo, Store, Touched, apart, inner_key,
+    is_answered, wire_key,
 };
 use pfs_store_rules::node_scope;
 use pfs_track::{Score, StatePhase};

@@ -16,8 +16,8 @@ ghost use Rattle.pfs_store_records.specs.declared.nodes.Tally.{Tally};
 ghost use Rattle.pfs_store_records.specs.Walks.{IsPassing, StopsWalkAt, looks_of};
 
 use crate::changes::{Change, changed};
-use crate::places::Places;
 use crate::packed::short;
+use crate::places::Places;
 use crate::retaining::{is_over, kept_until};
 use crate::scope_counts::ScopeCounts;
 use crate::sought::Tracked;
