@@ -39,7 +39,7 @@ pub record Answers (conf : Conf) (m : Held) (p : PacketView) (cookie : Bool) (no
   pub refused : (rule : ℕ) (limit : Limit) → IsDropped conf m p cookie rule limit → Q (outcome.Drop (record { 0 = rule }) limit, held_refused conf m p now rule limit)
   pub conflicts : (rule : ℕ) → Q (outcome.Conflict (record { 0 = rule }), m)
   pub made : (rule : ℕ) (going : PacketView) → packet_limit conf m.world p rule ≡ None → IsLedOn conf p going → are_free m.world p going ≡ true
-      → Q (outcome_of_new (record { 0 = rule }) (cookie || is_answered conf rule p), held_of (world_after_admission conf m.world p going rule cookie now) m.tables)
+      → state_for m.world p ≡ None → going ≡ packet_ruled conf m (asked p cookie) → Q (outcome_of_new (record { 0 = rule }) (cookie || is_answered conf rule p), held_of (world_after_admission conf m.world p going rule cookie now) m.tables)
 
 -- it is one of no held state, no rule loses it, and this one decides
 record IsAsked (conf : Conf) (m : Held) (p : PacketView) (cookie : Bool) (rule : ℕ) : Type 0 where
@@ -53,40 +53,40 @@ keeps_state None o e = cc
 keeps_state (Some r) o e = rw e refl
 
 key_answers : (conf : Conf) (m : Held) (p going : PacketView) (cookie : Bool) (now rule : ℕ) (Q : Outcome × Held → Type 0) → Answers conf m p cookie now Q
-    → packet_limit conf m.world p rule ≡ None → IsLedOn conf p going
+    → packet_limit conf m.world p rule ≡ None → IsLedOn conf p going → state_for m.world p ≡ None → going ≡ packet_ruled conf m (asked p cookie)
     → (free : Bool) → are_free m.world p going ≡ free → Q (answer_of_keys conf m p going cookie now rule free)
-key_answers conf m p going cookie now rule Q a none led true e = a.made rule going none led e
-key_answers conf m p going cookie now rule Q a none led false e = a.conflicts rule
+key_answers conf m p going cookie now rule Q a none led fresh same true e = a.made rule going none led e fresh same
+key_answers conf m p going cookie now rule Q a none led fresh same false e = a.conflicts rule
 
 limit_answers : (conf : Conf) (m : Held) (p going : PacketView) (cookie : Bool) (now rule : ℕ) (Q : Outcome × Held → Type 0) → Answers conf m p cookie now Q
-    → IsAsked conf m p cookie rule → IsLedOn conf p going → IsSome (options_at conf rule)
+    → IsAsked conf m p cookie rule → IsLedOn conf p going → going ≡ packet_ruled conf m (asked p cookie) → IsSome (options_at conf rule)
     → (limit : Option Limit) → packet_limit conf m.world p rule ≡ limit → Q (answer_of_limits conf m p going cookie now rule limit)
-limit_answers conf m p going cookie now rule Q a is led keeps None e = key_answers conf m p going cookie now rule Q a e led (are_free m.world p going) refl
-limit_answers conf m p going cookie now rule Q a is led keeps (Some l) e =
+limit_answers conf m p going cookie now rule Q a is led same keeps None e = key_answers conf m p going cookie now rule Q a e led is.fresh same (are_free m.world p going) refl
+limit_answers conf m p going cookie now rule Q a is led same keeps (Some l) e =
     a.refused rule l (record { fresh = is.fresh; passes = is.passes; rule_is = is.rule_is; keeps = keeps; met = e })
 
 action_answers : (conf : Conf) (m : Held) (p going : PacketView) (cookie : Bool) (now rule : ℕ) (Q : Outcome × Held → Type 0) → Answers conf m p cookie now Q
-    → IsAsked conf m p cookie rule → IsLedOn conf p going
+    → IsAsked conf m p cookie rule → IsLedOn conf p going → going ≡ packet_ruled conf m (asked p cookie)
     → (what : Action) → (rule_of conf rule).action ≡ what → Q (answer_of_action conf m p going cookie now rule what)
-action_answers conf m p going cookie now rule Q a is led action.Match e = a.passes
-action_answers conf m p going cookie now rule Q a is led action.Block e = a.blocked rule
-action_answers conf m p going cookie now rule Q a is led action.Pass e = a.passed rule
-action_answers conf m p going cookie now rule Q a is led (action.Keep o) e =
-    limit_answers conf m p going cookie now rule Q a is led (keeps_state (rule_at conf rule) o e) (packet_limit conf m.world p rule) refl
+action_answers conf m p going cookie now rule Q a is led same action.Match e = a.passes
+action_answers conf m p going cookie now rule Q a is led same action.Block e = a.blocked rule
+action_answers conf m p going cookie now rule Q a is led same action.Pass e = a.passed rule
+action_answers conf m p going cookie now rule Q a is led same (action.Keep o) e =
+    limit_answers conf m p going cookie now rule Q a is led same (keeps_state (rule_at conf rule) o e) (packet_limit conf m.world p rule) refl
 
 rule_answers : (conf : Conf) (m : Held) (p going : PacketView) (cookie : Bool) (now : ℕ) (Q : Outcome × Held → Type 0) → Answers conf m p cookie now Q
-    → state_for m.world p ≡ None → losing_rule conf m (asked p cookie) ≡ None → IsLedOn conf p going
+    → state_for m.world p ≡ None → losing_rule conf m (asked p cookie) ≡ None → IsLedOn conf p going → going ≡ packet_ruled conf m (asked p cookie)
     → (rule : Option ℕ) → deciding_rule conf m (asked p cookie) ≡ rule → Q (answer_of_rule conf m p going cookie now rule)
-rule_answers conf m p going cookie now Q a fresh passes led None e = a.passes
-rule_answers conf m p going cookie now Q a fresh passes led (Some rule) e =
-    action_answers conf m p going cookie now rule Q a (record { fresh = fresh; passes = passes; rule_is = e }) led (rule_of conf rule).action refl
+rule_answers conf m p going cookie now Q a fresh passes led same None e = a.passes
+rule_answers conf m p going cookie now Q a fresh passes led same (Some rule) e =
+    action_answers conf m p going cookie now rule Q a (record { fresh = fresh; passes = passes; rule_is = e }) led same (rule_of conf rule).action refl
 
 loss_answers : (conf : Conf) (m : Held) (p : PacketView) (cookie : Bool) (now : ℕ) (Q : Outcome × Held → Type 0) → Answers conf m p cookie now Q
     → state_for m.world p ≡ None → (loses : Option ℕ) → losing_rule conf m (asked p cookie) ≡ loses
     → Q (answer_of_loss conf m p (packet_ruled conf m (asked p cookie)) cookie now (deciding_rule conf m (asked p cookie)) loses)
 loss_answers conf m p cookie now Q a fresh (Some rule) e = a.lost rule
 loss_answers conf m p cookie now Q a fresh None e =
-    rule_answers conf m p (packet_ruled conf m (asked p cookie)) cookie now Q a fresh e (led_on conf m p cookie) (deciding_rule conf m (asked p cookie)) refl
+    rule_answers conf m p (packet_ruled conf m (asked p cookie)) cookie now Q a fresh e (led_on conf m p cookie) refl (deciding_rule conf m (asked p cookie)) refl
 
 state_answers : (conf : Conf) (m : Held) (p : PacketView) (cookie : Bool) (now : ℕ) (Q : Outcome × Held → Type 0) → Answers conf m p cookie now Q
     → (found : Option State) → state_for m.world p ≡ found → Q (answer_of_state conf m p cookie now found)
@@ -132,7 +132,7 @@ handshake_held conf m s now unhindered completes of = by (if completes then exce
     by (Some e) = refl
     by None = of
 
-state_held : (conf : Conf) (m : Held) (p : PacketView) (cookie : Bool) (now : ℕ) (s : State) → is_of_held (answer_of_state conf m p cookie now (Some s)).0 ≡ true
+pub state_held : (conf : Conf) (m : Held) (p : PacketView) (cookie : Bool) (now : ℕ) (s : State) → is_of_held (answer_of_state conf m p cookie now (Some s)).0 ≡ true
 state_held conf m p cookie now s =
     handshake_held conf (held_of (world_after_touch conf m.world s p now) m.tables) s now (outcome_of_held s.rule (is_taken p s) (is_asking p s)) (completes_at p s)
     (told_held s.rule (is_taken p s) (is_asking p s))
@@ -167,7 +167,7 @@ refused_only conf m p cookie now = answered_has conf m p cookie now (RefusedOnly
       let limits : l ≡ limit = cc in
       let number : r ≡ rule.0 = ap (λ (x : RuleNo). x.0) rules in
       (rw (sym number, sym limits) is, ap (λ (n : ℕ). held_refused conf m p now n l) number ∙ ap (λ (x : Limit). held_refused conf m p now rule.0 x) limits);
-  made = λ r going none led free rule limit e. refuse-new (numbered r) (cookie || is_answered conf r p) rule limit e;
+  made = λ r going none led free fresh same rule limit e. refuse-new (numbered r) (cookie || is_answered conf r p) rule limit e;
 })
 
 -- ---- none gets a cookie by rules; and one for which no rule keeps state leaves all as it is
@@ -197,7 +197,7 @@ no_cookie_by_rules conf m p cookie now = answered_has conf m p cookie now (λ (a
   lost = λ r e. cc;
   refused = λ r l is e. cc;
   conflicts = λ r e. cc;
-  made = λ r going none led free. new-given (numbered r) (cookie || is_answered conf r p);
+  made = λ r going none led free fresh same. new-given (numbered r) (cookie || is_answered conf r p);
 })
 
 abbrev pub LeavesAll : Held → Bool → Outcome × Held → Type 0
@@ -212,7 +212,7 @@ stateless_leaves_all conf m p cookie now = answered_has conf m p cookie now (Lea
   lost = λ r rule e. cc;
   refused = λ r l is rule e. cc;
   conflicts = λ r rule e. cc;
-  made = λ r going none led free rule e. absurd (new-brought (numbered r) (cookie || is_answered conf r p) rule e);
+  made = λ r going none led free fresh same rule e. absurd (new-brought (numbered r) (cookie || is_answered conf r p) rule e);
 })
 
 abbrev pub MadeShared : Conf → Held → PacketView → Outcome × Held → Type 0
@@ -229,11 +229,11 @@ maker-new : (rule : RuleNo) (answered : Bool) → maker_of (outcome_of_new rule 
 maker-new rule true = refl
 maker-new rule false = refl
 
-maker-pass : (r : Option RuleNo) (cookie : Bool) → maker_of (outcome_of_pass r cookie) ≡ None
+pub maker-pass : (r : Option RuleNo) (cookie : Bool) → maker_of (outcome_of_pass r cookie) ≡ None
 maker-pass r true = refl
 maker-pass r false = refl
 
-not-held : (o : Outcome) (rule : RuleNo) → is_of_held o ≡ true → maker_of o ≡ Some rule → ⊥
+pub not-held : (o : Outcome) (rule : RuleNo) → is_of_held o ≡ true → maker_of o ≡ Some rule → ⊥
 not-held (outcome.State r) rule h e = cc
 not-held (outcome.Taken r) rule h e = cc
 not-held (outcome.Asking r) rule h e = cc
@@ -255,7 +255,7 @@ not-held (outcome.Killed n) rule h e = false≢true h
 not-held (outcome.Held amounts) rule h e = false≢true h
 
 -- an outcome that makes a state of a rule tells that rule
-made-by : (o : Outcome) (rule : RuleNo) (answered : Bool) → o ≡ outcome_of_new rule answered → maker_of o ≡ Some rule
+pub made-by : (o : Outcome) (rule : RuleNo) (answered : Bool) → o ≡ outcome_of_new rule answered → maker_of o ≡ Some rule
 made-by o rule answered e = ap maker_of e ∙ maker-new rule answered
 
 pub made_shared : (conf : Conf) (m : Held) (p : PacketView) (cookie : Bool) (now : ℕ) → IsConfig conf → IsKept conf m now → MadeShared conf m p (answer_of_key conf m p cookie now)
@@ -267,7 +267,7 @@ made_shared conf m p cookie now config kept = answered_has conf m p cookie now (
   lost = λ r rule answered e. absurd (let no = made-by _ rule answered e in cc);
   refused = λ r l is rule answered e. absurd (let no = made-by _ rule answered e in cc);
   conflicts = λ r rule answered e. absurd (let no = made-by _ rule answered e in cc);
-  made = λ r going none led free rule answered e global.
+  made = λ r going none led free fresh own rule answered e global.
       let some : Some (numbered r) ≡ Some rule = sym (maker-new (numbered r) (cookie || is_answered conf r p)) ∙ made-by _ rule answered e in
       let same : numbered r ≡ rule = cc in
       let number : r ≡ rule.0 = ap (λ (x : RuleNo). x.0) same in

@@ -296,10 +296,10 @@ plain_new conf number rule now p going cookie led none = by p.dir
     by dir.Out = ap (at dir.Out) (led.key none) ∙ alike (key_of p)
 
 -- both its keys are free
-free_outside : (w : World) (p going : PacketView) → are_free w p going ≡ true → state_with (wire_key p going) w ≡ None
+pub free_outside : (w : World) (p going : PacketView) → are_free w p going ≡ true → state_with (wire_key p going) w ≡ None
 free_outside w p going e = none-is (state_with (wire_key p going) w) (and_parts (is_none (state_with (wire_key p going) w)) (is_none (state_inside (key_inside p going) w)) e).0
 
-free_inside : (w : World) (p going : PacketView) → are_free w p going ≡ true → state_inside (key_inside p going) w ≡ None
+pub free_inside : (w : World) (p going : PacketView) → are_free w p going ≡ true → state_inside (key_inside p going) w ≡ None
 free_inside w p going e = none-is (state_inside (key_inside p going) w) (and_parts (is_none (state_with (wire_key p going) w)) (is_none (state_inside (key_inside p going) w)) e).1
 
 -- ---- what is kept

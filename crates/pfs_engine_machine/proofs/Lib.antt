@@ -28,6 +28,7 @@ pub mod RecordRuns
 mod Remembering
 pub mod Renewals
 pub mod Reopening
+mod Replies
 mod Rounds
 mod RunActs
 pub mod Running

@@ -47,7 +47,7 @@ key_has conf h p cookie now Q c = go (state_for h.world p) refl
       lost = λ rule. c.passes fresh;
       conflicts = λ rule. c.passes fresh;
       refused = λ rule limit is. c.refuses rule limit fresh is.met;
-      made = λ rule going none led free. c.admits rule going fresh none led free;
+      made = λ rule going none led free new same. c.admits rule going fresh none led free;
     })
     go (Some s) found =
         subst (λ (o : Option State). Q (answer_of_state conf h p cookie now o).1.world) (sym found)

@@ -1,5 +1,5 @@
 -- What is held stays within the limits through the acts of a run whose moments do not fall.
-use Rattle.std.proofs.Common.{◌≤◌, ℕ, Bool, true, false, if◌then◌else◌, Option, Some, None, List, [], ◌∷◌, ◌++◌, map, arith, refl, subst}
+use Rattle.std.proofs.Common.{◌≤◌, ℕ, Bool, true, false, if◌then◌else◌, Option, Some, None, List, [], ◌∷◌, ◌++◌, map, arith, refl, subst, ◌≡◌}
 use Rattle.std.specs.Option.{ForSome}
 use Rattle.pfs_addr_values.specs.Packets.{PacketView}
 use Rattle.pfs_conf_values.specs.Configs.{Conf}
@@ -7,14 +7,15 @@ use Rattle.pfs_conf_values.specs.Invariants.{IsConfig}
 use Rattle.pfs_engine_machine.proofs.GuardLaws.{IsTcpWith, brought-tcp}
 use Rattle.pfs_engine_machine.proofs.KeptPackets.{kept_answered}
 use Rattle.pfs_engine_machine.proofs.KeptTime.{kept_command, kept_elsewhere, kept_later, kept_purge, kept_start}
-use Rattle.pfs_engine_machine.specs.Kept.{IsKept, IsWithinLimits, moment_of}
+use Rattle.pfs_engine_machine.specs.Kept.{IsKept, moment_of}
 use Rattle.pfs_engine_machine.specs.Guards.{Guard, brings_cookie, gets_cookie}
 use Rattle.pfs_engine_machine.specs.Machine.{Held, Machine, due, first_moment, machine_at_moment, start, step}
 use Rattle.pfs_engine_machine.specs.Runs.{IsInOrder}
 use Rattle.pfs_engine_machine.specs.declared.events.Event.{Event}
 use Rattle.pfs_engine_machine.specs.declared.events.Arrival.{Arrival}
 use Rattle.pfs_engine_machine.specs.declared.events.Arrival.TheVariants as arrival
-use Rattle.pfs_engine_machine.specs.Acts.{RunAct, Arrive, Change, Kill, Purge, StaysWithinLimits, acts_from, arrivals, arrivals_at, act_done, acts_done}
+use Rattle.pfs_engine_machine.specs.Acts.{RunAct, Arrive, Change, Kill, Purge, StaysWithinLimits, acts_from, arrivals, arrivals_at, act_done, acts_done, acts_of, after}
+use Rattle.pfs_engine_machine.specs.TwoKeys.{KeysStayAlone}
 
 -- the moments of the packets among these acts do not fall, from this one on; and those that bring a cookie are of TCP
 abbrev AreOrdered : ℕ → List RunAct → Type 0
@@ -73,17 +74,30 @@ acts-ordered conf m (e ∷ es) o =
     by None h = omega arith
     by (Some m) h = h m refl
 
-within_all : (conf : Conf) (h : Held) (now : ℕ) (acts : List RunAct) → IsConfig conf → AreOrdered now acts → IsKept conf h now → IsWithinLimits conf (acts_done conf h acts)
-within_all conf h now [] sound o k = k.limits
-within_all conf h now (Purge s ∷ acts) sound o k = within_all conf (act_done conf h (Purge s)) now acts sound o (kept_purge conf h s now k)
-within_all conf h now (Arrive t p cookie ∷ acts) sound o k =
-    within_all conf (act_done conf h (Arrive t p cookie)) t acts sound o.2 (kept_answered conf h p cookie t sound o.1 (kept_later conf h now t o.0 k))
-within_all conf h now (Change f t table done ∷ acts) sound o k =
-    within_all conf (act_done conf h (Change f t table done)) now acts sound o (kept_command conf h f t table done now k)
-within_all conf h now (Kill t hosts ∷ acts) sound o k =
-    within_all conf (act_done conf h (Kill t hosts)) now acts sound o (kept_elsewhere conf h hosts t now k)
+-- what a machine keeps, at some moment
+abbrev IsKeptSometime : Conf → Held → Type 0
+IsKeptSometime conf h = (now : ℕ) × IsKept conf h now
+
+kept_all : (conf : Conf) (h : Held) (now : ℕ) (acts : List RunAct) → IsConfig conf → AreOrdered now acts → IsKept conf h now → IsKeptSometime conf (acts_done conf h acts)
+kept_all conf h now [] sound o k = (now, k)
+kept_all conf h now (Purge s ∷ acts) sound o k = kept_all conf (act_done conf h (Purge s)) now acts sound o (kept_purge conf h s now k)
+kept_all conf h now (Arrive t p cookie ∷ acts) sound o k =
+    kept_all conf (act_done conf h (Arrive t p cookie)) t acts sound o.2 (kept_answered conf h p cookie t sound o.1 (kept_later conf h now t o.0 k))
+kept_all conf h now (Change f t table done ∷ acts) sound o k =
+    kept_all conf (act_done conf h (Change f t table done)) now acts sound o (kept_command conf h f t table done now k)
+kept_all conf h now (Kill t hosts ∷ acts) sound o k =
+    kept_all conf (act_done conf h (Kill t hosts)) now acts sound o (kept_elsewhere conf h hosts t now k)
+
+kept-through : (conf : Conf) (events : List Event) → IsConfig conf → IsInOrder None events → (earlier later : List RunAct) → acts_of conf events ≡ earlier ++ later
+    → IsKeptSometime conf (after conf earlier)
+kept-through conf events sound order earlier later split =
+    kept_all conf (start conf).held 0 earlier sound
+    (ordered-front 0 earlier later (subst (AreOrdered 0) split (acts-ordered conf (start conf) events order))) (kept_start conf sound)
 
 pub stays-within : (conf : Conf) (events : List Event) → IsConfig conf → IsInOrder None events → StaysWithinLimits conf events
-stays-within conf events sound order earlier later split =
-    within_all conf (start conf).held 0 earlier sound
-    (ordered-front 0 earlier later (subst (AreOrdered 0) split (acts-ordered conf (start conf) events order))) (kept_start conf sound)
+stays-within conf events sound order earlier later split = (kept-through conf events sound order earlier later split).1.limits
+
+pub stays-alone : (conf : Conf) (events : List Event) → IsConfig conf → IsInOrder None events → KeysStayAlone conf events
+stays-alone conf events sound order earlier later split =
+    let k = (kept-through conf events sound order earlier later split).1 in
+    record { outer = k.keys; inner = k.inner_keys }

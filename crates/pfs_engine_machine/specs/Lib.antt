@@ -13,5 +13,6 @@ pub mod Shares
 pub mod Sides
 pub mod Sources
 pub mod Staleness
+pub mod TwoKeys
 pub mod Visits
 pub mod Ways

@@ -6,6 +6,7 @@ mod cookies;
 mod events;
 mod rates;
 mod staying;
+mod translating;
 mod ways;
 
 pub use cookies::cookie_life;
@@ -14,4 +15,5 @@ pub use pfs_eval::{Added, Entered, TableEntry};
 pub use pfs_store_contract::{FromTo, Limit};
 pub use rates::rate_memory;
 pub use staying::{staleness, within_limits};
+pub use translating::two_keys;
 pub use ways::ways_are_runs;
