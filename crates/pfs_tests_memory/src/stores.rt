@@ -1,7 +1,8 @@
 //! Both kinds of store: new ones, and states that are admitted, refused and taken away.
 
-ghost use Rattle.std.specs.Prelude.{◌≡◌};
-ghost use Rattle.pfs_store_contract.specs.Worlds.{IsUpToNow};
+ghost use Rattle.std.specs.Prelude.{◌≡◌, None, false};
+ghost use Rattle.pfs_store_contract.specs.Admission.{key_inside, wire_key};
+ghost use Rattle.pfs_store_contract.specs.Worlds.{IsUpToNow, state_inside, state_with};
 
 use crate::kinds::Kind;
 use crate::rules_texts::NODES;
@@ -9,6 +10,7 @@ use crate::telling::{Stop, begin, begin_free, end, plain, refused, wrong};
 use pfs_addr_values::{Addr, Dir, FlowKey, Meter, Packet, RUN_LIMIT};
 use pfs_conf::{Config, RuleNo, load};
 use pfs_store::{Limit, StateNo, Store};
+use pfs_store_contract::{inner_key, wire_key};
 use pfs_tests_cases::{A1, A2, EVERYTHING, Sent, packet};
 
 /// The first rule tracks sources, the second does not; both share the states.
@@ -197,13 +199,22 @@ fn admit_first<S: Store>(
     requires order { IsUpToNow now (S.world store.old) }
     ensures order { IsUpToNow now (S.world store.new) }
 {
-    if store.find(&FlowKey::of(packet)).is_some()
+    if is_held(store, packet)
         || config.options(RuleNo(0)).is_none()
         || store.made() >= RUN_LIMIT
     {
         return Err(Stop::Input);
     }
     Ok(store.admit(packet, packet, RuleNo(0), false, now)?)
+}
+
+/// Whether a state has one of the keys of the state that a packet would make.
+fn is_held<S: Store>(store: &S, packet: &Packet) -> bool
+    ensures outside { result ≡ false → state_with (wire_key packet.now packet.now) (S.world store.now) ≡ None }
+    ensures inside { result ≡ false → state_inside (key_inside packet.now packet.now) (S.world store.now) ≡ None }
+{
+    store.find(&wire_key(packet, packet)).is_some()
+        || store.find_inside(&inner_key(packet, packet)).is_some()
 }
 
 fn touch<S: Store>(rt: &HostRuntime, store: &mut S, packet: &Packet, now: u64) -> Result<(), Stop>
@@ -213,10 +224,13 @@ fn touch<S: Store>(rt: &HostRuntime, store: &mut S, packet: &Packet, now: u64) -
     let Some(found) = store.find(&key) else {
         return Err(Stop::Input);
     };
+    if !store.holds(found.number) {
+        return Err(Stop::Input);
+    }
     let before = counts(store);
     let mut meter = Meter::new();
     begin_free(rt, "has_closed")?;
-    let closed = store.has_closed(found, &key, &mut meter);
+    let closed = store.has_closed(found, &mut meter);
     end(rt)?;
     plain(rt, !closed && counts(store) == before)?;
     let mut meter = Meter::new();
@@ -307,7 +321,7 @@ fn admit_one<S: Store>(
     requires made_for { S.config store.old ≡ config.now }
     ensures made_for { S.config store.new ≡ config.now }
 {
-    if store.find(&FlowKey::of(packet)).is_some()
+    if is_held(store, packet)
         || config.options(rule).is_none()
         || store.made() >= RUN_LIMIT
     {

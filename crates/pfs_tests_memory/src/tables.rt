@@ -6,7 +6,7 @@ use crate::rules_texts::{FULL, NODES, OVERLOAD};
 use crate::telling::{Stop, answered, begin, begin_free, end, plain, refused};
 use pfs_addr_values::{Addr, Meter, NoMemory, Packet};
 use pfs_conf::{Config, RuleNo, TableNo, load};
-use pfs_eval::{Added, Book, Entered, Tables};
+use pfs_eval::{Added, Book, Entered, NoSides, Tables};
 use pfs_tests_cases::{A1, EVERYTHING, S6, Sent, entry, packet};
 
 /// Rules, how many entries they have, and the rule that decides on a packet of UDP.
@@ -92,7 +92,7 @@ fn decide(
     plain(rt, true)?;
     let mut meter = Meter::new();
     begin_free(rt, "decide")?;
-    let decided = book.decide(tables, udp, &mut meter).rule;
+    let decided = book.decide(tables, &NoSides, udp, &mut meter).rule;
     end(rt)?;
     plain(rt, decided.map(number_of) == rule)
 }

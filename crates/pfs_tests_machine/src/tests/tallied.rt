@@ -42,6 +42,14 @@ impl<S: Store> Store for Tallied<S> {
         self.inner.find(key)
     }
 
+    fn find_inside(&self, key: &FlowKey) -> Option<Found> {
+        self.inner.find_inside(key)
+    }
+
+    fn onward_key(&self, found: Found, dir: Dir) -> Option<FlowKey> {
+        self.inner.onward_key(found, dir)
+    }
+
     fn holds(&self, number: StateNo) -> bool {
         self.inner.holds(number)
     }
@@ -62,16 +70,26 @@ impl<S: Store> Store for Tallied<S> {
         self.inner.made()
     }
 
-    fn admit(
+    fn meet_limit(
+        &mut self,
+        source: Addr,
+        rule: RuleNo,
+        now: u64,
+    ) -> Result<Option<Limit>, NoMemory> {
+        self.tick();
+        self.inner.meet_limit(source, rule, now)
+    }
+
+    fn make(
         &mut self,
         packet: &Packet,
         going: &Packet,
         rule: RuleNo,
         cookie: bool,
         now: u64,
-    ) -> Result<Result<StateNo, Limit>, NoMemory> {
+    ) -> Result<StateNo, NoMemory> {
         self.tick();
-        self.inner.admit(packet, going, rule, cookie, now)
+        self.inner.make(packet, going, rule, cookie, now)
     }
 
     fn touch(&mut self, found: Found, packet: &Packet, now: u64, meter: &mut Meter) -> Touched {
@@ -84,8 +102,8 @@ impl<S: Store> Store for Tallied<S> {
         self.inner.renew(found, packet, now, meter)
     }
 
-    fn has_closed(&self, found: Found, key: &FlowKey, meter: &mut Meter) -> bool {
-        self.inner.has_closed(found, key, meter)
+    fn has_closed(&self, found: Found, meter: &mut Meter) -> bool {
+        self.inner.has_closed(found, meter)
     }
 
     fn kill(&mut self, found: Found, now: u64, meter: &mut Meter) {

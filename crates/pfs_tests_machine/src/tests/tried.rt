@@ -1,11 +1,13 @@
 //! A store under test, with its configuration and the moment of its calls.
 
-ghost use Rattle.std.specs.Prelude.{◌≡◌};
-ghost use Rattle.pfs_store_contract.specs.Worlds.{empty_world};
+ghost use Rattle.std.specs.Prelude.{◌≡◌, IfOk, true};
+ghost use Rattle.pfs_store_contract.specs.Worlds.{empty_world, holds_number};
 
 use pfs_addr_values::{Addr, Dir, FlowKey, Meter, Packet, RUN_LIMIT};
 use pfs_conf::{Config, RuleNo};
-use pfs_store_contract::{FromTo, Limit, Slice, StateNo, Store, Touched, Watched};
+use pfs_store_contract::{
+    Found, FromTo, Limit, Slice, StateNo, Store, Touched, Watched, inner_key, wire_key,
+};
 use std::marker::Model;
 use std::process::Abort;
 use std::test::Fail;
@@ -61,7 +63,9 @@ impl<'a, S: Store> Tried<'a, S> {
         rule: RuleNo,
         cookie: bool,
     ) -> Result<Result<StateNo, Limit>, Fail> {
-        if self.store.find(&FlowKey::of(packet)).is_some() {
+        if self.store.find(&wire_key(packet, packet)).is_some()
+            || self.store.find_inside(&inner_key(packet, packet)).is_some()
+        {
             return Err("its key is held".into());
         }
         assert!(rt; self.config.options(rule).is_some());
@@ -71,30 +75,34 @@ impl<'a, S: Store> Tried<'a, S> {
 
     /// A packet of a held state comes.
     pub fn touch(&mut self, packet: &Packet) -> Result<Touched, Fail> {
-        let found = self
-            .store
-            .find(&FlowKey::of(packet))
-            .ok_or("its key is not held")?;
+        let found = self.found(packet)?;
         let mut meter = Meter::new();
         Ok(self.store.touch(found, packet, self.now, &mut meter))
     }
 
     /// A packet of a held state comes, of which a node is told at a completed handshake alone.
     pub fn renew(&mut self, packet: &Packet) -> Result<Touched, Fail> {
-        let found = self
-            .store
-            .find(&FlowKey::of(packet))
-            .ok_or("its key is not held")?;
+        let found = self.found(packet)?;
         let mut meter = Meter::new();
         Ok(self.store.renew(found, packet, self.now, &mut meter))
     }
 
     /// Whether both peers of the state with the key of a packet have closed their connection.
     pub fn has_closed(&self, packet: &Packet) -> Result<bool, Fail> {
-        let key = FlowKey::of(packet);
-        let found = self.store.find(&key).ok_or("its key is not held")?;
+        let found = self.found(packet)?;
         let mut meter = Meter::new();
-        Ok(self.store.has_closed(found, &key, &mut meter))
+        Ok(self.store.has_closed(found, &mut meter))
+    }
+
+    /// The state that has the key of a packet on the wire.
+    fn found(&self, packet: &Packet) -> Result<Found, Fail>
+        ensures held { IfOk result (λ f. holds_number (S.world self.now.store).states f.number.0 ≡ true) }
+        ensures reached { IfOk result (λ f. S.reaches self.now.store f ≡ true) }
+    {
+        match self.store.find(&FlowKey::of(packet)) {
+            Some(found) if self.store.holds(found.number) => Ok(found),
+            _ => Err("its key is not held".into()),
+        }
     }
 
     /// The state that has the key of a packet is killed: its number, if there is one.
