@@ -21,7 +21,7 @@ use Rattle.pfs_conf_values.specs.declared.translations.RdrTo.{RdrTo}
 use Rattle.pfs_conf_values.specs.declared.translations.Translation.{Translation}
 use Rattle.pfs_eval.proofs.Translations.{untranslated}
 use Rattle.pfs_eval.specs.Asking.{by_decision, by_match, decided_by, given_tag, made_by, marked_by, translation_at_once}
-use Rattle.pfs_eval.specs.Translating.{Taken, is_behind, nat_by, nat_port, rdr_by, sent_from, translated}
+use Rattle.pfs_eval.specs.Translating.{TakenKeys, is_behind_nat, nat_by, nat_port, rdr_by, sent_from, translated}
 use Rattle.pfs_eval.specs.Verdict.{Asking, Place, behind_all, cut, cut_from, decider, enclosing, ends_before, hides, is_hit, is_shown, matches_rule, packet_at_cut, packet_behind, packet_past, passed_by, path_from, verdict}
 use Rattle.pfs_engine_machine.specs.Guards.{asked, syn_alone}
 use Rattle.pfs_engine_machine.specs.Machine.{Held, asking_of, packet_ruled}
@@ -116,10 +116,10 @@ IsAlike p q = (q.dir ≡ p.dir) × (q.proto ≡ p.proto)
 same-alike : (p q r : PacketView) → q ≡ r → IsAlike p q → IsAlike p r
 same-alike p q r e h = subst (IsAlike p) e h
 
-nat-alike : (taken : Taken) (n : Option NatTo) (p q m : PacketView) → nat_by taken n q ≡ Some m → IsAlike p q → IsAlike p m
+nat-alike : (taken : TakenKeys) (n : Option NatTo) (p q m : PacketView) → nat_by taken n q ≡ Some m → IsAlike p q → IsAlike p m
 unfolding nat_by
 nat-alike taken None p q m e h = let same : q ≡ m = cc in same-alike p q m same h
-nat-alike taken (Some n) p q m e h = by (is_behind n q) e
+nat-alike taken (Some n) p q m e h = by (is_behind_nat n q) e
   where
     from : (o : Option ℕ) → option_map (sent_from q n.addr) o ≡ Some m → IsAlike p m
     from None e = cc
@@ -134,7 +134,7 @@ unfolding rdr_by
 rdr-alike None p q h = h
 rdr-alike (Some r) p q h = h
 
-translated-alike : (taken : Taken) (t : Translation) (p q m : PacketView) → translated taken t q ≡ Some m → IsAlike p q → IsAlike p m
+translated-alike : (taken : TakenKeys) (t : Translation) (p q m : PacketView) → translated taken t q ≡ Some m → IsAlike p q → IsAlike p m
 unfolding translated
 translated-alike taken t p q m e h = by (nat_by taken t.nat_to q) refl e
   where
@@ -142,14 +142,14 @@ translated-alike taken t p q m e h = by (nat_by taken t.nat_to q) refl e
     by None f e = cc
     by (Some n) f e = let same : rdr_by t.rdr_to n ≡ m = cc in same-alike p (rdr_by t.rdr_to n) m same (rdr-alike t.rdr_to p n (nat-alike taken t.nat_to p q n f h))
 
-made-alike : (taken : Taken) (given : Option TagNo) (kind : ItemKind) (p q : PacketView) → IsAlike p q → IsAlike p (made_by taken given kind q)
+made-alike : (taken : TakenKeys) (given : Option TagNo) (kind : ItemKind) (p q : PacketView) → IsAlike p q → IsAlike p (made_by taken given kind q)
 made-alike taken given kind p q h = by (translated taken (translation_at_once kind) (marked_by given q)) refl
   where
     by : (o : Option PacketView) → translated taken (translation_at_once kind) (marked_by given q) ≡ o → IsAlike p (unwrap_or o (marked_by given q))
     by None e = h
     by (Some m) e = translated-alike taken (translation_at_once kind) p (marked_by given q) m e h
 
-decided-alike : (taken : Taken) (kind : ItemKind) (p q m : PacketView) → decided_by taken kind q ≡ Some m → IsAlike p q → IsAlike p m
+decided-alike : (taken : TakenKeys) (kind : ItemKind) (p q m : PacketView) → decided_by taken kind q ≡ Some m → IsAlike p q → IsAlike p m
 decided-alike taken (what.Anchor a) p q m e h = let same : q ≡ m = cc in same-alike p q m same h
 decided-alike taken (what.Rule r) p q m e h = by r.action e
   where
@@ -211,13 +211,13 @@ at-once-untranslating (what.Rule r) h = by r.action
     by action.Pass = refl
     by (action.Keep o) = refl
 
-made-key : (taken : Taken) (given : Option TagNo) (kind : ItemKind) (key : FlowKey) (q : PacketView) → translates_in (rule_in kind) ≡ false → HasKey key q
+made-key : (taken : TakenKeys) (given : Option TagNo) (kind : ItemKind) (key : FlowKey) (q : PacketView) → translates_in (rule_in kind) ≡ false → HasKey key q
     → HasKey key (made_by taken given kind q)
 made-key taken given kind key q none h =
     ap (λ (o : Option PacketView). key_of (unwrap_or o (marked_by given q))) (untranslated taken (translation_at_once kind) (marked_by given q) (at-once-untranslating kind none))
     ∙ key-marked given q ∙ h
 
-decided-key : (taken : Taken) (kind : ItemKind) (key : FlowKey) (q m : PacketView) → translates_in (rule_in kind) ≡ false → HasKey key q → decided_by taken kind q ≡ Some m
+decided-key : (taken : TakenKeys) (kind : ItemKind) (key : FlowKey) (q m : PacketView) → translates_in (rule_in kind) ≡ false → HasKey key q → decided_by taken kind q ≡ Some m
     → HasKey key m
 decided-key taken (what.Anchor a) key q m none h e = let same : q ≡ m = cc in subst (HasKey key) same h
 decided-key taken (what.Rule r) key q m none h e = by r.action e
