@@ -159,6 +159,7 @@ impl<S: Store> Engine<S> {
     /// Lets time pass to a moment: does all purges due, one slice of the states and one of the source nodes for each
     /// whole second after the last moment, and behind them turns the secret of SYN cookies; none before the first event. It takes no
     /// memory. (pf.conf(5), OPTIONS, "interval" and "set syncookies"; the slices are own to this profile)
+    #[inline(always)]
     pub fn advance(&mut self, now: u64)
         requires order { ForSome self.old.machine.last (λ last. last ≤ now) }
         requires moment { now < 2 ^ 32 }
@@ -202,6 +203,7 @@ impl<S: Store> Engine<S> {
     }
 
     /// Takes a packet as `packet` does, behind purges of which this was the work.
+    #[inline(always)]
     fn take(&mut self, packet: &Packet, purges: Work) -> Result<Outcome, NoMemory>
         requires started { IsSome self.old.machine.last }
         requires room { self.old.taken < run_limit }
@@ -423,6 +425,7 @@ impl<S: Store> Engine<S> {
     }
 
     /// Takes the packet of a record at a moment, where there are routes: where it is asked first, and where it leaves.
+    #[inline(never)]
     #[tactic(auto, unfolding(pfs_engine_machine::specs::Ways::way))]
     fn go_through(&mut self, time: u64, packet: &Packet) -> Result<Way, NoMemory>
         requires routes { HasRoutes self.old.config }

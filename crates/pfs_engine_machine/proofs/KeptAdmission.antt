@@ -275,11 +275,10 @@ phase_of_new : (conf : Conf) (number rule now : ℕ) (p going : PacketView) (coo
     → HasPhase (new_state conf number p going rule cookie now)
 phase_of_new conf number rule now p going cookie tcp led =
     let phase = new_phase conf rule p cookie in
-    let is : IsPhaseOf p.proto phase = phase_new conf rule p cookie tcp in
-    (
+    let is : IsPhaseOf p.proto phase = phase_new conf rule p cookie tcp in (
       subst (λ (q : Proto). IsPhaseOf q phase) (sym (proto_new conf p going led)) is,
       subst (λ (q : Proto). IsPhaseOf q phase)
-      (sym (ap (λ (k : FlowKey). k.proto) (inner_new conf number rule now p going cookie) ∙ proto_inside conf p going led)) is,
+          (sym (ap (λ (k : FlowKey). k.proto) (inner_new conf number rule now p going cookie) ∙ proto_inside conf p going led)) is,
     )
 
 plain_new : (conf : Conf) (number rule now : ℕ) (p going : PacketView) (cookie : Bool) → IsLedOn conf p going → IsPlain conf (new_state conf number p going rule cookie now)

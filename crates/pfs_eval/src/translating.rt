@@ -53,6 +53,9 @@ pub fn translate<S: Sides>(translation: &Translation, sides: &S, packet: &mut Pa
 }
 
 /// The packet behind a translation: its source first. None where it is lost.
+// Not where each packet is decided on: few rules translate.
+#[cold]
+#[inline(never)]
 #[tactic(auto, unfolding(crate::specs::Translating::translated))]
 fn translated<S: Sides>(translation: &Translation, sides: &S, packet: &Packet) -> Option<Packet>
     ensures { result ≡ translated (S.taken sides.now) translation.now packet.now }

@@ -511,6 +511,7 @@ fn found_of(entry: Entry) -> Found
 }
 
 /// What an index by key has of a key.
+#[inline(always)]
 fn entry_at<S: BuildHasher>(keys: &IndexMap<Sought, Entry, S>, key: &FlowKey) -> Option<Entry>
     ensures { result ≡ get same_key keys.now key.now }
 {

@@ -199,10 +199,7 @@ fn admit_first<S: Store>(
     requires order { IsUpToNow now (S.world store.old) }
     ensures order { IsUpToNow now (S.world store.new) }
 {
-    if is_held(store, packet)
-        || config.options(RuleNo(0)).is_none()
-        || store.made() >= RUN_LIMIT
-    {
+    if is_held(store, packet) || config.options(RuleNo(0)).is_none() || store.made() >= RUN_LIMIT {
         return Err(Stop::Input);
     }
     Ok(store.admit(packet, packet, RuleNo(0), false, now)?)
@@ -321,10 +318,7 @@ fn admit_one<S: Store>(
     requires made_for { S.config store.old ≡ config.now }
     ensures made_for { S.config store.new ≡ config.now }
 {
-    if is_held(store, packet)
-        || config.options(rule).is_none()
-        || store.made() >= RUN_LIMIT
-    {
+    if is_held(store, packet) || config.options(rule).is_none() || store.made() >= RUN_LIMIT {
         return Err(Stop::Input);
     }
     match store.admit(packet, packet, rule, false, 5) {

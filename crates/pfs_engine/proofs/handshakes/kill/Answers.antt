@@ -37,8 +37,15 @@ overflow_sub-result-in-Some g c =
     let which = c.args.which in
     let first = ap (λ (x : World). length x.states) c.kill.ensures.world in
     let then = ap (λ (x : World). length x.states) (c.flush.ensures.world k c.kill.ensures.config) in
-    omega (arith, c.state_count-before.ensures, c.state_count-in-Some.ensures, first, then, count_le (other_than which.found.number.0) w.states,
-    count_le (stays_beside k.profile c.in-Some.scope which.dir which.rule which.source) v.states)
+    omega (
+      arith,
+      c.state_count-before.ensures,
+      c.state_count-in-Some.ensures,
+      first,
+      then,
+      count_le (other_than which.found.number.0) w.states,
+      count_le (stays_beside k.profile c.in-Some.scope which.dir which.rule which.source) v.states,
+    )
 
 pub returns-in-Some-clause-world : goal.returns-in-Some-clause-world
 returns-in-Some-clause-world g c = λ conf same.

@@ -48,5 +48,5 @@ returns-in-None-clause-free g c =
     let met = ap (λ (x : HeldView _). packet_limit x.config x.held.world p c.args.rule.0) (sym c.held.view_is)
     ∙ (λ i. limit_met (sym c.held.invariant.store i) w c.args.rule.0 (sym c.src.ensures i)) ∙ none in
     λ needs.
-        let taken : are_free c.args.held.now.held.world p going ≡ false = subst (NeedsNoneAtLimits c.args.held.now.config c.args.held.now.held.world p going c.args.rule.0) met needs in
-        c.by_keys.ensures.free (ap (λ (x : World). are_free x p going) (same ∙ ap (λ (x : HeldView _). x.held.world) c.held.view_is) ∙ taken)
+    let taken : are_free c.args.held.now.held.world p going ≡ false = subst (NeedsNoneAtLimits c.args.held.now.config c.args.held.now.held.world p going c.args.rule.0) met needs in
+    c.by_keys.ensures.free (ap (λ (x : World). are_free x p going) (same ∙ ap (λ (x : HeldView _). x.held.world) c.held.view_is) ∙ taken)
