@@ -17,7 +17,7 @@ use Rattle.pfs_engine_machine.specs.declared.events.Arrival.TheVariants as arriv
 use Rattle.pfs_engine_machine.specs.declared.events.Event.{Event}
 use Rattle.pfs_engine_machine.specs.declared.events.Outcome.{Outcome}
 use Rattle.pfs_engine_machine.specs.declared.events.Way.{Way}
-use Rattle.pfs_engine.specs.Ways.{GoesAlone, packet_at, IsWorkBehindFirst, IsWorkOfEvents, IsWorkOfWay, IsWorkOn, IsWorkOfStep}
+use Rattle.pfs_engine.specs.Ways.{GoesAlone, record_of_packet, IsWorkBehindFirst, IsWorkOfEvents, IsWorkOfWay, IsWorkOn, IsWorkOfStep}
 use Rattle.pfs_engine.specs.declared.works.Work.{Work}
 
 -- the first event, what came of it, and how its packet goes on
@@ -45,8 +45,8 @@ then-is conf m mid r e o going then k is =
 -- the second event of the record of a packet, by its packet
 pub second-event : (conf : Conf) (time : ℕ) (p q : PacketView) (o : Outcome) (going : Option PacketView) (then : Option PacketView)
     → then ≡ second_packet conf o going (arrival.Packet p) (arrival.Packet q)
-    → option_map (packet_at time) then ≡ second_event conf (packet_at time p) (packet_at time q) o going
-second-event conf time p q o going then is = ap (option_map (packet_at time)) is
+    → option_map (record_of_packet time) then ≡ second_event conf (record_of_packet time p) (record_of_packet time q) o going
+second-event conf time p q o going then is = ap (option_map (record_of_packet time)) is
 
 -- ---- how many packets they are
 

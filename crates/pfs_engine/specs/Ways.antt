@@ -23,8 +23,8 @@ GoesAlone conf (arrival.Packet p) = conf.routes ≡ []
 GoesAlone conf _ = Unit {0}
 
 -- the record of a packet at a moment
-abbrev pub packet_at : ℕ → PacketView → Event
-packet_at time p = record { time = time; what = arrival.Packet p }
+abbrev pub record_of_packet : ℕ → PacketView → Event
+record_of_packet time p = record { time = time; what = arrival.Packet p }
 
 -- both amounts, as far as 64 bits count
 abbrev pub both_of : ℕ → ℕ → ℕ

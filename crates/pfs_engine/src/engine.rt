@@ -12,7 +12,7 @@ ghost use Rattle.pfs_engine_machine.specs.Machine.{machine_at_moment, amounts_of
 ghost use Rattle.pfs_engine_machine.specs.Runs.{MayChange, MayCome, AreAllowed, IsInOrder, IsPacket, IsRefusedIn, IsStopped, NeedsMemory, packets_in, packets_of};
 ghost use Rattle.pfs_engine_machine.specs.Ways.{IsRefusedOnWay, events_of_record, first_event, way, way_on};
 ghost use Rattle.pfs_engine.specs.Calls.{CountsEvent, CountsPacket, IsAnsweredBy, IsAt, IsLimited, IsWorkBehind, IsWorkOfEvent, IsWorkOfPacket, IsWorkOfSeconds, Keeps, StaysWithin, answer_at_last, met_held};
-ghost use Rattle.pfs_engine.specs.Ways.{GoesAlone, HasRoutes, IsWorkBehindFirst, IsWorkOfWay, packet_at};
+ghost use Rattle.pfs_engine.specs.Ways.{GoesAlone, HasRoutes, IsWorkBehindFirst, IsWorkOfWay, record_of_packet};
 
 use crate::guard::Guard;
 use crate::held::Held;
@@ -432,13 +432,13 @@ impl<S: Store> Engine<S> {
         requires order { ForSome self.old.machine.last (λ m. m ≤ time) }
         requires moment { time < 2 ^ 32 }
         requires room { self.old.taken + 1 < run_limit }
-        ensures ok { IfOk result (λ w. (w, self.new.machine) ≡ way self.old.config self.old.machine (packet_at time packet.now)) }
-        ensures err { OnErr result (IsRefusedOnWay self.old.config self.old.machine (packet_at time packet.now) self.new.machine) }
+        ensures ok { IfOk result (λ w. (w, self.new.machine) ≡ way self.old.config self.old.machine (record_of_packet time packet.now)) }
+        ensures err { OnErr result (IsRefusedOnWay self.old.config self.old.machine (record_of_packet time packet.now) self.new.machine) }
         ensures keeps { IsAt time self.old self.new }
         ensures taken { OnOk result (self.new.taken
-            ≡ self.old.taken + packets_in (events_of_record self.old.config self.old.machine (packet_at time packet.now))) }
+            ≡ self.old.taken + packets_in (events_of_record self.old.config self.old.machine (record_of_packet time packet.now))) }
         ensures few { self.new.taken ≤ self.old.taken + 2 }
-        ensures work { IsWorkOfWay S.counts self.old.config self.old.machine (packet_at time packet.now) result self.new.work }
+        ensures work { IsWorkOfWay S.counts self.old.config self.old.machine (record_of_packet time packet.now) result self.new.work }
     {
         let mut first = *packet;
         let outcome = self.go_in(time, &mut first)?;
@@ -463,13 +463,13 @@ impl<S: Store> Engine<S> {
         requires order { ForSome self.old.machine.last (λ m. m ≤ time) }
         requires moment { time < 2 ^ 32 }
         requires room { self.old.taken < run_limit }
-        ensures packet { packet_at time packet.new ≡ first_event self.old.config self.old.machine (packet_at time packet.old) }
-        ensures ok { IfOk result (λ o. (o, self.new.machine) ≡ step self.old.config self.old.machine (packet_at time packet.new)) }
-        ensures err { OnErr result (IsRefusedIn self.old.config self.old.machine (packet_at time packet.new) self.new.machine) }
+        ensures packet { record_of_packet time packet.new ≡ first_event self.old.config self.old.machine (record_of_packet time packet.old) }
+        ensures ok { IfOk result (λ o. (o, self.new.machine) ≡ step self.old.config self.old.machine (record_of_packet time packet.new)) }
+        ensures err { OnErr result (IsRefusedIn self.old.config self.old.machine (record_of_packet time packet.new) self.new.machine) }
         ensures keeps { IsAt time self.old self.new }
         ensures taken { CountsEvent result 1 self.old.taken self.new.taken }
-        ensures work { IsWorkOfEvent S.counts self.old.config self.old.machine (packet_at time packet.new) result self.new.work }
-        ensures going { OnOk result (HasRoutes self.old.config → self.new.going ≡ sent_on self.old.config self.old.machine (packet_at time packet.new)) }
+        ensures work { IsWorkOfEvent S.counts self.old.config self.old.machine (record_of_packet time packet.new) result self.new.work }
+        ensures going { OnOk result (HasRoutes self.old.config → self.new.going ≡ sent_on self.old.config self.old.machine (record_of_packet time packet.new)) }
     {
         self.advance(time);
         let purges = self.work();
