@@ -31,16 +31,19 @@ last-step conf m e = refl
 
 pub last-way : (conf : Conf) (m : Machine) (r : Event) → (way conf m r).1.last ≡ Some r.time
 unfolding way
-last-way conf m r = by (second_packet conf o (sent_on conf m (first_event conf r)) r.what)
+last-way conf m r = by (second_packet conf o (sent_on conf m first) r.what first.what)
   where
+    first : Event
+    first = first_event conf m r
+
     answer : Outcome × Machine
-    answer = step conf m (first_event conf r)
+    answer = step conf m first
 
     o : Outcome
     o = answer.0
 
     by : (p : Option PacketView) → (way_on conf answer (option_map (λ p. record r { what = arrival.Packet p }) p)).1.last ≡ Some r.time
-    by None = last-step conf m (first_event conf r)
+    by None = last-step conf m first
     by (Some p) = last-step conf answer.1 (record r { what = arrival.Packet p })
 
 -- ---- the moment of a record
