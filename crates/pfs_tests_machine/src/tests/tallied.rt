@@ -10,7 +10,7 @@ use pfs_store_contract::{Found, FromTo, Limit, Slice, StateNo, Store, Touched};
 #[derive(Drop)]
 pub struct Tallied<S: Store> {
     inner: S,
-    /// How many calls changed it, or might have.
+    /// How many calls changed it, or might have. A state that is admitted is one: its limits are asked, and then it is made.
     pub calls: u64,
 }
 
@@ -88,7 +88,6 @@ impl<S: Store> Store for Tallied<S> {
         cookie: bool,
         now: u64,
     ) -> Result<StateNo, NoMemory> {
-        self.tick();
         self.inner.make(packet, going, rule, cookie, now)
     }
 
