@@ -30,9 +30,8 @@ ALL = (
 )  # fmt: skip
 # The line for each reason of a drop that is no limit's.
 _DROPS = {
-    "state-mismatch": WINDOWS, "state-insert": TRANSLATION, "fragment": FRAGMENT, "normalize": SCRUB,
-    "bad-timestamp": WINDOWS, "ip-option": SCRUB,
-    "translate": TRANSLATION, "no-route": TRANSLATION,
+    "state-mismatch": WINDOWS, "fragment": FRAGMENT, "normalize": SCRUB, "bad-timestamp": WINDOWS, "ip-option": SCRUB,
+    "no-route": TRANSLATION,
 }  # fmt: skip
 # The share of `set limit states` from which a table is taken as nearly full: pf's may be full then.
 NEARLY = 3 / 4
@@ -70,7 +69,9 @@ def line_for(judged: Judged, pf: PfAnswer, record: Record, pfsrc: Answer, known:
 
 
 def _refused_there(pf: PfAnswer, known: Circumstances) -> str:
-    """Why pf may refuse what passes here: what has expired or was killed stays there for a while."""
+    """Why pf may refuse what passes here: what has expired or was killed stays there for a while, and has its keys."""
+    if pf.reason in ("translate", "state-insert"):
+        return TRANSLATION
     if pf.reason == "memory" and known.states < NEARLY * known.limit:
         return MEMORY
     if known.has_kills:

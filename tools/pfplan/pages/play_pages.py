@@ -9,6 +9,7 @@ from pfplan.answers.plays_beside import PlaysBeside
 from pfplan.answers.timelines import Moment, Timeline
 from pfplan.common.errors import Trouble
 from pfplan.common.figures import counted
+from pfplan.common.limits import ADVICE
 from pfplan.common.visible import visible
 from pfplan.pages.doubt_texts import doubt_parts
 from pfplan.pages.frames import answer, bullets, code, document, figure, gallery, key, section, soft, table
@@ -129,6 +130,8 @@ def limit_points(play: Played) -> Iterator[Child]:
                     f" {counted(it.packets, 'packet')}, second {when(it.first, it.last)}{why}",
                 ]
             )
+    for word in dict.fromkeys(word for count in play.tally.users() for word in count.refused if word in ADVICE):
+        yield join([code(word), f": {ADVICE[word]}"])
     yield f"{counted(play.most_held, 'state')} held at most" + (": the limit was met" if play.is_full else "")
 
 

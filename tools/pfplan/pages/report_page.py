@@ -18,7 +18,7 @@ from pfplan.answers.summaries import Summary, Users
 from pfplan.answers.timelines import Timeline
 from pfplan.common.errors import Trouble
 from pfplan.common.figures import SINCE_1970, counted, moment_text, share_text
-from pfplan.common.limits import BY_WORD
+from pfplan.common.limits import ADVICE, BY_WORD
 from pfplan.common.outputs import part_file
 from pfplan.pages.differences import differences_beside
 from pfplan.pages.doubt_texts import doubt_parts
@@ -295,6 +295,8 @@ def limit_points(summary: Summary) -> Iterator[Child]:
         yield join(
             [code(it.word), f" {counted(it.records, 'time')}, {when(it, summary)}{killed}", f" ({by})" if by else ""]
         )
+        if it.word in ADVICE:
+            yield join([code(it.word), f": {ADVICE[it.word]}"])
     if not summary.limits:
         yield "no limit was met"
 
