@@ -248,10 +248,10 @@ class Differences(Agreeing):
                 self.assertIn(f"pf {name}, pfsrc state", done.out)
         found, _ = self.differing(3, Logged(PASS, 3, "web", 0, REASONS.index("state-mismatch")))
         self.assertEqual(found["explained_by"], plain(explaining.WINDOWS))
-        for name in ("translate", "state-insert"):
+        for name, line in (("translate", explaining.TRANSLATION), ("state-insert", explaining.TAKEN_KEY)):
             found, _ = self.differing(3, Logged(PASS, 3, "web", 0, REASONS.index(name)))
             self.assertEqual(found["kind"], "pf refuses by a limit, pfsrc passes")
-            self.assertEqual(found["explained_by"], plain(explaining.TRANSLATION))
+            self.assertEqual(found["explained_by"], plain(line))
 
     def test_reason_synproxy(self) -> None:
         """pf says by it that it took a packet itself, which is what `proxy` says."""

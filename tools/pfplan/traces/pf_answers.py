@@ -22,9 +22,8 @@ TOGETHER = 1
 COLUMNS = ("row", "action", "rule", "anchor", "subrule", "reason", "rewritten")
 HEAD = ",".join(COLUMNS)
 # Reasons of a refusal by a limit, and the words of a report that mean the same (OpenBSD's PFRES_NAMES, and where
-# sys/net/pf.c sets them:
-# `max` of a rule; source nodes and what is counted by them; the pool of states, which `set limit states` bounds; no port
-# for `nat-to`; another state has a key of the new one).
+# sys/net/pf.c sets them: `max` of a rule; source nodes and what is counted by them; the pool of states, which
+# `set limit states` bounds; no port for `nat-to`; another state has a key of the new one).
 LIMITS = {
     "state-limit": ("drop:max",),
     "src-limit": (*(it for it in DROPS if "src" in it), *KILLS),
