@@ -7,7 +7,15 @@ from dataclasses import asdict, dataclass, field
 from pathlib import Path
 from typing import Any
 
-from pfplan.answers.doubts import of_directions, of_frames, of_interfaces, of_tags, of_users, of_ways
+from pfplan.answers.doubts import (
+    of_directions,
+    of_frames,
+    of_interfaces,
+    of_tags,
+    of_translation,
+    of_users,
+    of_ways,
+)
 from pfplan.answers.connections import KINDS, LATE, Refusal
 from pfplan.answers.counting import Answers, Limit, Moments, count
 from pfplan.answers.held_states import HeldStates, followed_again
@@ -250,6 +258,7 @@ def summary_of(answers: Answers, moments: Moments | None, shown: list[str], want
         summary.doubts += of_interfaces(rules, moments.interfaces, wanted.origins.skipped, moments.onward)
         summary.doubts += of_directions(rules, moments.connections.begun)
         summary.doubts += of_tags(rules, routes_of(shown))
+        summary.doubts += of_translation(rules, moments.interfaces, routes_of(shown))
         summary.doubts += of_ways(moments.twice)
     if summary.users:
         summary.doubts += of_users(summary.users.of, summary.users.connections)

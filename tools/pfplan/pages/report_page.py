@@ -69,6 +69,12 @@ OF_SYNCOOKIES = (
     "state is held, and what they say changes nothing of the connection. It is served once the server's next packet "
     "has come through. When the server would have answered pf, and whether, a capture can't tell."
 )
+# What is said too where rules with routes translate sources of packets out.
+OF_TRANSLATION = (
+    "Rules translate sources (nat-to). A capture of the outer interface shows a connection from inside with its "
+    "translated source: it is asked by that, where it leaves alone. So the rules of the interface where it came in are "
+    "not asked, its state there is not held, and rules and limits that ask for the source see the firewall's address."
+)
 FOOTER = (
     "Made by pfplan, which is tested and not proved. The replay is that of the proved program pfsrc; how far its "
     "answers agree with a running pf is not proved."
@@ -180,6 +186,7 @@ def page_of(summary: Summary, subject: Subject, figures: Sequence[Markup], diffe
     limits = (*LIMITS_OF_A_REPLAY[:-1], OF_ROUTES) if summary.has_routes else LIMITS_OF_A_REPLAY
     unknown = [*limits, *([OF_SYNPROXY] if has_proxy else [])]
     unknown += [OF_SYNCOOKIES] if summary.words()["cookie"] else []
+    unknown += [OF_TRANSLATION] if any(re.match(r"(pass|match) out .*nat-to ", it) for it in summary.rules) else []
     parts.append(section("What a replay can't know", bullets(unknown), more_of(differences)))
     parts.append(tag("footer", FOOTER))
     return document(title, parts)
