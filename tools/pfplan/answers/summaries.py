@@ -27,8 +27,8 @@ from pfplan.common.networks import Network
 from pfplan.common.visible import visible
 from pfplan.pf.origins import Origins
 from pfplan.pf.profiles import Profile, profile_of
-from pfplan.pf.reading_canonical_text import flushes_of, forwarding_in, items_of, settings_of
-from pfplan.pf.routes import routes_of
+from pfplan.pf.reading_canonical_text import flushes_of, forwarding_in, items_of, redirected_to, settings_of
+from pfplan.pf.routes import LOCAL, routes_of
 from pfplan.replays.runs import show_rules, stream_blocks
 from pfplan.traces.accounts import Frames
 from pfplan.traces.entries import entries_of_rules
@@ -249,6 +249,8 @@ def summary_of(answers: Answers, moments: Moments | None, shown: list[str], want
         summary.users = _users(moments, wanted.users)
     if rules:
         named = {name for it in rules for name in _interfaces(it)}
+        if LOCAL in moments.onward:
+            moments.onward |= redirected_to(rules, routes_of(shown))
         summary.interfaces = Interfaces(
             sorted(named - moments.interfaces - moments.onward),
             sorted(moments.interfaces - named) if named else [],

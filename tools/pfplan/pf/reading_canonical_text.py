@@ -8,11 +8,12 @@ from dataclasses import dataclass, field
 from pfplan.common.figures import counted
 from pfplan.common.limits import BY_WORD, NAT_PORTS, NO_KEY, NO_PORT, OF_RULES
 from pfplan.pf.profiles import Profile, profile_of
-from pfplan.pf.routes import NO_ROUTES, Routes, routes_of
+from pfplan.pf.routes import LOCAL, NO_ROUTES, Routes, routes_of
 
 _LOOPBACK = re.compile(r"lo[0-9]*|any")
 _TABLE = re.compile(r"<([A-Za-z0-9_.-]+)>")
 _TRANSLATION = re.compile(r"( nat-to \S+(?: static-port| port (\d+)(?::(\d+))?)?| rdr-to \S+(?: port \d+)?)")
+_REDIRECTED = re.compile(r" rdr-to (\S+)")
 _OVERLOAD = re.compile(r"overload <([A-Za-z0-9_.-]+)>( flush)?( global)?")
 
 
@@ -93,6 +94,12 @@ def flushes_of(shown: Sequence[str]) -> Flushes:
     found = {f"@{number}": overload_of(text) for number, text in enumerate(items_of(shown))}
     rules = {rule: it.is_global for rule, it in found.items() if it is not None and it.flushes}
     return Flushes(rules, profile_of(shown) is Profile.OPENBSD, routes_of(shown))
+
+
+def redirected_to(items: Sequence[str], routes: Routes) -> set[str]:
+    """The interfaces by which packets leave that `rdr-to` has given another destination."""
+    found = (it for text in items for it in _REDIRECTED.findall(text))
+    return {routes.to(it) for it in found} - {LOCAL}
 
 
 def limit_of(text: str, word: str) -> str:
