@@ -260,10 +260,11 @@ class Reasons(unittest.TestCase):
             self.assertEqual(len(of_translation(items, seen, known)), count, seen)
         self.assertIn("on em0, and records are of em2: what comes back", of_translation(items, {"em2"}, routes)[0])
         self.assertEqual(of_translation(["match in on em0 all rdr-to 10.0.0.5"], {"em2"}, routes), [])
-        played = scenario({"one": {**ONE, "interface": "em2"}}, forward={"em2": "em0"})
+        inside: dict[str, object] = {**ONE, "interface": "em2"}
+        played = scenario({"one": inside}, forward={"em2": "em0"})
         self.assertEqual(len(of_translated_play(items, played, NO_ROUTES)), 1)
-        for groups, head in (({"one": {**ONE, "interface": "em2"}}, {}), ({"one": ONE}, {"forward": {"em0": "em2"}})):
-            self.assertEqual(of_translated_play(items, scenario(groups, **head), NO_ROUTES), [])
+        for it in (scenario({"one": inside}), scenario({"one": ONE}, forward={"em0": "em2"})):
+            self.assertEqual(of_translated_play(items, it, NO_ROUTES), [])
 
     def test_frames(self) -> None:
         self.assertEqual(of_frames(Frames(100, 60, {"not IP": 40})), [])

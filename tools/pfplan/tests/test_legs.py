@@ -3,8 +3,8 @@ of which each packet counts once."""
 
 import json
 import os
-import re
 import random
+import re
 import subprocess
 import sys
 import unittest
@@ -502,9 +502,9 @@ class Example(FolderCase):
         ).out  # fmt: skip
         self.assertIn("  on its way out:\n  drop:states: as many states are held as", told)
         self.assertIn("  Held before row 177: 59 states, ", told)
-        made = pfplan("rules", place / "pf.conf", "--ifconfig", place / "ifconfig").out
+        rules = pfplan("rules", place / "pf.conf", "--ifconfig", place / "ifconfig").out
         for line in re.findall(r"^    (match .*)$", (place / "README.md").read_text("utf-8"), re.MULTILINE):
-            self.assertIn(f"{line}\n", made)
+            self.assertIn(f"{line}\n", rules)
 
 
 class Forwarding(unittest.TestCase):
