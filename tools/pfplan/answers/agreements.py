@@ -25,7 +25,7 @@ from pfplan.pf.reading_canonical_text import items_of, settings_of
 from pfplan.pf.routes import Routes
 from pfplan.replays.runs import Replay, run_replay, show_rules
 from pfplan.traces.entries import records_at
-from pfplan.traces.pf_answers import Merged, PfAnswer, read_pf_answer
+from pfplan.traces.pf_answers import LIMITS, Merged, PfAnswer, read_pf_answer
 from pfplan.traces.records import ONWARD, Answer, End, Record, Traces, line_blocks, read_answer, read_record
 
 _KEEPS = re.compile(r"\b(keep|synproxy) state\b")
@@ -94,7 +94,7 @@ class Agreement:
         """How many packets one of the two refused by a limit, by the words of both."""
         pairs: Counter[tuple[str, str]] = Counter()
         for it, count in self.judged.items():
-            if it.pf in ("state-limit", "src-limit", "memory") or it.pfsrc in LIMITING:
+            if it.pf in LIMITS or it.pfsrc in LIMITING:
                 pairs[it.pf, it.pfsrc] += count
         return dict(pairs.most_common())
 

@@ -14,7 +14,7 @@ from dataclasses import dataclass
 from pathlib import Path
 
 from pfplan.common.errors import Status, Trouble, reason_of
-from pfplan.common.limits import OF_ALL, OF_RULES
+from pfplan.common.limits import NAT_PORTS, OF_ALL, OF_RULES
 from pfplan.pf.profiles import Profile, profile_of
 from pfplan.pf.reading_canonical_text import items_of
 from pfplan.pf.routes import Routes, routes_of
@@ -23,6 +23,9 @@ from pfplan.replays.runs import show_rules
 ADAPTIVE = ("adaptive.start", "adaptive.end")
 # the shares of `set syncookies adaptive`, in percent of `states`
 SYNCOOKIES = ("syncookies.start", "syncookies.end")
+# how many ports `nat-to` of a rule takes from: two addresses have twice as many as one
+PORTS = "nat-to.ports"
+_NAT = re.compile(r" nat-to (\S+)(?: port (\d+)(?::(\d+))?|(?! static-port))(?= |$)")
 _SHARES = re.compile(r"set syncookies adaptive \(start (\d+)%, end (\d+)%\)")
 _OPTIONS = re.compile(r"^(.* (?:keep|synproxy) state \()(.*)\)$")
 _COUNT = 4294967295
@@ -57,7 +60,7 @@ class Number:
         syncookies shares of one."""
         if self.name in OF_ALL or self.name in ADAPTIVE or self.name in SYNCOOKIES:
             return Kind.LIMIT
-        return Kind.MAXIMUM if self.name in OF_RULES else Kind.TIMEOUT
+        return Kind.MAXIMUM if self.name in OF_RULES or self.name == PORTS else Kind.TIMEOUT
 
     @property
     def title(self) -> str:
@@ -81,6 +84,8 @@ class Number:
         """The least and the greatest value that a rules text may have (docs/FORMATS.md, 1)."""
         if self.name == "max-src-conn-rate":
             return 1, _RATE
+        if self.name == PORTS:
+            return 1, NAT_PORTS[1]
         if self.name in ADAPTIVE:
             return 0, _COUNT
         if self.name in SYNCOOKIES:
@@ -123,9 +128,13 @@ class RulesText:
         return found + [Number(name, int(it)) for name, it in zip(SYNCOOKIES, shares.groups() if shares else ())]
 
     def options(self) -> list[Number]:
-        """The maxima and timeouts of rules, one for each rule and option."""
+        """The maxima and timeouts of rules, one for each rule and option, and how many ports their `nat-to` takes
+        from."""
         found = []
         for rule, line in enumerate(it for it in self._shown if _is_item(it)):
+            ports = _ports_of(line)
+            if ports is not None:
+                found.append(Number(PORTS, len(ports), (rule,)))
             for option in _options_of(line):
                 number = _number_of(option, rule)
                 if number is not None:
@@ -178,6 +187,7 @@ class RulesText:
                 continue
             values = {name: value for (it, name), value in wanted.items() if it == rule}
             derives = "max" in values and not values.keys() & set(ADAPTIVE) and self._derives_pairs
+            line = _with_ports(line, values.pop(PORTS)) if PORTS in values else line
             lines.append(_with_options(_underived(line) if derives else line, values))
             rule += 1
         return lines
@@ -191,6 +201,22 @@ def _is_item(line: str) -> bool:
 def _options_of(line: str) -> list[str]:
     found = _OPTIONS.match(line)
     return found[2].split(", ") if found else []
+
+
+def _ports_of(line: str) -> range | None:
+    """The ports that `nat-to` of a rule takes from; None where it takes none."""
+    found = _NAT.search(line)
+    if found is None:
+        return None
+    first, last = (int(found[2]), int(found[3] or found[2])) if found[2] else NAT_PORTS
+    return range(first, last + 1)
+
+
+def _with_ports(line: str, count: int) -> str:
+    """The line of a rule whose `nat-to` takes from so many ports: up to the same last one, unless there are too few."""
+    ports = _ports_of(line)
+    last = max(ports[-1] if ports else 0, count)
+    return _NAT.sub(rf" nat-to \1 port {last - count + 1}:{last}", line)
 
 
 def _number_of(option: str, rule: int) -> Number | None:

@@ -9,7 +9,7 @@ from pathlib import Path
 from typing import Any
 
 from pfplan.answers.connections import Key
-from pfplan.answers.doubts import of_interfaces, of_routes, of_tags, of_users
+from pfplan.answers.doubts import of_interfaces, of_routes, of_tags, of_translation, of_users
 from pfplan.answers.held_states import states_held
 from pfplan.answers.measures import Measure, measure_of, most_of
 from pfplan.answers.sides import Side, follow, side_of
@@ -298,6 +298,7 @@ def compare(
     seen = interfaces_in(trace)
     for name, items, it in zip(names, rules, flushes):
         doubts = [*of_interfaces(items, seen, (), it.routes.interfaces), *of_tags(items, it.routes)]
+        doubts += of_translation(items, seen, it.routes)
         found.doubts += [f"{name}: {why}" for why in doubts]
     found.doubts += of_users(users, measures[0].connections)
     return found

@@ -25,6 +25,7 @@ SMALL, NAMED = 0.05, 5
 _UNREAD = (NEITHER_WAY, "cut before their ports", "of a link type that is not read")
 _PORTS = re.compile(r" to .*?port (?:= )?(\d+)(?::(\d+))?")
 _GIVEN = re.compile(r" tag (\S+)")
+_NAT = re.compile(r"(?:pass|match) out .*?on (\S+) .*nat-to ")
 _ASKED = re.compile(r" (! ?)?(tagged|received-on) (\S+)")
 
 
@@ -131,10 +132,39 @@ def of_tags(items: Sequence[str], routes: Routes) -> list[str]:
     ]
 
 
+def of_translation(items: Sequence[str], seen: Collection[str], routes: Routes) -> list[str]:
+    """That records are of an inner interface, while sources are translated on an outer one: what comes back there has
+    the inner addresses in such a record, by which no state of the outer interface is found."""
+    outer = sorted({found[1] for text in items if (found := _NAT.match(text))})
+    inner = sorted({*seen} - {*outer})
+    if not (routes and outer and inner):
+        return []
+    return [
+        f"nat-to translates sources on {_listed(outer)}, and records are of {_listed(inner)}: what comes back has the "
+        f"inner addresses in these, by which no state is found on {_listed(outer)}, so answers that pf passes are "
+        f"blocked here (a capture of {_listed(outer)} alone has the translated addresses)"
+    ]
+
+
+def of_translated_play(items: Sequence[str], scenario: Scenario, routes: Routes) -> list[str]:
+    """That a play asks both interfaces of answers that come back to a translated address: which port was taken is in no
+    report, so they come to the inner address."""
+    seen = {it.interface for it in scenario.groups}
+    inner = [it for it in items if (found := _NAT.match(it)) and found[1] not in seen]
+    if not ((routes or scenario.forward) and inner):
+        return []
+    return [
+        "a play with two interfaces has no translated answers, so those to connections of nat-to are blocked here and "
+        "pf passes them: play the inner interface alone, without forward and routes, where nat-to of packets in takes "
+        "its ports in the same way"
+    ]
+
+
 def of_replay(items: Sequence[str], trace: Path, scenario: Scenario | None, routes: Routes = NO_ROUTES) -> list[str]:
     """The doubts of a replay of a trace, or of a play, under rules of these texts."""
     seen = interfaces_played(scenario) if scenario else interfaces_in(trace)
-    return of_interfaces(items, seen, (), routes.interfaces) + of_tags(items, routes)
+    translated = of_translated_play(items, scenario, routes) if scenario else of_translation(items, seen, routes)
+    return [*of_interfaces(items, seen, (), routes.interfaces), *of_tags(items, routes), *translated]
 
 
 def of_routes(names: Sequence[str], routes: Sequence[Routes]) -> list[str]:

@@ -9,6 +9,7 @@ from pfplan.traces.records import Answer, Record
 
 # How lines of the document begin: the first words of their first column.
 BEGINNING = "one configuration for the whole trace"
+ELSEWHERE = "`af-to`, `route-to`, `divert-to`"
 EXPIRED = "an expired state that was not purged matches"
 FRAGMENT = "a fragment is a record or absent"
 HANDSHAKE = "a SYN and an ACK of the client complete a handshake"
@@ -22,17 +23,17 @@ REUSE = "a SYN for a state that both sides have closed"
 SCRUB = "ICMP types, `tos`, `allow-opts`, `scrub`"
 SLICES = "each second a slice examines"
 SYNPROXY = "`synproxy` and `set syncookies` without the profile, `modulate`"
-TRANSLATION = "`nat-to`, `rdr-to`, `binat-to`"
+TAKEN_KEY = "another state has a key of the new one"
+TRANSLATION = "`nat-to` takes the least port"
 WINDOWS = "no sequence numbers or windows"
 ALL = (
-    BEGINNING, EXPIRED, FRAGMENT, HANDSHAKE, HEADERS, KILLED, LOGGED, MEMORY, NODES, NUMBERS, REUSE, SCRUB, SLICES,
-    SYNPROXY, TRANSLATION, WINDOWS,
+    BEGINNING, ELSEWHERE, EXPIRED, FRAGMENT, HANDSHAKE, HEADERS, KILLED, LOGGED, MEMORY, NODES, NUMBERS, REUSE, SCRUB,
+    SLICES, SYNPROXY, TAKEN_KEY, TRANSLATION, WINDOWS,
 )  # fmt: skip
 # The line for each reason of a drop that is no limit's.
 _DROPS = {
-    "state-mismatch": WINDOWS, "state-insert": TRANSLATION, "fragment": FRAGMENT, "normalize": SCRUB,
-    "bad-timestamp": WINDOWS, "ip-option": SCRUB,
-    "translate": TRANSLATION, "no-route": TRANSLATION,
+    "state-mismatch": WINDOWS, "fragment": FRAGMENT, "normalize": SCRUB, "bad-timestamp": WINDOWS, "ip-option": SCRUB,
+    "no-route": ELSEWHERE,
 }  # fmt: skip
 # The share of `set limit states` from which a table is taken as nearly full: pf's may be full then.
 NEARLY = 3 / 4
@@ -70,7 +71,9 @@ def line_for(judged: Judged, pf: PfAnswer, record: Record, pfsrc: Answer, known:
 
 
 def _refused_there(pf: PfAnswer, known: Circumstances) -> str:
-    """Why pf may refuse what passes here: what has expired or was killed stays there for a while."""
+    """Why pf may refuse what passes here: what has expired or was killed stays there for a while, and has its keys."""
+    if pf.reason in ("translate", "state-insert"):
+        return TRANSLATION if pf.reason == "translate" else TAKEN_KEY
     if pf.reason == "memory" and known.states < NEARLY * known.limit:
         return MEMORY
     if known.has_kills:

@@ -2,7 +2,9 @@
 
 With routes a record is a packet's whole way. One of a packet in has its own interface first, and the second by the
 route of its destination. One of a packet out has its own interface second, and the first by the route of its source; if
-the firewall sends the packet itself, that is its only one. Without routes a record is of one interface.
+the firewall sends the packet itself, that is its only one. Without routes a record is of one interface. Where a packet
+for the firewall's own address goes on, or what it seems to send came in, `rdr-to` has put another address in, and the
+record does not say the other interface.
 """
 
 from collections.abc import Iterator
@@ -85,7 +87,7 @@ class Legs:
         """Where it was asked on its way out."""
         if place[0] == "out":
             return place
-        return "out", self.routes.to(target) if self.routes else ""
+        return "out", "" if not self.routes or self.routes.is_local(target) else self.routes.to(target)
 
     def of(self, place: Place, source: str, target: str, flags: str, reply: Reply) -> Iterator[Leg]:
         """The legs of a record at a place. Behind `proxy` it is pf's own SYN that goes on."""
@@ -93,7 +95,7 @@ class Legs:
             yield Leg(self.first(place, source), flags, reply)
             return
         first = self.first(place, source) if self.routes else ("in", place[1] if place[0] == "in" else "")
-        yield Leg(first, flags, reply)
+        yield Leg(("in", "") if first[0] == "out" else first, flags, reply)
         yield Leg(self.second(place, target), "S" if reply.word == "proxy" else flags, reply.onward)
 
 

@@ -15,6 +15,7 @@ from pfplan.answers.doubts import (
     of_profiles,
     of_routes,
     of_tags,
+    of_translated_play,
 )
 from pfplan.common.outputs import make_folder
 from pfplan.pf.conversion import Ruleset, with_routes, write_rules, write_ruleset
@@ -220,6 +221,7 @@ def _beside(
                 items_of(ruleset.text.splitlines()), seen, ruleset.skipped, ruleset.routes.interfaces
             ),
             *of_tags(items_of(ruleset.text.splitlines()), ruleset.routes),
+            *of_translated_play(items_of(ruleset.text.splitlines()), scenario, ruleset.routes),
             *of_forwarding(scenario, ruleset.routes),
         )
     ]

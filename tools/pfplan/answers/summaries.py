@@ -7,7 +7,15 @@ from dataclasses import asdict, dataclass, field
 from pathlib import Path
 from typing import Any
 
-from pfplan.answers.doubts import of_directions, of_frames, of_interfaces, of_tags, of_users, of_ways
+from pfplan.answers.doubts import (
+    of_directions,
+    of_frames,
+    of_interfaces,
+    of_tags,
+    of_translation,
+    of_users,
+    of_ways,
+)
 from pfplan.answers.connections import KINDS, LATE, Refusal
 from pfplan.answers.counting import Answers, Limit, Moments, count
 from pfplan.answers.held_states import HeldStates, followed_again
@@ -19,8 +27,8 @@ from pfplan.common.networks import Network
 from pfplan.common.visible import visible
 from pfplan.pf.origins import Origins
 from pfplan.pf.profiles import Profile, profile_of
-from pfplan.pf.reading_canonical_text import flushes_of, forwarding_in, items_of, settings_of
-from pfplan.pf.routes import routes_of
+from pfplan.pf.reading_canonical_text import flushes_of, forwarding_in, items_of, redirected_to, settings_of
+from pfplan.pf.routes import LOCAL, routes_of
 from pfplan.replays.runs import show_rules, stream_blocks
 from pfplan.traces.accounts import Frames
 from pfplan.traces.entries import entries_of_rules
@@ -241,6 +249,8 @@ def summary_of(answers: Answers, moments: Moments | None, shown: list[str], want
         summary.users = _users(moments, wanted.users)
     if rules:
         named = {name for it in rules for name in _interfaces(it)}
+        if LOCAL in moments.onward:
+            moments.onward |= redirected_to(rules, routes_of(shown))
         summary.interfaces = Interfaces(
             sorted(named - moments.interfaces - moments.onward),
             sorted(moments.interfaces - named) if named else [],
@@ -250,6 +260,7 @@ def summary_of(answers: Answers, moments: Moments | None, shown: list[str], want
         summary.doubts += of_interfaces(rules, moments.interfaces, wanted.origins.skipped, moments.onward)
         summary.doubts += of_directions(rules, moments.connections.begun)
         summary.doubts += of_tags(rules, routes_of(shown))
+        summary.doubts += of_translation(rules, moments.interfaces, routes_of(shown))
         summary.doubts += of_ways(moments.twice)
     if summary.users:
         summary.doubts += of_users(summary.users.of, summary.users.connections)

@@ -9,12 +9,13 @@ from pfplan.answers.plays_beside import PlaysBeside
 from pfplan.answers.timelines import Moment, Timeline
 from pfplan.common.errors import Trouble
 from pfplan.common.figures import counted
+from pfplan.common.limits import ADVICE
 from pfplan.common.visible import visible
 from pfplan.pages.doubt_texts import doubt_parts
 from pfplan.pages.frames import answer, bullets, code, document, figure, gallery, key, section, soft, table
 from pfplan.pages.markup import Child, Markup, join, tag
 from pfplan.pages.pictures import Role, draw
-from pfplan.pages.play_texts import all_are_served, headline_of, rows_of, shut_out, subject_of, users_of, when
+from pfplan.pages.play_texts import advised, all_are_served, headline_of, rows_of, shut_out, subject_of, users_of, when
 from pfplan.pages.record_texts import WHY
 from pfplan.pages.report_page import more_of
 from pfplan.pages.timeline_pictures import MAKERS, most_of
@@ -67,7 +68,7 @@ def page_of(found: PlaysBeside, drawn: Mapping[str, Sequence[Markup]], why_none:
     """The text of the page. `why_none` says why there are no pictures."""
     title = f"{visible(found.scenario.name)}, played"
     good = not found.doubts and all(all_are_served(it) for side in found.sides for it in side)
-    points = [f"{name}: {headline_of(found, at)}" for at, name in enumerate(found.names)]
+    points: list[Child] = [f"{name}: {headline_of(found, at)}" for at, name in enumerate(found.names)]
     doubts = [
         f"{name}: {counted(number, 'thing')} left out of the pf.conf can change this answer; left-out.txt says which"
         for name, number in zip(found.names, found.left_out)
@@ -80,11 +81,12 @@ def page_of(found: PlaysBeside, drawn: Mapping[str, Sequence[Markup]], why_none:
             answer(
                 f"{headline_of(found, 0)[0].upper()}{headline_of(found, 0)[1:]}.",
                 good,
-                bullets([*limit_points(found.plays[0]), *left_points(found), *doubts]),
+                bullets([*limit_points(found.plays[0]), *advice_points(found), *left_points(found), *doubts]),
             )
         )
     else:
-        parts.append(answer(best_text(found), None, bullets([*points, *left_points(found), *doubts])))
+        points += [*advice_points(found), *left_points(found)]
+        parts.append(answer(best_text(found), None, bullets([*points, *doubts])))
     parts.extend(_pictures(found, drawn, why_none))
     rows: list[Sequence[Child]] = [[_name_cell(name), *cells] for name, cells in rows_of(found)]
     parts.append(section("Group by group", table(["", *found.names], rows, "t" + "n" * len(found.names))))
@@ -103,6 +105,12 @@ def best_text(found: PlaysBeside) -> str:
     serves = "serves" if len(best) == 1 else "serve"
     out = list(shut_out(found.sides[best[0]])) if len(best) == 1 else []
     return f"{names} {serves} the most users without waiting" + (f", and shuts out {', '.join(out)}." if out else ".")
+
+
+def advice_points(found: PlaysBeside) -> Iterator[Child]:
+    """What helps against refusals that no number of a limit moves."""
+    for word in advised(found):
+        yield join([code(word), f": {WHY[word]}; {ADVICE[word]}"])
 
 
 def left_points(found: PlaysBeside) -> Iterator[Child]:

@@ -8,6 +8,7 @@ from typing import Any, TypeVar
 
 from pfplan.answers.plays_beside import PlaysBeside
 from pfplan.common.figures import counted
+from pfplan.common.limits import ADVICE
 from pfplan.common.visible import visible
 from pfplan.pages.record_texts import letters
 from pfplan.plays.counts import Count
@@ -195,6 +196,13 @@ def headline_of(found: PlaysBeside, at: int) -> str:
     )
 
 
+def advised(found: PlaysBeside) -> Iterator[str]:
+    """The words by which packets were refused under some ruleset, and of which it is known what helps."""
+    for word in ADVICE:
+        if any(word in it.refused for side in found.sides for play in side for it in play.tally.counts):
+            yield word
+
+
 def subject_of(found: PlaysBeside) -> str:
     """What was played, and what the words of the table mean."""
     scenario = found.scenario
@@ -229,4 +237,5 @@ def text_of(found: PlaysBeside) -> str:
         (name.ljust(first) + "".join(f"  {cell.rjust(width)}" for cell, width in zip(cells, widths))).rstrip()
         for name, cells in rows
     ]
+    lines += [line for word in advised(found) for line in ("", f"{word}: {ADVICE[word]}")]
     return "\n".join(lines) + "\n"

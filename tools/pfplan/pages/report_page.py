@@ -18,7 +18,7 @@ from pfplan.answers.summaries import Summary, Users
 from pfplan.answers.timelines import Timeline
 from pfplan.common.errors import Trouble
 from pfplan.common.figures import SINCE_1970, counted, moment_text, share_text
-from pfplan.common.limits import BY_WORD
+from pfplan.common.limits import ADVICE, BY_WORD
 from pfplan.common.outputs import part_file
 from pfplan.pages.differences import differences_beside
 from pfplan.pages.doubt_texts import doubt_parts
@@ -68,6 +68,12 @@ OF_SYNCOOKIES = (
     "server. A capture has the server's SYN and ACK before that. Here they come too early: the rules are asked, as no "
     "state is held, and what they say changes nothing of the connection. It is served once the server's next packet "
     "has come through. When the server would have answered pf, and whether, a capture can't tell."
+)
+# What is said too where rules with routes translate sources of packets out.
+OF_TRANSLATION = (
+    "Rules translate sources (nat-to). A capture of the outer interface shows a connection from inside with its "
+    "translated source: it is asked by that, where it leaves alone. So the rules of the interface where it came in are "
+    "not asked, its state there is not held, and rules and limits that ask for the source see the firewall's address."
 )
 FOOTER = (
     "Made by pfplan, which is tested and not proved. The replay is that of the proved program pfsrc; how far its "
@@ -180,6 +186,7 @@ def page_of(summary: Summary, subject: Subject, figures: Sequence[Markup], diffe
     limits = (*LIMITS_OF_A_REPLAY[:-1], OF_ROUTES) if summary.has_routes else LIMITS_OF_A_REPLAY
     unknown = [*limits, *([OF_SYNPROXY] if has_proxy else [])]
     unknown += [OF_SYNCOOKIES] if summary.words()["cookie"] else []
+    unknown += [OF_TRANSLATION] if any(re.match(r"(pass|match) out .*nat-to ", it) for it in summary.rules) else []
     parts.append(section("What a replay can't know", bullets(unknown), more_of(differences)))
     parts.append(tag("footer", FOOTER))
     return document(title, parts)
@@ -295,6 +302,8 @@ def limit_points(summary: Summary) -> Iterator[Child]:
         yield join(
             [code(it.word), f" {counted(it.records, 'time')}, {when(it, summary)}{killed}", f" ({by})" if by else ""]
         )
+        if it.word in ADVICE:
+            yield join([code(it.word), f": {ADVICE[it.word]}"])
     if not summary.limits:
         yield "no limit was met"
 

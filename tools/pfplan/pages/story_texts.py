@@ -14,7 +14,7 @@ from pfplan.answers.episodes import Episode, Event, episodes, events, is_opening
 from pfplan.answers.legs import Legs, place_text, reply_of
 from pfplan.common.errors import Status, Trouble
 from pfplan.common.figures import SINCE_1970, counted, moment_text
-from pfplan.common.limits import LIMITING
+from pfplan.common.limits import ADVICE, LIMITING
 from pfplan.common.networks import network_of
 from pfplan.common.visible import visible
 from pfplan.pages.record_texts import WHY, record_text
@@ -182,6 +182,8 @@ class Story:
         elif of_all:
             place = self._origins.limits.get(of_all.split(" ")[2], "")
             told.lines.append(f"  the rules say {of_all}{_behind(place)}")
+        if word in ADVICE:
+            told.lines.append(f"  {ADVICE[word]}")
 
     def _anew(self, event: Event, told: Told) -> None:
         """Tells what was held, and when it would have been let in, by a replay."""

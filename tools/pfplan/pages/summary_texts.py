@@ -9,7 +9,7 @@ from pfplan.answers.counting import Limit
 from pfplan.answers.sources import Source
 from pfplan.answers.summaries import Interfaces, Summary, Users
 from pfplan.common.figures import moment_text, share_text
-from pfplan.common.limits import BY_WORD
+from pfplan.common.limits import ADVICE, BY_WORD
 from pfplan.pages.doubt_texts import doubt_lines
 from pfplan.pages.rule_notes import (
     TWO_STATES,
@@ -143,6 +143,8 @@ def _limits(summary: Summary) -> Iterator[str]:
         out = f"; on the way out: {limit.on_way_out:,}" if limit.on_way_out else ""
         yield f"  {limit.word:<36} {limit.records:>10,} times, {_when(limit)}{out}{killed}"
         yield from _limiting_rules(summary, limit.word)
+        if limit.word in ADVICE:
+            yield f"    {ADVICE[limit.word]}"
     if "added" in summary.overloads:
         yield f"  sources put into an overload table: {summary.overloads['added']:,}"
     if "full" in summary.overloads:

@@ -5,12 +5,15 @@ import re
 from collections.abc import Collection, Mapping, Sequence
 from dataclasses import dataclass, field
 
-from pfplan.common.limits import BY_WORD, OF_RULES
+from pfplan.common.figures import counted
+from pfplan.common.limits import BY_WORD, NAT_PORTS, NO_KEY, NO_PORT, OF_RULES
 from pfplan.pf.profiles import Profile, profile_of
-from pfplan.pf.routes import NO_ROUTES, Routes, routes_of
+from pfplan.pf.routes import LOCAL, NO_ROUTES, Routes, routes_of
 
 _LOOPBACK = re.compile(r"lo[0-9]*|any")
 _TABLE = re.compile(r"<([A-Za-z0-9_.-]+)>")
+_TRANSLATION = re.compile(r"( nat-to \S+(?: static-port| port (\d+)(?::(\d+))?)?| rdr-to \S+(?: port \d+)?)")
+_REDIRECTED = re.compile(r" rdr-to (\S+)")
 _OVERLOAD = re.compile(r"overload <([A-Za-z0-9_.-]+)>( flush)?( global)?")
 
 
@@ -93,12 +96,30 @@ def flushes_of(shown: Sequence[str]) -> Flushes:
     return Flushes(rules, profile_of(shown) is Profile.OPENBSD, routes_of(shown))
 
 
+def redirected_to(items: Sequence[str], routes: Routes) -> set[str]:
+    """The interfaces by which packets leave that `rdr-to` has given another destination."""
+    found = (it for text in items for it in _REDIRECTED.findall(text))
+    return {routes.to(it) for it in found} - {LOCAL}
+
+
 def limit_of(text: str, word: str) -> str:
-    """The options of a rule that a word of a report names, as `max-src-conn-rate 3/10`; nothing where it names none of
-    the rule's."""
+    """The options of a rule that a word of a report names, as `max-src-conn-rate 3/10`, or what it translates, with the
+    ports that it has; nothing where it names none of the rule's."""
+    if word in (NO_PORT, NO_KEY):
+        found = _TRANSLATION.findall(text)
+        return ", ".join(f"{it[0].strip()}{_ports_text(it) if word == NO_PORT else ''}" for it in found)
     names = word.partition(":")[2].split("+")
     options = {name: value for name, value in re.findall(r"[(,] ?([a-z-]+) (\d+(?:/\d+)?)", text)}
     return ", ".join(f"{name} {options[name]}" for name in names if name in OF_RULES and name in options)
+
+
+def _ports_text(found: Sequence[str]) -> str:
+    """How many ports a `nat-to` has to take from; nothing where it takes none."""
+    text, low, high = found
+    if not text.startswith(" nat-to") or text.endswith("static-port"):
+        return ""
+    first, last = (int(low), int(high or low)) if low else NAT_PORTS
+    return f", {counted(last - first + 1, 'port')} for each remote address and port"
 
 
 def limit_of_all(settings: Mapping[str, int], word: str) -> str:

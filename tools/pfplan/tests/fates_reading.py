@@ -11,7 +11,8 @@ from collections.abc import Callable
 from dataclasses import dataclass, field, replace
 
 BLOCKED = (
-    "block", "drop:cookie", "drop:max", "drop:max-src-nodes", "drop:src-nodes", "drop:max-src-states", "drop:states"
+    "block", "drop:cookie", "drop:translate", "drop:max", "drop:max-src-nodes", "drop:src-nodes", "drop:max-src-states",
+    "drop:states", "drop:state-insert",
 )  # fmt: skip
 # what is put in place of the words of packets that brought a cookie: a state was made by it, or none was
 REDEEMED, LOST = "redeemed", "lost"

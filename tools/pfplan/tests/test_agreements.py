@@ -17,7 +17,7 @@ from pfplan.pf.statements import Place
 from pfplan.tests.logs import BLOCK, MATCH, PASS, REASONS, Packets, log_of, repeated, reported, with_log
 from pfplan.tests.packets import NONE, Logged, ethernet_capture, log_capture
 from pfplan.tests.support import Done, FolderCase, pfplan
-from pfplan.traces.pf_answers import Packet, PfAnswer
+from pfplan.traces.pf_answers import LIMITS, Packet, PfAnswer
 from pfplan.traces.records import Answer, Record, read_answer
 
 EXAMPLES = ("expired-state", "ipv6-flood", "rate-memory", "source-limits", "syn-flood", "udp-flood")
@@ -117,6 +117,30 @@ class Agreements(Agreeing):
         self.assertEqual(pairs[("state-limit", "drop:max")], 1)
         self.assertEqual(pairs[("memory", "drop:states")], 2)
 
+    def test_translations_agree_with_their_reasons(self) -> None:
+        """pf's `translate` is `drop:translate`, and its `state-insert` is `drop:state-insert`."""
+        conf = self.write(
+            "pf.conf",
+            "pass out log on em0 proto udp from any nat-to 192.0.2.1 port 50001\n"
+            "pass out log on em0 proto tcp from any nat-to 192.0.2.1 static-port\n",
+        )
+        trace = self.trace(
+            [
+                f"{second},out,em0,{protocol},{host},7000,203.0.113.5,53,{flags}"
+                for second, protocol, host, flags in (
+                    (1, "udp", "10.0.0.7", ""), (2, "udp", "10.0.0.8", ""),
+                    (3, "tcp", "10.0.0.7", "S"), (4, "tcp", "10.0.0.8", "S"),
+                )
+            ]
+        )  # fmt: skip
+        answered, rules = reported(self.folder, conf, trace)
+        words = ["new", "drop:translate", "new", "drop:state-insert"]
+        self.assertEqual([it.word for _, it in answered], words)
+        answer, _ = self.agree(conf, log_of(answered, rules))
+        pairs = {(it["pf"], it["pfsrc"]): it["verdict"] for it in answer["judged"]}
+        wanted = {("translate", words[1]): "agrees", ("state-insert", words[3]): "agrees", ("pass", "new"): "agrees"}
+        self.assertEqual(pairs, wanted)
+
     def test_the_profile_is_named(self) -> None:
         conf, trace = self.write("pf.conf", CONF), self.trace(TRACE)
         packets = self.packets(conf, trace)
@@ -215,7 +239,7 @@ class Differences(Agreeing):
                 self.assertEqual((found["row"], found["kind"], found["explained_by"]), (at, kind, plain(line)))
 
     def test_each_reason_of_a_drop(self) -> None:
-        for name in set(REASONS) - {"match", "state-limit", "src-limit", "memory", "synproxy"}:
+        for name in set(REASONS) - {"match", "synproxy", *LIMITS}:
             with self.subTest(name):
                 found, done = self.differing(3, Logged(PASS, 3, "web", 0, REASONS.index(name)))
                 self.assertEqual(
@@ -224,6 +248,10 @@ class Differences(Agreeing):
                 self.assertIn(f"pf {name}, pfsrc state", done.out)
         found, _ = self.differing(3, Logged(PASS, 3, "web", 0, REASONS.index("state-mismatch")))
         self.assertEqual(found["explained_by"], plain(explaining.WINDOWS))
+        for name, line in (("translate", explaining.TRANSLATION), ("state-insert", explaining.TAKEN_KEY)):
+            found, _ = self.differing(3, Logged(PASS, 3, "web", 0, REASONS.index(name)))
+            self.assertEqual(found["kind"], "pf refuses by a limit, pfsrc passes")
+            self.assertEqual(found["explained_by"], plain(line))
 
     def test_reason_synproxy(self) -> None:
         """pf says by it that it took a packet itself, which is what `proxy` says."""

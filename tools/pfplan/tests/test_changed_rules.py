@@ -6,12 +6,13 @@ import unittest
 from pathlib import Path
 from unittest import mock
 
-from pfplan.answers.changed_rules import ADAPTIVE, Number, RulesText
+from pfplan.answers.changed_rules import ADAPTIVE, PORTS, Number, RulesText
 from pfplan.answers.margins import moves_of, protocols_of, tenths, turns_of
 from pfplan.answers.measures import Measure
 from pfplan.answers.sizes import serves
 from pfplan.commands.words import share_word
 from pfplan.common.errors import Trouble
+from pfplan.replays.runs import show_rules
 from pfplan.tests.support import FolderCase
 
 STAND_IN = Path(__file__).resolve().parent / "stand_in.py"
@@ -100,6 +101,34 @@ class Changes(unittest.TestCase):
 
     def test_protocols(self) -> None:
         self.assertEqual(protocols_of(self.trace), {"tcp"})
+
+
+class Ports(FolderCase):
+    """How many ports `nat-to` takes from, by a rules text that pfsrc reads."""
+
+    def test_ports(self) -> None:
+        rules = self.write(
+            "rules",
+            "set profile openbsd-7.4\nmatch out inet from 10.0.0.0/8 nat-to 192.0.2.1\n"
+            "pass out inet nat-to 192.0.2.2 port 5:9 keep state (max 7)\npass out inet nat-to 192.0.2.3 static-port\n"
+            "pass out inet nat-to 192.0.2.4 port 80\npass in inet rdr-to 192.0.2.5 port 80\n",
+        )
+        text = RulesText(rules)
+        ports = [it for it in text.options() if it.name == PORTS]
+        self.assertEqual([(it.rules, it.value, it.title) for it in ports][1], ((1,), 5, "nat-to.ports of @1"))
+        self.assertEqual([(it.rules, it.value) for it in ports], [((0,), 15535), ((1,), 5), ((3,), 1)])
+        self.assertEqual(text.find("nat-to.ports"), Number(PORTS, 15535, (0, 1, 3)))
+        match = "match out inet from 10.0.0.0/8 to any flags any nat-to 192.0.2.1"
+        for name, value, wanted in (
+            ("@0.nat-to.ports", 31070, f"{match} port 34466:65535"),
+            ("@0.nat-to.ports", 65535, f"{match} port 1:65535"),
+            ("@1.nat-to.ports", 3, "pass out inet all flags S/SA nat-to 192.0.2.2 port 7:9 keep state (max 7)"),
+            ("@1.nat-to.ports", 12, "pass out inet all flags S/SA nat-to 192.0.2.2 port 1:12 keep state (max 7)"),
+        ):
+            made = self.folder / "made"
+            made.write_bytes(text.changed({text.find(name): value}))
+            self.assertIn(wanted, show_rules(made))
+        self.assertEqual(text.find("nat-to.ports").bounds, (1, 65535))
 
 
 class Tenths(unittest.TestCase):

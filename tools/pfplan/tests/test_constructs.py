@@ -23,6 +23,8 @@ HERE = Path(__file__).resolve().parent
 TEXTS = HERE / "constructs"
 PROFILE = "set profile openbsd-7.4"
 NOTHING = "# no rule and no setting is left"
+# cases with a `match` that does nothing, since nothing stands behind `no nat`
+IDLE = ("old_statements", "no_scrub_old")
 
 
 @dataclass(frozen=True)
@@ -95,11 +97,11 @@ class Constructs(unittest.TestCase):
 
     def test_again(self) -> None:
         """Expanding what was expanded changes nothing, and leaves nothing out. Of a text with entries by records
-        test_entries says so."""
+        test_entries says so; of a `match` that stands for `no nat`, and does nothing, it is told."""
         for case in cases():
             if (
                 not case.rules.removeprefix(f"{NOTHING}\n")
-                or case.name in ("on_group_unknown", "received_on_unknown", "set_skip_groups")
+                or case.name in ("on_group_unknown", "received_on_unknown", "set_skip_groups", *IDLE)
                 or case.rules.startswith("# entries:")
             ):
                 continue

@@ -5,7 +5,15 @@ import struct
 import unittest
 from pathlib import Path
 
-from pfplan.answers.doubts import of_directions, of_frames, of_interfaces, of_profiles, of_tags
+from pfplan.answers.doubts import (
+    of_directions,
+    of_frames,
+    of_interfaces,
+    of_profiles,
+    of_tags,
+    of_translated_play,
+    of_translation,
+)
 from pfplan.commands.interfaces import interface_of
 from pfplan.commands.words import share_word
 from pfplan.common.errors import Trouble
@@ -15,6 +23,7 @@ from pfplan.pf.conversion import RuleOptions, Ruleset, convert_text
 from pfplan.pf.interfaces import Machine, read_ifconfig
 from pfplan.pf.profiles import Profile
 from pfplan.pf.routes import NO_ROUTES, routes_of
+from pfplan.tests.playing import ONE, scenario
 from pfplan.tests.support import FolderCase, pfplan
 from pfplan.traces.accounts import Frames
 from pfplan.traces.capture_names import is_log, names_in
@@ -240,6 +249,22 @@ class Reasons(unittest.TestCase):
             ["pass out all tagged LAN"], [gives, "pass in all received-on em0"], [gives, "pass out all"],
         ):  # fmt: skip
             self.assertEqual(of_tags(items, NO_ROUTES), [], items)
+
+    def test_translation(self) -> None:
+        """Of records of an inner interface, with routes, where sources are translated outside; and of plays."""
+        routes = routes_of(["set route { 0.0.0.0/0 em0, 10.0.0.0/8 em2 }"])
+        items = ["match out on em0 inet from 10.0.0.0/8 to any flags any nat-to 192.0.2.1", "pass all flags S/SA"]
+        for seen, known, count in (
+            ({"em0"}, routes, 0), ({"em2"}, routes, 1), ({"em0", "em2"}, routes, 1), ({"em2"}, NO_ROUTES, 0),
+        ):  # fmt: skip
+            self.assertEqual(len(of_translation(items, seen, known)), count, seen)
+        self.assertIn("on em0, and records are of em2: what comes back", of_translation(items, {"em2"}, routes)[0])
+        self.assertEqual(of_translation(["match in on em0 all rdr-to 10.0.0.5"], {"em2"}, routes), [])
+        inside: dict[str, object] = {**ONE, "interface": "em2"}
+        played = scenario({"one": inside}, forward={"em2": "em0"})
+        self.assertEqual(len(of_translated_play(items, played, NO_ROUTES)), 1)
+        for it in (scenario({"one": inside}), scenario({"one": ONE}, forward={"em0": "em2"})):
+            self.assertEqual(of_translated_play(items, it, NO_ROUTES), [])
 
     def test_frames(self) -> None:
         self.assertEqual(of_frames(Frames(100, 60, {"not IP": 40})), [])

@@ -4,7 +4,9 @@ import subprocess
 import unittest
 from pathlib import Path
 
+from pfplan.common.limits import ADVICE
 from pfplan.common.repository import program
+from pfplan.pages.record_texts import WHY
 from pfplan.tests.support import FolderCase, pfplan
 
 RULES = """set limit states 3
@@ -54,6 +56,27 @@ class Stories(FolderCase):
                 [program(), "replay", self.folder / "rules", probed], capture_output=True, text=True, check=True
             ).stdout.splitlines()
             self.assertEqual(lines[4].split(" ")[1], word)
+
+    def test_no_port_and_no_key(self) -> None:
+        """A refusal by translation is told with what the rule translates, the ports that it has, and what helps."""
+        ends = "203.0.113.5,53,"
+        for clause, word, own in (
+            ("port 50001", "drop:translate", "nat-to 192.0.2.1 port 50001, 1 port for each remote address and port"),
+            ("static-port", "drop:state-insert", "nat-to 192.0.2.1 static-port"),
+        ):
+            rules = self.write("rules", f"set profile openbsd-7.4\npass out proto udp nat-to 192.0.2.1 {clause}\n")
+            trace = self.trace([f"{it},out,em0,udp,10.0.0.{it},7000,{ends}" for it in (1, 2)])
+            report = self.folder / "report"
+            report.write_bytes(
+                subprocess.run([program(), "replay", rules, trace], capture_output=True, check=True).stdout
+            )
+            done = pfplan("explain", report, "--trace", trace, "--rules", rules, "--row", 2)
+            self.assertEqual((done.status, done.err), (0, ""))
+            self.assertIn(f"  {word}: {WHY[word]}\n", done.out)
+            self.assertIn(f"  the rule says {own}\n  {ADVICE[word]}\n", done.out)
+            self.assertIn("  Held before row 2: 1 state, ", done.out)
+            told = pfplan("summary", report, "--trace", trace, "--rules", rules).out
+            self.assertIn(f"    @0 {own}: 1\n    {ADVICE[word]}\n", told)
 
     def test_a_kill(self) -> None:
         source = "203.0.113.5"

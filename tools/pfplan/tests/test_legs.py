@@ -4,6 +4,7 @@ of which each packet counts once."""
 import json
 import os
 import random
+import re
 import subprocess
 import sys
 import unittest
@@ -136,6 +137,9 @@ class Reading(unittest.TestCase):
         self.assertEqual(
             list(legs.of(("in", "em0"), client, server, "A", proxied))[1], Leg(("out", "em1"), "S", Reply("new", "@1"))
         )
+        # what goes on behind rdr-to, and its answers: the record does not say the other interface
+        self.assertEqual(places("in", "em0", client, "203.0.113.1", both), [("in", "em0"), ("out", "")])
+        self.assertEqual(places("out", "em0", "203.0.113.1", client, both), [("in", ""), ("out", "em0")])
         # without routes the other interface is not known
         self.assertEqual([it.place for it in Legs().of(("out", "em1"), client, server, "S", both)][0], ("in", ""))
         self.assertEqual(place_text(("out", "em1")), "on its way out, on em1")
@@ -489,13 +493,18 @@ class Example(FolderCase):
         done = pfplan(*words, into, "--routes", place / "netstat", env=environment())
         self.assertEqual(done.status, 0, done.err)
         self.assertIn("29 of 40\n", done.out)
-        self.assertNotIn("in doubt", done.out)
+        self.assertEqual(re.findall("in doubt: rules are of (.*), and no record is", done.out), ["em2"])
+        self.assertTrue((into / "report").read_text("utf-8").startswith("1 new @12 > new @14\n"))
+        self.assertIn("A capture of the outer interface shows", (into / "report.html").read_text("utf-8"))
         told = pfplan(
-            "explain", into / "report", "--trace", into / "trace.csv", "--rules", into / "rules", "--row", 153,
+            "explain", into / "report", "--trace", into / "trace.csv", "--rules", into / "rules", "--row", 177,
             env=environment(),
         ).out  # fmt: skip
-        self.assertIn("  on its way out, on em1:\n  drop:states: as many states are held as", told)
-        self.assertIn("  Held before row 153: 59 states, ", told)
+        self.assertIn("  on its way out:\n  drop:states: as many states are held as", told)
+        self.assertIn("  Held before row 177: 59 states, ", told)
+        rules = pfplan("rules", place / "pf.conf", "--ifconfig", place / "ifconfig").out
+        for line in re.findall(r"^    (match .*)$", (place / "README.md").read_text("utf-8"), re.MULTILINE):
+            self.assertIn(f"{line}\n", rules)
 
 
 class Forwarding(unittest.TestCase):

@@ -1,6 +1,7 @@
 """Commands that take a scenario where they take a trace: run, compare, size, margins; and maps of two numbers."""
 
 import contextlib
+import html
 import io
 import json
 import os
@@ -8,6 +9,7 @@ import unittest
 from unittest import mock
 
 from pfplan.__main__ import main
+from pfplan.common.limits import ADVICE, NO_PORT
 from pfplan.pages import pictures
 from pfplan.pf.profiles import Profile
 from pfplan.plays.options import PlayOptions, options_beside
@@ -55,6 +57,21 @@ class PlayedCommands(FolderCase):
         self.output("play", rules, scenario, "--into", self.folder / "single-play")
         group = json.loads((self.folder / "single-play/single/summary.json").read_text("utf-8"))["groups"][0]
         return group["connections"], group["served_without_waiting"]
+
+    def test_ports(self) -> None:
+        """An office behind one address: as many connections to the server are served as there are ports, and text and
+        page name the word and what helps."""
+        office = SCENARIO[: SCENARIO.index("[group.holder]")].replace("hosts = 25", "hosts = 6")
+        scenario = self.write("office.toml", office)
+        clause = "pass in inet proto tcp from 198.51.100.0/24 to any port 80 nat-to 203.0.113.2"
+        names = [self.write(f"ports{it}", f"{clause} port 50001:{50000 + it}\n") for it in (4, 6)]
+        self.output("play", *names, scenario, "--into", self.folder / "answer")
+        groups = [json.loads((self.folder / f"answer/{it.name}/summary.json").read_text())["groups"][0] for it in names]
+        self.assertEqual([it["served"] for it in groups], [4, 6])
+        self.assertEqual([[*it["refused"]] for it in groups], [["drop:translate"], []])
+        for name in ("summary.txt", "report.html"):
+            text = (self.folder / "answer" / name).read_text("utf-8")
+            self.assertEqual(text.count(html.escape(ADVICE[NO_PORT])), 1, name)
 
     def test_run(self) -> None:
         out = self.output("run", self.rules, self.scenario, "--into", self.folder / "answer")

@@ -4,6 +4,7 @@ import random
 import unittest
 from collections.abc import Callable, Sequence
 
+from pfplan.common.limits import NO_KEY, NO_PORT
 from pfplan.plays.counts import Count
 from pfplan.plays.returning import Answer
 from pfplan.plays.worlds import SLOTS
@@ -64,6 +65,14 @@ class OneClient(unittest.TestCase):
         self.assertEqual((count.served, count.gave_up, count.tries, count.killed), (0, 1, 10, 0))
         packets, _ = self.play(refuses("in S", 99, "drop:states @0"), patience=1000, retries=6, reloads=0)
         self.assertEqual(packets, [f"{it} in S!" for it in (0, 1, 3, 7, 15, 31, 63)])
+
+    def test_no_port_and_no_key(self) -> None:
+        """A connection for which `nat-to` has no port, or whose key another state has, is a refused one."""
+        for word in (NO_PORT, NO_KEY):
+            packets, count = self.play(refuses("in S", 99, f"new @1 > {word} @0"), patience=3, reloads=0)
+            self.assertEqual(packets, [f"{it} in S" for it in (0, 1)])
+            self.assertEqual((count.served, count.gave_up, count.killed), (0, 1, 0))
+            self.assertEqual({it: found.packets for it, found in count.refused.items()}, {word: 2})
 
     def test_syn_reset(self) -> None:
         packets, count = self.play(refuses("in S", 1), RESETS)

@@ -48,7 +48,7 @@ class Rulesets(unittest.TestCase):
             self.assertEqual(Path(made, "rules").read_text("utf-8"), Path(folder, "rules").read_text("utf-8"))
             self.assertEqual(errors.getvalue(), Path(folder, "told").read_text("utf-8"))
             ended = subprocess.run([program(), "check", f"{made}/rules"], capture_output=True, text=True, check=False)
-            self.assertEqual(ended.stdout, "ok items=53 tables=5 entries=16\n")
+            self.assertEqual(ended.stdout, "ok items=55 tables=5 entries=16\n")
 
     def test_profile(self) -> None:
         """A text gets the line of the profile once, and first; the word of the command line stands above what it

@@ -20,7 +20,6 @@ import re
 import subprocess
 import tempfile
 import unittest
-import unittest.mock
 from collections.abc import Iterable, Iterator, Sequence
 from dataclasses import dataclass, field, replace
 from pathlib import Path
@@ -29,7 +28,6 @@ from typing import TypeVar
 from pfplan.__main__ import main
 from pfplan.common.inputs import take_none
 from pfplan.common.repository import TOP, program
-from pfplan.pf import translations
 from pfplan.tests.support import Done
 
 FOLDER = TOP / "cases/pf_conf"
@@ -990,15 +988,11 @@ class Sites(unittest.TestCase):
             with self.subTest(name, words=words), tempfile.NamedTemporaryFile("w") as file:
                 made = json.loads(called(name, "--json", *words).out)
                 self.assertEqual(called(name, *words).out, made["rules"])
-                file.write(self.readable(made["rules"]))
+                file.write(made["rules"])
                 file.flush()
                 ended = subprocess.run([program(), "check", file.name], capture_output=True, text=True, check=False)
                 self.assertEqual((ended.returncode, ended.stderr), (0, ""))
                 self.assertRegex(ended.stdout, rf"^ok items={len(made['items'])} ")
-
-    def readable(self, rules: str) -> str:
-        """What pfsrc reads of the rules that are written."""
-        return rules
 
     def test_statuses(self) -> None:
         """A text that is read ends with 0; with --strict with 3, and nothing written, where something that can change
@@ -1025,29 +1019,6 @@ class Sites(unittest.TestCase):
                 self.assertTrue(20 <= text.count("\n") <= 120)
                 self.assertTrue(words & {"max", "max-src-conn", "max-src-states", "max-src-conn-rate"})
                 self.assertTrue(words & {*TRANSLATIONS, *OLD})
-
-
-class SitesThatTranslate(Sites):
-    """The same, where the rules that come of a text translate addresses. What pfsrc does not read of them yet is taken
-    out before it is asked."""
-
-    def setUp(self) -> None:
-        called.cache_clear()
-        self.enterContext(unittest.mock.patch.object(translations, "TRANSLATES", True))
-        self.addCleanup(called.cache_clear)
-
-    def readable(self, rules: str) -> str:
-        """The rules without what they translate."""
-        return re.sub(r" nat-to \S+( static-port| port [0-9:]+)?| rdr-to \S+( port \d+)?", "", rules)
-
-    def test_tags_come_whole(self) -> None:
-        """Of rules with tags none is left out now for what it translates."""
-        for name in NAMES:
-            for statement, answer in answers(name, WITH)[1]:
-                words = {*statement.words}
-                if "match" in words and words & {"tag", "tagged"} and words & {*TRANSLATIONS}:
-                    with self.subTest(f"{name} {statement.line}"):
-                        self.assertTrue(answer.items)
 
 
 if __name__ == "__main__":

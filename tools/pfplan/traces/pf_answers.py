@@ -14,7 +14,7 @@ from typing import TextIO
 
 from pfplan.common.errors import Status, Trouble
 from pfplan.common.inputs import HEADER
-from pfplan.common.limits import DROPS, KILLS
+from pfplan.common.limits import DROPS, KILLS, NO_KEY, NO_PORT
 from pfplan.traces.records import Traces, line_blocks
 
 # Seconds within which a packet that came in is on its way out.
@@ -22,12 +22,14 @@ TOGETHER = 1
 COLUMNS = ("row", "action", "rule", "anchor", "subrule", "reason", "rewritten")
 HEAD = ",".join(COLUMNS)
 # Reasons of a refusal by a limit, and the words of a report that mean the same (OpenBSD's PFRES_NAMES, and where
-# sys/net/pf.c sets them:
-# `max` of a rule; source nodes and what is counted by them; the pool of states, which `set limit states` bounds).
+# sys/net/pf.c sets them: `max` of a rule; source nodes and what is counted by them; the pool of states, which
+# `set limit states` bounds; no port for `nat-to`; another state has a key of the new one).
 LIMITS = {
     "state-limit": ("drop:max",),
     "src-limit": (*(it for it in DROPS if "src" in it), *KILLS),
     "memory": ("drop:states",),
+    "translate": (NO_PORT,),
+    "state-insert": (NO_KEY,),
 }
 
 
