@@ -13,14 +13,18 @@ from typing import List, Tuple
 from drawn import HEADER, drawn_options, drawn_order, drawn_settings, drawn_step, odd_record
 from drawn_marks import drawn_marks, in_anchors
 
-NAT_PORTS = ["", "", " static-port", " port 50001", " port 50001:50002", " port 50001:50002", " port 50001:50003", " port 1:2", " port 80"]
+INSIDE = "10.0.0.0/8"
+NAT_PORTS = ["", "", " static-port", " port 50001", " port 50001", " port 50001:50002", " port 50001:50002", " port 50001:50003", " port 1:2", " port 80"]
+FEW_PORTS = ["50001", "50001", "50001:50002", "50001:50002", "50001:50003", "1:2"]
+LEAVING = [["pass out on em0"], [f"pass out from {INSIDE}"], ["match out"], ["match out on em0"], [f"match out from {INSIDE}", "match out on em0"]]
 PROTOS = ["", "", "proto tcp", "proto tcp", "proto udp", "proto 47"]
 PLAIN = ["pass", "pass", "pass in", "pass out", "pass out on em0", "pass in on em1", "pass in on em0 proto tcp", "block in", "block out proto udp"]
 COOKIES = ["never", "never", "never", "always", "adaptive (start 20%, end 10%)", "adaptive (start 60%, end 40%)"]
-CONNECTIONS = [
+LIMITED = [
     f" keep state ({it})" for it in (
         "max-src-conn 1, overload <bad> flush global", "max-src-conn 1, overload <good> flush", "max-src-conn-rate 2/30, overload <good> flush global",
-        "max-src-conn 2, max-src-conn-rate 3/5, overload <bad> flush"
+        "max-src-conn 2, max-src-conn-rate 3/5, overload <bad> flush",
+        "max-src-conn 1, overload <bad> flush", "max 1", "max 2", "max-src-states 1", "max-src-states 2, max 3",
     )
 ]
 STORIES = ["S.A", "S.A", "S.A", "S.AFfa", "S.AFfaS.A", "S.AR", "S.ARS", "SA.A", "S", "SS", "A", "a.A", "r", "F"]
@@ -55,7 +59,7 @@ class Family:
         return [f"{self.everything} em0", f"{self.inside_prefix} em1", *own]
 
 
-IPV4 = Family("inet", ["198.51.100.1", "198.51.100.2"], ["192.0.2.1", "192.0.2.2"], ["10.0.0.5", "10.0.0.6"], "10.0.0.1", "10.0.0.0/8", "192.0.2.0/24", "0.0.0.0/0")
+IPV4 = Family("inet", ["198.51.100.1", "198.51.100.2"], ["192.0.2.1", "192.0.2.2"], ["10.0.0.5", "10.0.0.6"], "10.0.0.1", INSIDE, "192.0.2.0/24", "0.0.0.0/0")
 IPV6 = Family("inet6", ["2001:db8::1", "2001:db8::2"], ["2001:db8:f::1"], ["fd00::5", "fd00::6"], "fd00::1", "fd00::/8", "2001:db8:f::/48", "::/0")
 
 
@@ -104,7 +108,7 @@ def drawn_state(draw: random.Random, is_tcp: bool, often: float) -> str:
     """What a `pass` keeps."""
     if draw.random() < 0.08:
         return " no state"
-    state = draw.choice(CONNECTIONS) if is_tcp and draw.random() < 0.6 else drawn_options(draw, is_tcp, often)
+    state = draw.choice(LIMITED) if is_tcp and draw.random() < 0.6 else drawn_options(draw, is_tcp, often)
     return (state.replace("keep", "synproxy") or " synproxy state") if draw.random() < 0.2 else state
 
 
@@ -127,17 +131,18 @@ def drawn_routes(draw: random.Random) -> List[str]:
 def drawn_gateway(draw: random.Random, often: float) -> List[str]:
     """Rules that let all through and translate it: servers behind addresses of the firewall, and hosts inside behind one of them, with few ports."""
     servers, rdr = f"to {IPV4.public_prefix}", f"rdr-to {draw.choice(IPV4.inside)}"
-    nat = f"nat-to {draw.choice(IPV4.public)} {draw.choice(['port 50001', 'port 50001:50002', 'port 50001:50003', 'port 1:2'])}"
     coming = draw.choice([f"match in on em0 {servers} {rdr}", f"pass in on em0 proto tcp {servers} {rdr}", f"pass in {servers} {rdr}"])
-    leaving = draw.choice(["pass out on em0", "match out on em0", "match out", f"pass out from {IPV4.inside_prefix}"])
-    rules = ["pass", coming, f"{leaving} {nat}"]
-    return [it + drawn_state(draw, True, often) if it.startswith("pass") and draw.random() < 0.5 else it for it in rules]
+    leaving = [f"{head} nat-to {draw.choice(IPV4.public)} port {draw.choice(FEW_PORTS)}" for head in draw.choice(LEAVING)]
+    base = draw.choice([["pass"], ["pass"], ["pass"], ["pass in tag A", draw.choice(["block", "pass"]) + " out", "pass out tagged A no state"]])
+    shut = [f"block out from {draw.choice(IPV4.inside)}"] if draw.random() < 0.3 else []
+    rules = [*base, coming, *shut, *leaving]
+    return [it + drawn_state(draw, True, often) if it.startswith("pass") and "state" not in it and draw.random() < 0.6 else it for it in rules]
 
 
 def drawn_times(draw: random.Random, often: float) -> List[str]:
     """Settings of which some let states stay."""
     calm = ["set timeout { interval 2, adaptive.start 0, adaptive.end 0 }"]
-    return calm if draw.random() < 0.4 else drawn_settings(draw, often)
+    return calm if draw.random() < 0.5 else drawn_settings(draw, often)
 
 
 def translating_rules(draw: random.Random) -> str:
@@ -176,8 +181,8 @@ class View:
 
 
 def drawn_views(draw: random.Random, family: Family) -> List[View]:
-    """A connection that comes in, or one that goes out, as it may be seen at both interfaces."""
-    port, near, made = draw.choice([80, 80, 53]), draw.randint(1, 3), draw.choice([50001, 50001, 50002, 50003, 1, 80])
+    """A connection that comes in, or one that goes out, as it may be seen at both interfaces: first where it comes in."""
+    port, near, made = draw.choice([80, 80, 53]), draw.randint(1, 3), draw.choice([50001, 50001, 50001, 50002, 50003, 1])
     client, server = draw.choice(family.outside), draw.choice(family.inside)
     public = draw.choice(family.public)
     if draw.random() < 0.5:
@@ -190,15 +195,16 @@ def drawn_views(draw: random.Random, family: Family) -> List[View]:
 
 
 def drawn_story(draw: random.Random, time: int) -> List[str]:
-    """Packets of one connection, at one interface or at both."""
+    """Packets of one connection: seen at one interface, where they come in, or at any."""
     views = drawn_views(draw, drawn_family(draw))
-    view, stays = draw.choice(views), draw.random() < 0.7
+    seen = draw.choice([[draw.choice(views)] * 2] * 2 + [views] * 2 + [[]])
     proto = draw.choice(["tcp", "tcp", "tcp", "udp", "udp", "47"])
     story = draw.choice(STORIES) if proto == "tcp" else draw.choice(["S", "S.", "S.A", ".", "SS"])
     records = []
     for letter in story:
-        at = view if stays else draw.choice(views)
-        records.append(at.record(time, proto, letter.isupper(), FLAGS[letter] if proto == "tcp" else ""))
+        is_forward = letter.isupper()
+        view = seen[0 if is_forward else 1] if seen else draw.choice(views)
+        records.append(view.record(time, proto, is_forward, FLAGS[letter] if proto == "tcp" else ""))
     return records
 
 
