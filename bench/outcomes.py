@@ -10,6 +10,8 @@ OUTCOMES = [
 ]
 # Where the packet leaves, behind what came of it first.
 SECOND = ["> new", "> state", "> pass", "> block", "> drop:max", "> drop:states", "> proxy"]
+# What comes of translation alone, at either interface.
+TRANSLATED = ["drop:translate", "drop:state-insert", "> drop:translate", "> drop:state-insert"]
 
 
 def count(report: str, counts: Counter[str]) -> None:
@@ -20,9 +22,9 @@ def count(report: str, counts: Counter[str]) -> None:
         counts.update(re.findall(r"overload=\w+|> [a-z:-]+", line))
 
 
-def tell(counts: Counter[str], second: bool = False) -> int:
-    """Prints how often each outcome came, at a second interface too where that is asked for; how many never did."""
-    names = OUTCOMES + SECOND if second else OUTCOMES
+def tell(counts: Counter[str], of_profile: bool = False) -> int:
+    """Prints how often each outcome came, those at a second interface and of translation too where that is asked for; how many never did."""
+    names = OUTCOMES + SECOND + TRANSLATED if of_profile else OUTCOMES
     for name in names:
         print(f"{counts[name]:8} {name}")
     return sum(counts[name] == 0 for name in names)

@@ -1,4 +1,4 @@
-"""Rules, traces and reports worked by hand, of what pfsrc does not read yet: routes, tags, translation, states that an administrator takes out."""
+"""Rules, traces and reports worked by hand: routes, tags, translation, states that an administrator takes out."""
 from dataclasses import dataclass
 from typing import List
 
@@ -29,6 +29,12 @@ class Case:
 def dns(host: str) -> str:
     """A question from a host inside to a server outside."""
     return f"0,in,em1,udp,{host},1000,203.0.113.5,53,"
+
+
+def web(port: int, outside: int) -> List[str]:
+    """A handshake of a host inside with a server outside, each packet where it comes in."""
+    asked = f"0,in,em1,tcp,10.0.0.9,{port},203.0.113.5,80,"
+    return [asked + "S", f"0,in,em0,tcp,203.0.113.5,80,192.0.2.1,{outside},SA", asked + "A"]
 
 
 CASES = [
@@ -69,6 +75,32 @@ CASES = [
         "no two states share a key inside",
         [PROFILE, "pass in proto tcp to any port 80 rdr-to 10.0.0.5"], [SYN, SYN.replace("192.0.2.9", "192.0.2.8")],
         ["1 new @0", "2 drop:state-insert @0", "end rows=2 states=1 nodes=0 entries=0"],
+    ),
+    Case(
+        "that no port is left is told before a limit",
+        [PROFILE, INSIDE, "pass in on em1", "pass out on em0 nat-to 192.0.2.1 port 50001 keep state (max 1)"],
+        [dns("10.0.0.9"), dns("10.0.0.8"), dns("10.0.0.8").replace("203.0.113.5", "203.0.113.6")],
+        ["1 new @0 > new @1", "2 new @0 > drop:translate @1", "3 new @0 > drop:max @1", "end rows=3 states=4 nodes=0 entries=0"],
+    ),
+    Case(
+        "nat-to is made first: it finds its port free towards the address that was asked, and the key of both is held",
+        [PROFILE, "pass in on em0 proto tcp rdr-to 10.0.0.5 nat-to 10.0.0.1 port 7"], [SYN, SYN.replace(",1,", ",2,")],
+        ["1 new @0", "2 drop:state-insert @0", "end rows=2 states=1 nodes=0 entries=0"],
+    ),
+    Case(
+        "what is seen of an answer where it leaves has the addresses there, and no state where it came in",
+        [PROFILE, INSIDE, "pass in on em1", "pass out on em0 nat-to 192.0.2.1", "block in on em0"],
+        [dns("10.0.0.9"), "0,out,em1,udp,203.0.113.5,53,10.0.0.9,1000,", "0,in,em0,udp,203.0.113.5,53,192.0.2.1,50001,"],
+        ["1 new @0 > new @1", "2 block @2", "3 state @1 > state @0", "end rows=3 states=2 nodes=0 entries=0"],
+    ),
+    Case(
+        "a flush looks for the source in the wire's keys, where its address is that of the firewall",
+        [PROFILE, INSIDE, "table <bad>", "pass in on em1 no state",
+         "pass out on em0 proto tcp nat-to 192.0.2.1 keep state (max-src-conn 1, overload <bad> flush global)"],
+        [*web(1000, 50001), *web(1001, 50002)],
+        ["1 pass @0 > new @1", "2 state @1 > pass -", "3 pass @0 > state @1",
+         "4 pass @0 > new @1", "5 state @1 > pass -", "6 pass @0 > kill:max-src-conn @1 overload=added killed=1",
+         "end rows=6 states=1 nodes=1 entries=1"],
     ),
     Case(
         "a tag goes with the packet, whichever rule decides",
