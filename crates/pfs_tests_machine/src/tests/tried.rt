@@ -12,6 +12,17 @@ use std::marker::Model;
 use std::process::Abort;
 use std::test::Fail;
 
+/// The state of a store that has the key of a packet on the wire.
+fn found<S: Store>(store: &S, packet: &Packet) -> Result<Found, Fail>
+    ensures held { IfOk result (λ f. holds_number (S.world store.now).states f.number.0 ≡ true) }
+    ensures reached { IfOk result (λ f. S.reaches store.now f ≡ true) }
+{
+    match store.find(&FlowKey::of(packet)) {
+        Some(found) if store.holds(found.number) => Ok(found),
+        _ => Err("its key is not held".into()),
+    }
+}
+
 /// A store that was made for a configuration, at a moment of a trace that is not before any handshake that it counts.
 #[derive(Drop)]
 pub struct Tried<'a, S: Store> {
@@ -75,34 +86,23 @@ impl<'a, S: Store> Tried<'a, S> {
 
     /// A packet of a held state comes.
     pub fn touch(&mut self, packet: &Packet) -> Result<Touched, Fail> {
-        let found = self.found(packet)?;
+        let found = found(&self.store, packet)?;
         let mut meter = Meter::new();
         Ok(self.store.touch(found, packet, self.now, &mut meter))
     }
 
     /// A packet of a held state comes, of which a node is told at a completed handshake alone.
     pub fn renew(&mut self, packet: &Packet) -> Result<Touched, Fail> {
-        let found = self.found(packet)?;
+        let found = found(&self.store, packet)?;
         let mut meter = Meter::new();
         Ok(self.store.renew(found, packet, self.now, &mut meter))
     }
 
     /// Whether both peers of the state with the key of a packet have closed their connection.
     pub fn has_closed(&self, packet: &Packet) -> Result<bool, Fail> {
-        let found = self.found(packet)?;
+        let found = found(&self.store, packet)?;
         let mut meter = Meter::new();
         Ok(self.store.has_closed(found, &mut meter))
-    }
-
-    /// The state that has the key of a packet on the wire.
-    fn found(&self, packet: &Packet) -> Result<Found, Fail>
-        ensures held { IfOk result (λ f. holds_number (S.world self.now.store).states f.number.0 ≡ true) }
-        ensures reached { IfOk result (λ f. S.reaches self.now.store f ≡ true) }
-    {
-        match self.store.find(&FlowKey::of(packet)) {
-            Some(found) if self.store.holds(found.number) => Ok(found),
-            _ => Err("its key is not held".into()),
-        }
     }
 
     /// The state that has the key of a packet is killed: its number, if there is one.
