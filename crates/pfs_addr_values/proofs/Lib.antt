@@ -2,4 +2,5 @@ mod Laying
 pub mod PaddedNames
 pub mod PrefixLaws
 pub mod SameLaws
+mod SameNumbers
 mod WideLaws

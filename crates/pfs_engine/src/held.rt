@@ -179,15 +179,15 @@ impl<S: Store> Held<S> {
         }
     }
 
-    /// The rule that decides on a packet of no state, if one does, the packet as the rules leave it, and the rule that loses it, if one
-    /// does. It takes no memory.
-    pub(crate) fn decide(&self, packet: &Packet, visits: &mut Meter) -> Decision
+    /// The rule that decides on a packet of no state, if one does, and the rule that loses it, if one does. The packet becomes
+    /// what the rules leave it. It takes no memory.
+    pub(crate) fn decide(&self, packet: &mut Packet, visits: &mut Meter) -> Decision
         requires { visits.old ≡ 0 }
-        ensures rule { option_map (λ r. r.0) result.rule ≡ deciding_rule self.now.config self.now.held packet.now }
-        ensures lost { option_map (λ r. r.0) result.lost ≡ losing_rule self.now.config self.now.held packet.now }
-        ensures packet { result.packet ≡ packet_ruled self.now.config self.now.held packet.now }
+        ensures rule { option_map (λ r. r.0) result.rule ≡ deciding_rule self.now.config self.now.held packet.old }
+        ensures lost { option_map (λ r. r.0) result.lost ≡ losing_rule self.now.config self.now.held packet.old }
+        ensures packet { packet.new ≡ packet_ruled self.now.config self.now.held packet.old }
         ensures known { IfSome result.rule (λ r. IsRuleAt self.now.config.items r.0) }
-        ensures visits { AreVisits self.now.config self.now.held packet.now false None visits.new }
+        ensures visits { AreVisits self.now.config self.now.held packet.old false None visits.new }
     {
         let sides = KeysHeld { store: &self.store };
         self.book.decide(&self.tables, &sides, packet, visits)

@@ -175,13 +175,14 @@ fn by_rules<S: Store>(
     ensures free { NeedsNone held.old.config held.old.held packet.now cookie None → IsOk result }
     ensures no_looks { IfOk result (λ o. AreLooks held.old.config 0 o 0) }
 {
-    let decision = held.decide(&asked(packet, cookie), visits);
+    let mut ruled = asked(packet, cookie);
+    let decision = held.decide(&mut ruled, visits);
     if may_go_on(&held.config) {
-        *going = Some(decision.packet.with_flags(packet.flags()));
+        *going = Some(ruled.with_flags(packet.flags()));
     }
     match (decision.lost, decision.rule) {
         (Some(rule), _) => Ok(Outcome::Lost(rule)),
-        (None, Some(rule)) => by_action(held, packet, &decision.packet, rule, cookie, now),
+        (None, Some(rule)) => by_action(held, packet, &ruled, rule, cookie, now),
         (None, None) => Ok(passed(None, cookie)),
     }
 }

@@ -42,8 +42,6 @@ impl Model for Book {
 pub struct Decision {
     /// The rule that decides, if one does.
     pub rule: Option<RuleNo>,
-    /// The packet as the rules leave it: with the tag of the last rule that matched and gives one, and translated.
-    pub packet: Packet,
     /// The rule that loses the packet, if one does: it is the one that decides, and its `nat-to` finds no port.
     pub lost: Option<RuleNo>,
 }
@@ -58,7 +56,8 @@ impl Book {
         })
     }
 
-    /// What the rules make of a packet. The rule that decides, if one does, is the last that matches and is no `match` rule, where such a
+    /// What the rules make of a packet, which becomes the packet as they leave it: with the tag of the last rule that matched and gives
+    /// one, and translated. The rule that decides, if one does, is the last that matches and is no `match` rule, where such a
     /// rule that is quick ends the evaluation, and a quick anchor ends it where it is left if such a rule inside it matched. The items
     /// of an anchor are compared only with packets that match it. Without a rule, the packet passes without a state.
     ///
@@ -81,24 +80,22 @@ impl Book {
         &self,
         tables: &Tables,
         sides: &S,
-        packet: &Packet,
+        packet: &mut Packet,
         meter: &mut Meter,
     ) -> Decision
         requires { meter.old ≤ 2 ^ 63 }
-        ensures verdict { option_map (λ r. r.0) result.rule ≡ verdict (asking self.now tables.now.entries (S.taken sides.now)) packet.now self.now }
-        ensures packet { result.packet ≡ packet_behind (asking self.now tables.now.entries (S.taken sides.now)) packet.now self.now }
-        ensures lost { option_map (λ r. r.0) result.lost ≡ lost_by (asking self.now tables.now.entries (S.taken sides.now)) packet.now self.now }
+        ensures verdict { option_map (λ r. r.0) result.rule ≡ verdict (asking self.now tables.now.entries (S.taken sides.now)) packet.old self.now }
+        ensures packet { packet.new ≡ packet_behind (asking self.now tables.now.entries (S.taken sides.now)) packet.old self.now }
+        ensures lost { option_map (λ r. r.0) result.lost ≡ lost_by (asking self.now tables.now.entries (S.taken sides.now)) packet.old self.now }
         ensures rule { IfSome result.rule (λ r. IsRuleAt self.now r.0) }
-        ensures visits { meter.new ≡ meter.old + visits_of tables.now.entries (S.taken sides.now) packet.now self.now }
-        ensures least { meter.old + visit_floor (asking self.now tables.now.entries (S.taken sides.now)) packet.now self.now ≤ meter.new }
-        ensures most { meter.new ≤ meter.old + visit_bound (asking self.now tables.now.entries (S.taken sides.now)) packet.now self.now }
+        ensures visits { meter.new ≡ meter.old + visits_of tables.now.entries (S.taken sides.now) packet.old self.now }
+        ensures least { meter.old + visit_floor (asking self.now tables.now.entries (S.taken sides.now)) packet.old self.now ≤ meter.new }
+        ensures most { meter.new ≤ meter.old + visit_bound (asking self.now tables.now.entries (S.taken sides.now)) packet.old self.now }
     {
-        let mut seen = *packet;
-        let found = self.walk(tables, sides, &mut seen, meter);
-        let passed = self.pass(found, sides, &mut seen);
+        let found = self.walk(tables, sides, packet, meter);
+        let passed = self.pass(found, sides, packet);
         Decision {
             rule: rule_no(found),
-            packet: seen,
             lost: rule_lost(found, passed),
         }
     }

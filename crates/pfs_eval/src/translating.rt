@@ -35,6 +35,7 @@ impl Sides for NoSides {
 
 /// Translates a packet. The answer is whether it goes on: where `nat-to` finds no port it is lost, and stays as it was. It takes no
 /// memory.
+#[inline(always)]
 #[tactic(auto, using(crate::proofs::Translations::untranslated))]
 pub fn translate<S: Sides>(translation: &Translation, sides: &S, packet: &mut Packet) -> bool
     ensures goes_on { result ≡ is_some (translated (S.taken sides.now) translation.now packet.old) }

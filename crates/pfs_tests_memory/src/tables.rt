@@ -90,9 +90,10 @@ fn decide(
     rule: Option<u32>,
 ) -> Result<bool, Stop> {
     plain(rt, true)?;
+    let mut packet = *udp;
     let mut meter = Meter::new();
     begin_free(rt, "decide")?;
-    let decided = book.decide(tables, &NoSides, udp, &mut meter).rule;
+    let decided = book.decide(tables, &NoSides, &mut packet, &mut meter).rule;
     end(rt)?;
     plain(rt, decided.map(number_of) == rule)
 }

@@ -54,6 +54,10 @@ enum Verb {
 fn read_verb(word: &[u8]) -> Option<Verb>
     ensures { result ≡ verb_of word.now }
 {
+    // Nearly all records are of packets.
+    if read_dir(word).is_some() {
+        return None;
+    }
     if word == b"expire".as_slice() {
         Some(Verb::Expire)
     } else if word == b"add".as_slice() {

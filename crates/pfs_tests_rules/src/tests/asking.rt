@@ -2,9 +2,20 @@
 
 use pfs_addr_values::{Meter, Packet};
 use pfs_conf::{Config, RuleNo};
-use pfs_eval::{Book, Decision, NoSides, Sides, Tables};
+use pfs_eval::{Book, NoSides, Sides, Tables};
 use std::alloc::Global;
 use std::test::Fail;
+
+/// What rules make of a packet.
+#[derive(Drop)]
+pub struct Decided {
+    /// The rule that decides, if one does.
+    pub rule: Option<RuleNo>,
+    /// The packet as the rules leave it.
+    pub packet: Packet,
+    /// The rule that loses it, if one does.
+    pub lost: Option<RuleNo>,
+}
 
 /// Rules, ready to be asked.
 #[derive(Drop)]
@@ -23,15 +34,21 @@ impl Rules {
     }
 
     /// What the rules make of a packet where no key is taken, and the number of visits.
-    pub fn decide(&self, packet: &Packet) -> (Decision, u64) {
+    pub fn decide(&self, packet: &Packet) -> (Decided, u64) {
         self.decide_over(&NoSides, packet)
     }
 
     /// What the rules make of a packet over these keys, and the number of visits.
-    pub fn decide_over<S: Sides>(&self, sides: &S, packet: &Packet) -> (Decision, u64) {
+    pub fn decide_over<S: Sides>(&self, sides: &S, packet: &Packet) -> (Decided, u64) {
         let mut visits = Meter::new();
-        let decision = self.book.decide(&self.tables, sides, packet, &mut visits);
-        (decision, visits.count())
+        let mut packet = *packet;
+        let decision = self.book.decide(&self.tables, sides, &mut packet, &mut visits);
+        let decided = Decided {
+            rule: decision.rule,
+            packet,
+            lost: decision.lost,
+        };
+        (decided, visits.count())
     }
 
     /// The rule that decides on a packet, and the number of visits.

@@ -35,7 +35,7 @@ returns-in-None-Some-clause-answered g c =
     let lost = sym (c.decide-decision.ensures.lost ∙ ap (losing_rule was.config was.held) c.asked.ensures) ∙ ap (option_map (λ (x : RuleNo). x.0)) c.in-None-Some.is-0 in
     let decides = sym (c.decide-decision.ensures.rule ∙ ap (deciding_rule was.config was.held) c.asked.ensures) ∙ ap (option_map (λ (x : RuleNo). x.0)) c.in-None-Some.is-1 in
     let going = c.decide-decision.ensures.packet ∙ ap (packet_ruled was.config was.held) c.asked.ensures in
-    let path : answer_of_rule was.config was.held p c.decide-decision.result.packet c.args.cookie c.args.now (Some rule.0) ≡ answer_of_rules was.config was.held p c.args.cookie c.args.now =
+    let path : answer_of_rule was.config was.held p c.decide-decision.new.packet c.args.cookie c.args.now (Some rule.0) ≡ answer_of_rules was.config was.held p c.args.cookie c.args.now =
     λ i. answer_of_loss was.config was.held p (going i) c.args.cookie c.args.now (sym decides i) (sym lost i) in
     let a = c.by_action.ensures.answered in
     record { ok = subst (λ (x : Outcome × Held). IfOk r (λ o. (o, after.held) ≡ x)) path a.ok; err = a.err; config = a.config }
