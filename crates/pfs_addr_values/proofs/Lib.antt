@@ -2,5 +2,4 @@ mod Laying
 pub mod PaddedNames
 pub mod PrefixLaws
 pub mod SameLaws
-mod SameNumbers
 mod WideLaws

@@ -1,52 +1,19 @@
 //! Addresses of both families.
 
-ghost use Rattle.std.specs.Prelude.{◌≡◌, ◌<◌, [], ◌∷◌, true, false, nat_eq};
-ghost use Rattle.std.specs.Str.{bytes_eq};
-ghost use Rattle.std.specs.Bool.{beq};
-ghost use Rattle.std.specs.Cmp.Lexicographic.{pointwise};
-ghost use Rattle.std.specs.Ordering.{eq_of_both, on};
+ghost use Rattle.std.specs.Prelude.{◌≡◌, ◌<◌, [], ◌∷◌, true, false};
 ghost use Rattle.pfs_addr_values.specs.Addresses.{bytes_of, is_ipv6, same_family, width_of};
 ghost use Rattle.std.proofs.Common.{rules};
-ghost use Rattle.std.specs.Cmp.Rules.{comparing, hashing};
+ghost use Rattle.std.specs.Cmp.Rules.{hashing};
 
 use std::hash::{Hash, Hasher};
 
 /// An address of a packet's end.
-#[derive(Debug, Clone, Copy, Eq, PartialOrd, Ord)]
+#[derive(Debug, Clone, Copy, PartialEq, Eq, PartialOrd, Ord)]
 pub enum Addr {
     /// IPv4, its four bytes in the order in which they are written. (RFC 791, section 3.2)
     V4([u8; 4]),
     /// IPv6, its sixteen bytes in the order in which they are written. (RFC 4291, section 2)
     V6([u8; 16]),
-}
-
-impl PartialEq for Addr {
-    ghost eq = { eq_of_both (on is_ipv6 beq) (on bytes_of (pointwise nat_eq)) };
-
-    ghost laws = { Prim.search (comparing, rules) };
-
-    /// The bytes are compared as one number; a derive would compare them in groups.
-    fn eq(&self, other: &Addr) -> bool {
-        match (self, other) {
-            (Addr::V4(one), Addr::V4(two)) => are_same_four(*one, *two),
-            (Addr::V6(one), Addr::V6(two)) => are_same_sixteen(*one, *two),
-            _ => false,
-        }
-    }
-}
-
-#[inline(always)]
-fn are_same_four(one: [u8; 4], two: [u8; 4]) -> bool
-    ensures { result ≡ bytes_eq one two }
-{
-    u32::from_be_bytes(one) == u32::from_be_bytes(two)
-}
-
-#[inline(always)]
-fn are_same_sixteen(one: [u8; 16], two: [u8; 16]) -> bool
-    ensures { result ≡ bytes_eq one two }
-{
-    u128::from_be_bytes(one) == u128::from_be_bytes(two)
 }
 
 impl Hash for Addr {

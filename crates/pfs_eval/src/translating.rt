@@ -41,9 +41,17 @@ pub fn translate<S: Sides>(translation: &Translation, sides: &S, packet: &mut Pa
     ensures goes_on { result ≡ is_some (translated (S.taken sides.now) translation.now packet.old) }
     ensures packet { packet.new ≡ unwrap_or (translated (S.taken sides.now) translation.now packet.old) packet.old }
 {
-    if !translation.translates() {
-        return true;
-    }
+    !translation.translates() || become_translated(translation, sides, packet)
+}
+
+/// Makes a packet the one behind a translation. The answer is whether it goes on.
+// Not where each packet is decided on: few rules translate.
+#[cold]
+#[inline(never)]
+fn become_translated<S: Sides>(translation: &Translation, sides: &S, packet: &mut Packet) -> bool
+    ensures goes_on { result ≡ is_some (translated (S.taken sides.now) translation.now packet.old) }
+    ensures packet { packet.new ≡ unwrap_or (translated (S.taken sides.now) translation.now packet.old) packet.old }
+{
     match translated(translation, sides, packet) {
         Some(made) => {
             *packet = made;
@@ -54,9 +62,6 @@ pub fn translate<S: Sides>(translation: &Translation, sides: &S, packet: &mut Pa
 }
 
 /// The packet behind a translation: its source first. None where it is lost.
-// Not where each packet is decided on: few rules translate.
-#[cold]
-#[inline(never)]
 #[tactic(auto, unfolding(crate::specs::Translating::translated))]
 fn translated<S: Sides>(translation: &Translation, sides: &S, packet: &Packet) -> Option<Packet>
     ensures { result ≡ translated (S.taken sides.now) translation.now packet.now }
