@@ -42,7 +42,9 @@ impl Rules {
     pub fn decide_over<S: Sides>(&self, sides: &S, packet: &Packet) -> (Decided, u64) {
         let mut visits = Meter::new();
         let mut packet = *packet;
-        let decision = self.book.decide(&self.tables, sides, &mut packet, &mut visits);
+        let decision = self
+            .book
+            .decide(&self.tables, sides, &mut packet, &mut visits);
         let decided = Decided {
             rule: decision.rule,
             packet,
