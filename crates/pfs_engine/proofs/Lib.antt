@@ -1,5 +1,6 @@
 mod Admitting
 mod Belonging
+mod Due
 mod Free
 mod Fewer
 mod Keeping

@@ -15,6 +15,7 @@ use crate::works::Work;
 use pfs_store_contract::Store;
 
 /// All seconds due between the last moment and this one; none before the first event. It takes no memory.
+#[tactic(auto, using(crate::proofs::Due::none_due))]
 pub(crate) fn pass_due<S: Store>(
     guard: &mut Guard,
     held: &mut Held<S>,
@@ -29,6 +30,8 @@ pub(crate) fn pass_due<S: Store>(
     ensures work { IsWorkOfSeconds S.counts held.old.config held.old.held.world (due last now) result }
 {
     match last {
+        // Most records come in the second of the one before.
+        Some(last) if last == now => Work::none(),
         Some(last) => {
             let work = pass(guard, held, last, now);
             Work {

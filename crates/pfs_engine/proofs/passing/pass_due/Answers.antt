@@ -5,13 +5,13 @@ use Rattle.pfs_engine_machine.specs.Shares.{seconds}
 use Rattle.pfs_engine_machine.proofs.Shares.{most_nodes-share, most_states-share}
 use Rattle.pfs_engine.proofs.passing.pass_due.Goals as goal
 
-pub returns-in-Some-clause-work : goal.returns-in-Some-clause-work
-returns-in-Some-clause-work g c =
+pub returns-in-Some-2-clause-work : goal.returns-in-Some-2-clause-work
+returns-in-Some-2-clause-work g c =
     let conf = c.args.held.now.config in
     let w = c.args.held.now.held.world in
-    let due = seconds c.in-Some.last c.args.now in
+    let due = seconds c.in-Some-2.last c.args.now in
     let done = c.pass-work.ensures.work in
-    rw c.in-Some.is (record {
+    rw c.in-Some-2.is (record {
       slices = rw length-range_with_len;
       most_states = done.most_states;
       most_nodes = done.most_nodes;
