@@ -5,8 +5,9 @@ ghost use Rattle.pfs_cli_formats.specs.Lines.{amounts_text, end_text, entered_wo
 ghost use Rattle.pfs_cli_formats.specs.Words.{lead_of, note_text, number_text, rule_by};
 
 use pfs_conf_values::RuleNo;
-use pfs_engine_machine::{Added, Amounts, Entered, Exceeded, Limit, Outcome, Way};
+use pfs_engine_machine::{Added, Amounts, Entered, Exceeded, Outcome, Way};
 use pfs_numbers::push_number;
+use pfs_store_contract::Limit;
 use std::alloc::AllocError;
 
 /// The last line of a report: how many records there were, and what is held after them.

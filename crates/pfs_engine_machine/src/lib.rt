@@ -12,7 +12,7 @@ mod ways;
 pub use cookies::cookie_life;
 pub use events::{Amounts, Arrival, Command, Event, Exceeded, Outcome, Way};
 pub use pfs_eval::{Added, Entered, TableEntry};
-pub use pfs_store_contract::{FromTo, Limit};
+pub use pfs_store_contract::FromTo;
 pub use rates::rate_memory;
 pub use staying::{staleness, within_limits};
 pub use translating::two_keys;

@@ -2,7 +2,8 @@
 
 use crate::errors::CaseError;
 use pfs_conf_values::RuleNo;
-use pfs_engine_machine::{Added, Amounts, Entered, Exceeded, Limit, Outcome};
+use pfs_engine_machine::{Added, Amounts, Entered, Exceeded, Outcome};
+use pfs_store_contract::Limit;
 
 /// The outcome that a line of a report tells, of its words behind the number of the line; an error where there is no such line. What a
 /// report calls `proxy` is `proxy:new` here where it made a state, and `proxy:asks` where pf asks the other peer for a connection.

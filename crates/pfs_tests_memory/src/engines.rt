@@ -3,7 +3,7 @@
 ghost use Rattle.std.specs.Prelude.{◌≤◌};
 
 use crate::kinds::Kind;
-use crate::telling::{Stop, begin, begin_free, end, plain, refused};
+use crate::telling::{Stop, Teller, begin, begin_case, begin_free, end, plain, refused};
 use pfs_addr_values::{Packet, RUN_LIMIT};
 use pfs_conf::{Config, TableNo};
 use pfs_engine::{Arrival, Engine, Event, Outcome};
@@ -100,55 +100,55 @@ fn has_overload(case: &Case) -> bool {
     case.rules.contains("overload")
 }
 
-fn config_of(rt: &HostRuntime, case: &Case) -> Result<Config, Stop> {
-    Ok(configured(rt.alloc(), UNSCALED, case.rules)?)
+fn config_of(teller: &Teller, case: &Case) -> Result<Config, Stop> {
+    Ok(configured(teller.alloc(), UNSCALED, case.rules)?)
 }
 
 /// Engines over a kind of store.
-pub fn tell<S: Kind + Drop>(rt: &HostRuntime) -> Result<(), Stop> {
+pub fn tell<S: Kind + Drop>(teller: &Teller) -> Result<(), Stop> {
     for case in CASES {
-        if !make::<S>(rt, case)? {
-            make::<S>(rt, case)?;
+        if !make::<S>(teller, case)? {
+            make::<S>(teller, case)?;
         }
-        walk_one::<S>(rt, case)?;
-        step_one::<S>(rt, case)?;
-        run_one::<S>(rt, case)?;
+        walk_one::<S>(teller, case)?;
+        step_one::<S>(teller, case)?;
+        run_one::<S>(teller, case)?;
     }
     Ok(())
 }
 
 /// Whether a new engine was made, which is before the first event.
-fn make<S: Kind + Drop>(rt: &HostRuntime, case: &Case) -> Result<bool, Stop> {
-    let config = config_of(rt, case)?;
-    let store = S::empty(rt.alloc(), &config)?;
-    begin(rt, "Engine::new")?;
-    let made = Engine::new(rt.alloc(), config, store);
-    end(rt)?;
+fn make<S: Kind + Drop>(teller: &Teller, case: &Case) -> Result<bool, Stop> {
+    let config = config_of(teller, case)?;
+    let store = S::empty(teller.alloc(), &config)?;
+    begin(teller, "Engine::new")?;
+    let made = Engine::new(teller.alloc(), config, store);
+    end(teller)?;
     match made {
-        Ok(engine) => plain(rt, engine.last() == None && engine.states() == 0),
-        Err(_) => refused(rt, true),
+        Ok(engine) => plain(teller, engine.last() == None && engine.states() == 0),
+        Err(_) => refused(teller, true),
     }
 }
 
-fn engine_of<S: Kind + Drop>(rt: &HostRuntime, case: &Case) -> Result<Engine<S>, Stop> {
-    let config = config_of(rt, case)?;
-    let store = S::empty(rt.alloc(), &config)?;
-    Ok(Engine::new(rt.alloc(), config, store)?)
+fn engine_of<S: Kind + Drop>(teller: &Teller, case: &Case) -> Result<Engine<S>, Stop> {
+    let config = config_of(teller, case)?;
+    let store = S::empty(teller.alloc(), &config)?;
+    Ok(Engine::new(teller.alloc(), config, store)?)
 }
 
-fn walk_one<S: Kind + Drop>(rt: &HostRuntime, case: &Case) -> Result<(), Stop> {
-    let mut engine = engine_of::<S>(rt, case)?;
-    walk(rt, &mut engine, case)
+fn walk_one<S: Kind + Drop>(teller: &Teller, case: &Case) -> Result<(), Stop> {
+    let mut engine = engine_of::<S>(teller, case)?;
+    walk(teller, &mut engine, case)
 }
 
-fn step_one<S: Kind + Drop>(rt: &HostRuntime, case: &Case) -> Result<(), Stop> {
-    let mut engine = engine_of::<S>(rt, case)?;
-    step_each(rt, &mut engine, case)
+fn step_one<S: Kind + Drop>(teller: &Teller, case: &Case) -> Result<(), Stop> {
+    let mut engine = engine_of::<S>(teller, case)?;
+    step_each(teller, &mut engine, case)
 }
 
-fn run_one<S: Kind + Drop>(rt: &HostRuntime, case: &Case) -> Result<(), Stop> {
-    let mut engine = engine_of::<S>(rt, case)?;
-    run_all(rt, &mut engine, case)
+fn run_one<S: Kind + Drop>(teller: &Teller, case: &Case) -> Result<(), Stop> {
+    let mut engine = engine_of::<S>(teller, case)?;
+    run_all(teller, &mut engine, case)
 }
 
 /// How many states, source nodes and entries are held, and how many packets were taken.
@@ -162,32 +162,32 @@ fn held<S: Store>(engine: &Engine<S>) -> (u64, u64, u64, u64) {
 }
 
 /// The events one by one.
-fn walk<S: Store>(rt: &HostRuntime, engine: &mut Engine<S>, case: &Case) -> Result<(), Stop> {
-    let script = Script::of(rt.alloc(), case.rows)?;
+fn walk<S: Store>(teller: &Teller, engine: &mut Engine<S>, case: &Case) -> Result<(), Stop> {
+    let script = Script::of(teller.alloc(), case.rows)?;
     for (event, outcome) in script.events.iter().zip(&script.outcomes) {
-        take_event(rt, engine, case, event, *outcome)?;
+        take_event(teller, engine, case, event, *outcome)?;
     }
-    begin_free(rt, "what is held")?;
+    begin_free(teller, "what is held")?;
     let is_right = is_end(engine, case);
-    end(rt)?;
-    plain(rt, is_right)?;
+    end(teller)?;
+    plain(teller, is_right)?;
     if has_overload(case) {
-        expire(rt, engine, case)?;
+        expire(teller, engine, case)?;
     }
     Ok(())
 }
 
 /// All entries of the table leave, those of the text too.
-fn expire<S: Store>(rt: &HostRuntime, engine: &mut Engine<S>, case: &Case) -> Result<(), Stop> {
+fn expire<S: Store>(teller: &Teller, engine: &mut Engine<S>, case: &Case) -> Result<(), Stop> {
     if engine.last().is_none() || !may_change(engine.config(), TableNo(0)) {
         return Err(Stop::Input);
     }
     let (states, nodes, entries, taken) = held(engine);
-    begin_free(rt, "expire")?;
+    begin_free(teller, "expire")?;
     let left = engine.expire(TableNo(0), 0);
-    end(rt)?;
+    end(teller)?;
     let stays = held(engine) == (states, nodes, 0, taken);
-    plain(rt, stays && left == entries && entries == case.end.2)?;
+    plain(teller, stays && left == entries && entries == case.end.2)?;
     Ok(())
 }
 
@@ -199,35 +199,35 @@ fn is_end<S: Store>(engine: &Engine<S>, case: &Case) -> bool {
 
 /// An event at its moment, and once more where memory was refused.
 fn take_event<S: Store>(
-    rt: &HostRuntime,
+    teller: &Teller,
     engine: &mut Engine<S>,
     case: &Case,
     event: &Event,
     wanted: Outcome,
 ) -> Result<(), Stop> {
-    advance(rt, engine, event.time)?;
+    advance(teller, engine, event.time)?;
     match &event.what {
         Arrival::Packet(packet) => {
-            if !take(rt, engine, case, packet, wanted)? {
-                take(rt, engine, case, packet, wanted)?;
+            if !take(teller, engine, case, packet, wanted)? {
+                take(teller, engine, case, packet, wanted)?;
             }
             Ok(())
         }
         Arrival::Table { table, command } => {
-            if !change(rt, engine, *table, command, wanted)? {
-                change(rt, engine, *table, command, wanted)?;
+            if !change(teller, engine, *table, command, wanted)? {
+                change(teller, engine, *table, command, wanted)?;
             }
             Ok(())
         }
-        Arrival::Kill(hosts) => kill(rt, engine, hosts, wanted),
-        Arrival::Held => ask(rt, engine, wanted),
+        Arrival::Kill(hosts) => kill(teller, engine, hosts, wanted),
+        Arrival::Held => ask(teller, engine, wanted),
         Arrival::Skip => Err(Stop::Input),
     }
 }
 
 /// A command by a call of its own, which alone of all may take memory where an entry is new.
 fn change<S: Store>(
-    rt: &HostRuntime,
+    teller: &Teller,
     engine: &mut Engine<S>,
     table: TableNo,
     command: &Command,
@@ -237,7 +237,7 @@ fn change<S: Store>(
         return Err(Stop::Input);
     }
     let before = (held(engine), engine.last());
-    begin_change(rt, wanted, command_name(command))?;
+    begin_change(teller, wanted, command_name(command))?;
     let answer = match command {
         Command::Expire(seconds) => Ok(Outcome::Expire(engine.expire(table, *seconds))),
         Command::Add(entry) => match engine.add(table, entry) {
@@ -246,10 +246,10 @@ fn change<S: Store>(
         },
         Command::Delete(entry) => Ok(Outcome::Delete(engine.delete(table, entry))),
     };
-    end(rt)?;
+    end(teller)?;
     match answer {
-        Ok(outcome) => plain(rt, outcome == wanted),
-        Err(_) => refused(rt, (held(engine), engine.last()) == before),
+        Ok(outcome) => plain(teller, outcome == wanted),
+        Err(_) => refused(teller, (held(engine), engine.last()) == before),
     }
 }
 
@@ -262,16 +262,15 @@ fn command_name(command: &Command) -> &'static str {
 }
 
 /// A call begins that takes memory only for an entry that is new.
-fn begin_change(rt: &HostRuntime, wanted: Outcome, call: &str) -> Result<(), Stop> {
+fn begin_change(teller: &Teller, wanted: Outcome, call: &'static str) -> Result<(), Stop> {
     match wanted {
-        Outcome::Add(Entered::New) => println!(rt; "call {call} of an entry that is new")?,
-        _ => begin_free(rt, call)?,
+        Outcome::Add(Entered::New) => begin_case(teller, call, " of an entry that is new"),
+        _ => begin_free(teller, call),
     }
-    Ok(())
 }
 
 fn kill<S: Store>(
-    rt: &HostRuntime,
+    teller: &Teller,
     engine: &mut Engine<S>,
     hosts: &FromTo,
     wanted: Outcome,
@@ -279,34 +278,34 @@ fn kill<S: Store>(
     if engine.last().is_none() {
         return Err(Stop::Input);
     }
-    begin_free(rt, "kill")?;
+    begin_free(teller, "kill")?;
     let killed = engine.kill(hosts);
-    end(rt)?;
-    plain(rt, Outcome::Killed(killed) == wanted)?;
+    end(teller)?;
+    plain(teller, Outcome::Killed(killed) == wanted)?;
     Ok(())
 }
 
-fn ask<S: Store>(rt: &HostRuntime, engine: &Engine<S>, wanted: Outcome) -> Result<(), Stop> {
-    begin_free(rt, "amounts")?;
+fn ask<S: Store>(teller: &Teller, engine: &Engine<S>, wanted: Outcome) -> Result<(), Stop> {
+    begin_free(teller, "amounts")?;
     let told = engine.amounts();
-    end(rt)?;
-    plain(rt, Outcome::Held(told) == wanted)?;
+    end(teller)?;
+    plain(teller, Outcome::Held(told) == wanted)?;
     Ok(())
 }
 
-fn advance<S: Store>(rt: &HostRuntime, engine: &mut Engine<S>, time: u64) -> Result<(), Stop> {
+fn advance<S: Store>(teller: &Teller, engine: &mut Engine<S>, time: u64) -> Result<(), Stop> {
     if !is_in_time(engine.last(), time) {
         return Err(Stop::Input);
     }
-    begin_free(rt, "advance")?;
+    begin_free(teller, "advance")?;
     engine.advance(time);
-    end(rt)?;
-    plain(rt, engine.last() == Some(time))?;
+    end(teller)?;
+    plain(teller, engine.last() == Some(time))?;
     Ok(())
 }
 
 fn take<S: Store>(
-    rt: &HostRuntime,
+    teller: &Teller,
     engine: &mut Engine<S>,
     case: &Case,
     packet: &Packet,
@@ -317,49 +316,53 @@ fn take<S: Store>(
         return Err(Stop::Input);
     }
     let before = (held(engine), engine.last());
-    begin_for(rt, case, wanted, "packet")?;
+    begin_for(teller, case, wanted, "packet")?;
     let answer = engine.packet(packet);
-    end(rt)?;
+    end(teller)?;
     match answer {
-        Ok(outcome) => plain(rt, outcome == wanted && engine.taken() == taken + 1),
-        Err(_) => refused(rt, (held(engine), engine.last()) == before),
+        Ok(outcome) => plain(teller, outcome == wanted && engine.taken() == taken + 1),
+        Err(_) => refused(teller, (held(engine), engine.last()) == before),
     }
 }
 
 /// A call begins. Memory is taken where a state is made, for a SYN cookie, and for a TCP packet of a rule with overload.
-fn begin_for(rt: &HostRuntime, case: &Case, wanted: Outcome, call: &str) -> Result<(), Stop> {
+fn begin_for(
+    teller: &Teller,
+    case: &Case,
+    wanted: Outcome,
+    call: &'static str,
+) -> Result<(), Stop> {
     match wanted {
-        Outcome::New(_) | Outcome::Answered(_) => println!(rt; "call {call} that makes a state")?,
-        Outcome::Cookie => println!(rt; "call {call} that gives a cookie")?,
-        Outcome::Add(Entered::New) => println!(rt; "call {call} of an entry that is new")?,
-        Outcome::State(_) | Outcome::Taken(_) | Outcome::Asking(_) | Outcome::Kill { .. }
-            if has_overload(case) => {
-            println!(rt; "call {call} of a rule with overload")?;
+        Outcome::New(_) | Outcome::Answered(_) => {
+            begin_case(teller, call, " that makes a state")
         }
-        _ => begin_free(rt, call)?,
+        Outcome::Cookie => begin_case(teller, call, " that gives a cookie"),
+        Outcome::Add(Entered::New) => begin_case(teller, call, " of an entry that is new"),
+        Outcome::State(_) | Outcome::Taken(_) | Outcome::Asking(_) | Outcome::Kill { .. }
+            if has_overload(case) => begin_case(teller, call, " of a rule with overload"),
+        _ => begin_free(teller, call),
     }
-    Ok(())
 }
 
 /// The events by one call each, with the time up to them; once more where memory was refused.
-fn step_each<S: Store>(rt: &HostRuntime, engine: &mut Engine<S>, case: &Case) -> Result<(), Stop> {
-    let script = Script::of(rt.alloc(), case.rows)?;
+fn step_each<S: Store>(teller: &Teller, engine: &mut Engine<S>, case: &Case) -> Result<(), Stop> {
+    let script = Script::of(teller.alloc(), case.rows)?;
     for (event, outcome) in script.events.iter().zip(&script.outcomes) {
         let row = (event, *outcome);
-        if !step(rt, engine, case, row)? {
-            step(rt, engine, case, row)?;
+        if !step(teller, engine, case, row)? {
+            step(teller, engine, case, row)?;
         }
     }
-    begin_free(rt, "what is held")?;
+    begin_free(teller, "what is held")?;
     let is_right = is_end(engine, case);
-    end(rt)?;
-    plain(rt, is_right)?;
+    end(teller)?;
+    plain(teller, is_right)?;
     Ok(())
 }
 
 /// An event by one call, which has this outcome.
 fn step<S: Store>(
-    rt: &HostRuntime,
+    teller: &Teller,
     engine: &mut Engine<S>,
     case: &Case,
     row: (&Event, Outcome),
@@ -373,17 +376,17 @@ fn step<S: Store>(
     if !may_come(engine.config(), &event.what) {
         return Err(Stop::Input);
     }
-    begin_for(rt, case, wanted, "step")?;
+    begin_for(teller, case, wanted, "step")?;
     let answer = engine.step(event);
-    end(rt)?;
+    end(teller)?;
     let is_there = engine.last() == Some(event.time);
     match answer {
         Ok(outcome) => plain(
-            rt,
+            teller,
             is_there && outcome == wanted && engine.taken() == taken + packets_of(event),
         ),
         Err(_) => refused(
-            rt,
+            teller,
             is_there && engine.taken() == taken && engine.entries() == entries,
         ),
     }
@@ -400,17 +403,17 @@ fn packets_of(event: &Event) -> u64
 }
 
 /// All events by one call; where it is refused, those that are left by another.
-fn run_all<S: Store>(rt: &HostRuntime, engine: &mut Engine<S>, case: &Case) -> Result<(), Stop> {
-    let script = Script::of(rt.alloc(), case.rows)?;
-    let mut outcomes = Vec::new(rt.alloc());
-    if !run_once(rt, engine, &script, &mut outcomes, case)? {
-        run_once(rt, engine, &script, &mut outcomes, case)?;
+fn run_all<S: Store>(teller: &Teller, engine: &mut Engine<S>, case: &Case) -> Result<(), Stop> {
+    let script = Script::of(teller.alloc(), case.rows)?;
+    let mut outcomes = Vec::new(teller.alloc());
+    if !run_once(teller, engine, &script, &mut outcomes, case)? {
+        run_once(teller, engine, &script, &mut outcomes, case)?;
     }
     Ok(())
 }
 
 fn run_once<S: Store>(
-    rt: &HostRuntime,
+    teller: &Teller,
     engine: &mut Engine<S>,
     script: &Script,
     outcomes: &mut Vec<Outcome>,
@@ -424,15 +427,15 @@ fn run_once<S: Store>(
     if !are_allowed(engine.config(), events) {
         return Err(Stop::Input);
     }
-    begin(rt, "run")?;
+    begin(teller, "run")?;
     let answer = engine.run(events, outcomes);
-    end(rt)?;
+    end(teller)?;
     let is_front = is_front(outcomes, &script.outcomes)
         && engine.taken() == packets_in(script, outcomes.len());
     let is_whole = outcomes.len() == script.outcomes.len();
     match answer {
-        Ok(()) => plain(rt, is_front && is_whole && is_end(engine, case)),
-        Err(_) => refused(rt, is_front && !is_whole),
+        Ok(()) => plain(teller, is_front && is_whole && is_end(engine, case)),
+        Err(_) => refused(teller, is_front && !is_whole),
     }
 }
 

@@ -1,6 +1,6 @@
-//! Makes each call that may run out of memory, and shows at which call memory was refused, and what holds after it.
-//! Standard output has a line before each call and one after it, and then whether the answer is the plain one, or
-//! refused with all still there that must be. Words choose what is called; without words it is everything.
+//! Makes each call that may run out of memory, and looks whether the answer is the plain one, or refused with all still there that must
+//! be. Without words, standard output has a line for each call that deviates, and last how many there were. A word chooses a part of
+//! the calls: then it has a line before each call, one after it, and what came of it, so that one sees in which memory was refused.
 
 #![tactic(auto)]
 
@@ -13,7 +13,7 @@ mod tables;
 mod telling;
 mod texts;
 
-use crate::telling::{Stop, code_of, is_chosen};
+use crate::telling::{Stop, Teller, code_of, is_chosen};
 use pfs_store::{IndexStore, PlainStore};
 use std::env;
 use std::process::ExitCode;
@@ -42,25 +42,25 @@ fn tell_all(rt: &HostRuntime) -> Result<(), Stop> {
         Some(word) => word.as_str(),
         None => "",
     };
+    let teller = Teller::new(rt, !chosen.is_empty());
     for part in PARTS {
         if is_chosen(chosen, part) {
-            tell(rt, part)?;
+            tell(&teller, part)?;
         }
     }
-    println!(rt; "whole")?;
-    Ok(())
+    teller.sum()
 }
 
-fn tell(rt: &HostRuntime, part: &str) -> Result<(), Stop> {
+fn tell(teller: &Teller, part: &str) -> Result<(), Stop> {
     match part {
-        "addresses" => texts::tell_addresses(rt),
-        "texts" => texts::tell_texts(rt),
-        "tables" => tables::tell_tables(rt),
-        "plain-store" => stores::tell::<PlainStore>(rt),
-        "index-store" => stores::tell::<IndexStore>(rt),
-        "plain-engine" => engines::tell::<PlainStore>(rt),
-        "index-engine" => engines::tell::<IndexStore>(rt),
-        "replays" => programs::tell_replays(rt),
-        _ => programs::tell_jobs(rt),
+        "addresses" => texts::tell_addresses(teller),
+        "texts" => texts::tell_texts(teller),
+        "tables" => tables::tell_tables(teller),
+        "plain-store" => stores::tell::<PlainStore>(teller),
+        "index-store" => stores::tell::<IndexStore>(teller),
+        "plain-engine" => engines::tell::<PlainStore>(teller),
+        "index-engine" => engines::tell::<IndexStore>(teller),
+        "replays" => programs::tell_replays(teller),
+        _ => programs::tell_jobs(teller),
     }
 }

@@ -4,7 +4,7 @@ ghost use Rattle.std.specs.Prelude.{IfOk};
 ghost use Rattle.pfs_streams.specs.Sinks.{OwesNoFlush};
 
 use crate::rules_texts::{FULL, NODES, OVERLOAD};
-use crate::telling::{Stop, begin, begin_free, end, plain, refused, wrong};
+use crate::telling::{Stop, Teller, begin, begin_free, end, plain, refused, wrong};
 use clap::error::ErrorKind;
 use pfs_cli::{
     Feed, Job, ReplayFault, Sink, Tally, check, job, perform, print, replay, replay_joined, status,
@@ -70,107 +70,113 @@ const WORDS: &[Words] = &[
 ];
 
 /// Replays of rules and traces, apart and in one text.
-pub fn tell_replays(rt: &HostRuntime) -> Result<(), Stop> {
+pub fn tell_replays(teller: &Teller) -> Result<(), Stop> {
     for row in TRACES {
-        if !replay_one(rt, row)? {
-            replay_one(rt, row)?;
+        if !replay_one(teller, row)? {
+            replay_one(teller, row)?;
         }
-        if !perform_replay(rt, row)? {
-            perform_replay(rt, row)?;
+        if !perform_replay(teller, row)? {
+            perform_replay(teller, row)?;
         }
-        tell_joined(rt, row)?;
+        tell_joined(teller, row)?;
     }
     Ok(())
 }
 
-fn tell_joined(rt: &HostRuntime, row: &Row) -> Result<(), Stop> {
-    let mut text = Vec::from_slice(rt.alloc(), row.0)?;
+fn tell_joined(teller: &Teller, row: &Row) -> Result<(), Stop> {
+    let mut text = Vec::from_slice(teller.alloc(), row.0)?;
     text.extend_from_slice(b"%%\n")?;
     text.extend_from_slice(row.1)?;
-    if !joined_one(rt, &text, row.2)? {
-        joined_one(rt, &text, row.2)?;
+    if !joined_one(teller, &text, row.2)? {
+        joined_one(teller, &text, row.2)?;
     }
-    if !perform_joined(rt, &text, row.2)? {
-        perform_joined(rt, &text, row.2)?;
+    if !perform_joined(teller, &text, row.2)? {
+        perform_joined(teller, &text, row.2)?;
     }
     Ok(())
 }
 
 /// Room for all that is written: so no write needs more.
-fn sink(rt: &HostRuntime) -> Result<Sink<Vec<u8>>, Stop>
+fn sink(teller: &Teller) -> Result<Sink<Vec<u8>>, Stop>
     ensures { IfOk result OwesNoFlush }
 {
-    Ok(Sink::new(Vec::with_capacity(rt.alloc(), 4096)?))
+    Ok(Sink::new(Vec::with_capacity(teller.alloc(), 4096)?))
 }
 
-fn replay_one(rt: &HostRuntime, row: &Row) -> Result<bool, Stop> {
-    let mut out = sink(rt)?;
+fn replay_one(teller: &Teller, row: &Row) -> Result<bool, Stop> {
+    let mut out = sink(teller)?;
     let mut rules = Feed::new(row.0, 99);
     let mut trace = Feed::new(row.1, 99);
-    begin(rt, "replay")?;
+    begin(teller, "replay")?;
     let answer = replay(
-        rt.alloc(),
+        teller.alloc(),
         &mut rules,
         &mut trace,
         &mut Tally::none(),
         &mut out,
     );
-    end(rt)?;
-    tell_report(rt, answer, &out.into_inner(), row.2)
+    end(teller)?;
+    tell_report(teller, answer, &out.into_inner(), row.2)
 }
 
-fn perform_replay(rt: &HostRuntime, row: &Row) -> Result<bool, Stop> {
-    let (answer, written) = performed(rt, "perform replay", &Job::Replay("r", "t"), row.0, row.1)?;
-    tell_report(rt, answer, &written, row.2)
+fn perform_replay(teller: &Teller, row: &Row) -> Result<bool, Stop> {
+    let (answer, written) = performed(
+        teller,
+        "perform replay",
+        &Job::Replay("r", "t"),
+        row.0,
+        row.1,
+    )?;
+    tell_report(teller, answer, &written, row.2)
 }
 
 /// The answer to a job over two texts, and what it wrote.
 fn performed(
-    rt: &HostRuntime,
-    name: &str,
+    teller: &Teller,
+    name: &'static str,
     task: &Job,
     rules: &[u8],
     trace: &[u8],
 ) -> Result<(Result<(), ReplayFault>, Vec<u8>), Stop> {
-    let mut out = sink(rt)?;
+    let mut out = sink(teller)?;
     let mut rules = Feed::new(rules, 99);
     let mut trace = Feed::new(trace, 99);
-    begin(rt, name)?;
+    begin(teller, name)?;
     let answer = perform(
-        rt.alloc(),
+        teller.alloc(),
         task,
         &mut rules,
         &mut trace,
         &mut Tally::none(),
         &mut out,
     );
-    end(rt)?;
+    end(teller)?;
     Ok((answer, out.into_inner()))
 }
 
-fn joined_one(rt: &HostRuntime, text: &[u8], report: &[u8]) -> Result<bool, Stop> {
-    let mut out = sink(rt)?;
+fn joined_one(teller: &Teller, text: &[u8], report: &[u8]) -> Result<bool, Stop> {
+    let mut out = sink(teller)?;
     let mut input = Feed::new(text, 99);
-    begin(rt, "replay_joined")?;
-    let answer = replay_joined(rt.alloc(), &mut input, &mut Tally::none(), &mut out);
-    end(rt)?;
-    tell_report(rt, answer, &out.into_inner(), report)
+    begin(teller, "replay_joined")?;
+    let answer = replay_joined(teller.alloc(), &mut input, &mut Tally::none(), &mut out);
+    end(teller)?;
+    tell_report(teller, answer, &out.into_inner(), report)
 }
 
-fn perform_joined(rt: &HostRuntime, text: &[u8], report: &[u8]) -> Result<bool, Stop> {
-    let (answer, written) = performed(rt, "perform joined", &Job::Joined, text, b"")?;
-    tell_report(rt, answer, &written, report)
+fn perform_joined(teller: &Teller, text: &[u8], report: &[u8]) -> Result<bool, Stop> {
+    let (answer, written) = performed(teller, "perform joined", &Job::Joined, text, b"")?;
+    tell_report(teller, answer, &written, report)
 }
 
 /// The report; or, out of memory, whole lines of it, without the last.
 fn tell_report(
-    rt: &HostRuntime,
+    teller: &Teller,
     answer: Result<(), ReplayFault>,
     written: &[u8],
     report: &[u8],
 ) -> Result<bool, Stop> {
     judge(
-        rt,
+        teller,
         answer,
         written == report,
         are_first_lines(written, report),
@@ -179,15 +185,15 @@ fn tell_report(
 
 /// Whether all was written; or, out of memory, whether what was written may be.
 fn judge(
-    rt: &HostRuntime,
+    teller: &Teller,
     answer: Result<(), ReplayFault>,
     is_whole: bool,
     is_front: bool,
 ) -> Result<bool, Stop> {
     match answer {
-        Ok(()) => plain(rt, is_whole),
-        Err(ReplayFault::Memory) => refused(rt, is_front),
-        Err(_) => wrong(rt),
+        Ok(()) => plain(teller, is_whole),
+        Err(ReplayFault::Memory) => refused(teller, is_front),
+        Err(_) => wrong(teller),
     }
 }
 
@@ -198,75 +204,75 @@ fn are_first_lines(written: &[u8], report: &[u8]) -> bool {
 }
 
 /// What is reported of rules, and the words of the command line.
-pub fn tell_jobs(rt: &HostRuntime) -> Result<(), Stop> {
+pub fn tell_jobs(teller: &Teller) -> Result<(), Stop> {
     for (name, text) in &[("check", COUNTS), ("print", SHOWN)] {
-        if !tell_one(rt, name, text)? {
-            tell_one(rt, name, text)?;
+        if !tell_one(teller, name, text)? {
+            tell_one(teller, name, text)?;
         }
     }
     for (task, text) in &[(Job::Check("r"), COUNTS), (Job::Show("r"), SHOWN)] {
-        if !perform_one(rt, task, text)? {
-            perform_one(rt, task, text)?;
+        if !perform_one(teller, task, text)? {
+            perform_one(teller, task, text)?;
         }
     }
     for row in WORDS {
-        if !job_one(rt, row)? {
-            job_one(rt, row)?;
+        if !job_one(teller, row)? {
+            job_one(teller, row)?;
         }
     }
-    status_one(rt)
+    status_one(teller)
 }
 
 /// The call of this name, `check` or `print`.
-fn tell_one(rt: &HostRuntime, name: &str, text: &[u8]) -> Result<bool, Stop> {
-    let mut out = sink(rt)?;
+fn tell_one(teller: &Teller, name: &'static str, text: &[u8]) -> Result<bool, Stop> {
+    let mut out = sink(teller)?;
     let mut rules = Feed::new(EVERYTHING, 99);
-    begin(rt, name)?;
+    begin(teller, name)?;
     let answer = match name {
-        "print" => print(rt.alloc(), &mut rules, &mut out),
-        _ => check(rt.alloc(), &mut rules, &mut out),
+        "print" => print(teller.alloc(), &mut rules, &mut out),
+        _ => check(teller.alloc(), &mut rules, &mut out),
     };
-    end(rt)?;
+    end(teller)?;
     let written = out.into_inner();
     judge(
-        rt,
+        teller,
         answer,
         written.as_slice() == text,
         text.starts_with(&written),
     )
 }
 
-fn perform_one(rt: &HostRuntime, task: &Job, text: &[u8]) -> Result<bool, Stop> {
-    let (answer, written) = performed(rt, "perform check or show", task, EVERYTHING, b"")?;
+fn perform_one(teller: &Teller, task: &Job, text: &[u8]) -> Result<bool, Stop> {
+    let (answer, written) = performed(teller, "perform check or show", task, EVERYTHING, b"")?;
     judge(
-        rt,
+        teller,
         answer,
         written.as_slice() == text,
         text.starts_with(&written),
     )
 }
 
-fn job_one(rt: &HostRuntime, row: &Words) -> Result<bool, Stop> {
+fn job_one(teller: &Teller, row: &Words) -> Result<bool, Stop> {
     let (words, wanted) = *row;
-    begin(rt, "job")?;
-    let answer = job(rt.alloc(), words);
-    end(rt)?;
+    begin(teller, "job")?;
+    let answer = job(teller.alloc(), words);
+    end(teller)?;
     match answer {
-        Ok(task) => plain(rt, wanted == Some(task)),
+        Ok(task) => plain(teller, wanted == Some(task)),
         Err(error) => match error.kind() {
-            ErrorKind::OutOfMemory => refused(rt, true),
+            ErrorKind::OutOfMemory => refused(teller, true),
             ErrorKind::InvalidSubcommand | ErrorKind::MissingRequiredArgument => {
-                plain(rt, wanted.is_none())
+                plain(teller, wanted.is_none())
             }
-            _ => wrong(rt),
+            _ => wrong(teller),
         },
     }
 }
 
-fn status_one(rt: &HostRuntime) -> Result<(), Stop> {
-    begin_free(rt, "status")?;
+fn status_one(teller: &Teller) -> Result<(), Stop> {
+    begin_free(teller, "status")?;
     let code = status(&ReplayFault::Memory);
-    end(rt)?;
-    plain(rt, code == 4)?;
+    end(teller)?;
+    plain(teller, code == 4)?;
     Ok(())
 }

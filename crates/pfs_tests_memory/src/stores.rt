@@ -6,7 +6,7 @@ ghost use Rattle.pfs_store_contract.specs.Worlds.{IsUpToNow, state_inside, state
 
 use crate::kinds::Kind;
 use crate::rules_texts::NODES;
-use crate::telling::{Stop, begin, begin_free, end, plain, refused, wrong};
+use crate::telling::{Stop, Teller, begin, begin_free, end, plain, refused, wrong};
 use pfs_addr_values::{Addr, Dir, FlowKey, Meter, Packet, RUN_LIMIT};
 use pfs_conf::{Config, RuleNo, load};
 use pfs_store::{Limit, StateNo, Store};
@@ -102,54 +102,54 @@ const STRAY_ROWS: &[Row] = &[
 ];
 
 /// A kind of store.
-pub fn tell<S: Kind + Drop>(rt: &HostRuntime) -> Result<(), Stop> {
+pub fn tell<S: Kind + Drop>(teller: &Teller) -> Result<(), Stop> {
     for text in &[EVERYTHING, NODES, LIMITED] {
-        let config = load(rt.alloc(), text)?;
-        if !make::<S>(rt, &config)? {
-            make::<S>(rt, &config)?;
+        let config = load(teller.alloc(), text)?;
+        if !make::<S>(teller, &config)? {
+            make::<S>(teller, &config)?;
         }
     }
-    fill_first::<S>(rt)?;
-    fill_second::<S>(rt)?;
-    leave_nodes::<S>(rt)?;
-    touch_first::<S>(rt)
+    fill_first::<S>(teller)?;
+    fill_second::<S>(teller)?;
+    leave_nodes::<S>(teller)?;
+    touch_first::<S>(teller)
 }
 
 /// Whether a new store was made, which holds nothing.
-fn make<S: Kind + Drop>(rt: &HostRuntime, config: &Config) -> Result<bool, Stop> {
-    begin(rt, S::call())?;
-    let made = S::empty(rt.alloc(), config);
-    end(rt)?;
+fn make<S: Kind + Drop>(teller: &Teller, config: &Config) -> Result<bool, Stop> {
+    begin(teller, S::call())?;
+    let made = S::empty(teller.alloc(), config);
+    end(teller)?;
     match made {
-        Ok(store) => plain(rt, counts(&store) == (0, 0, 0)),
-        Err(_) => refused(rt, true),
+        Ok(store) => plain(teller, counts(&store) == (0, 0, 0)),
+        Err(_) => refused(teller, true),
     }
 }
 
-fn fill_first<S: Kind + Drop>(rt: &HostRuntime) -> Result<(), Stop> {
-    let config = load(rt.alloc(), LIMITED)?;
-    let mut store = S::empty(rt.alloc(), &config)?;
-    fill(rt, &mut store, &config)
+fn fill_first<S: Kind + Drop>(teller: &Teller) -> Result<(), Stop> {
+    let config = load(teller.alloc(), LIMITED)?;
+    let mut store = S::empty(teller.alloc(), &config)?;
+    fill(teller, &mut store, &config)
 }
 
-fn fill_second<S: Kind + Drop>(rt: &HostRuntime) -> Result<(), Stop> {
-    let config = load(rt.alloc(), UNTRACKED)?;
-    let mut store = S::empty(rt.alloc(), &config)?;
-    fill_again(rt, &mut store, &config)
+fn fill_second<S: Kind + Drop>(teller: &Teller) -> Result<(), Stop> {
+    let config = load(teller.alloc(), UNTRACKED)?;
+    let mut store = S::empty(teller.alloc(), &config)?;
+    fill_again(teller, &mut store, &config)
 }
 
 /// Refusals under a profile by which they leave source nodes.
-fn leave_nodes<S: Kind + Drop>(rt: &HostRuntime) -> Result<(), Stop> {
-    let config = load(rt.alloc(), PROFILED)?;
-    let mut store = S::empty(rt.alloc(), &config)?;
-    admit_all(rt, &mut store, &config, STRAY_ROWS)
+fn leave_nodes<S: Kind + Drop>(teller: &Teller) -> Result<(), Stop> {
+    let config = load(teller.alloc(), PROFILED)?;
+    let mut store = S::empty(teller.alloc(), &config)?;
+    admit_all(teller, &mut store, &config, STRAY_ROWS)
 }
 
 /// The first state of a store, and its second packet, which takes no memory.
-fn touch_first<S: Kind + Drop>(rt: &HostRuntime) -> Result<(), Stop> {
-    let config = load(rt.alloc(), LIMITED)?;
-    let mut store = S::empty(rt.alloc(), &config)?;
-    admit_and_touch(rt, &mut store, &config)
+fn touch_first<S: Kind + Drop>(teller: &Teller) -> Result<(), Stop> {
+    let config = load(teller.alloc(), LIMITED)?;
+    let mut store = S::empty(teller.alloc(), &config)?;
+    admit_and_touch(teller, &mut store, &config)
 }
 
 /// How many states and source nodes are held, and how many numbers were used.
@@ -157,28 +157,28 @@ fn counts<S: Store>(store: &S) -> (u64, u64, u64) {
     (store.state_count(), store.node_count(), store.made())
 }
 
-fn fill<S: Store>(rt: &HostRuntime, store: &mut S, config: &Config) -> Result<(), Stop>
+fn fill<S: Store>(teller: &Teller, store: &mut S, config: &Config) -> Result<(), Stop>
     requires made_for { S.config store.old ≡ config.now }
 {
-    admit_all(rt, store, config, ROWS)?;
-    take_away(rt, store)
+    admit_all(teller, store, config, ROWS)?;
+    take_away(teller, store)
 }
 
 /// Where no source is tracked, and a state has left: the next one takes its room, and no room is made for a source node.
-fn fill_again<S: Store>(rt: &HostRuntime, store: &mut S, config: &Config) -> Result<(), Stop>
+fn fill_again<S: Store>(teller: &Teller, store: &mut S, config: &Config) -> Result<(), Stop>
     requires made_for { S.config store.old ≡ config.now }
 {
-    admit_all(rt, store, config, UNTRACKED_ROWS)?;
+    admit_all(teller, store, config, UNTRACKED_ROWS)?;
     let second = packet(&Sent::Udp(53), A1, 2)?;
     if let Some(found) = store.find(&FlowKey::of(&second)) {
         let mut meter = Meter::new();
         store.kill(found, 6, &mut meter);
     }
-    admit(rt, store, config, &(Ask::InRoom, A2, 9, 0, Ok(5)))?;
+    admit(teller, store, config, &(Ask::InRoom, A2, 9, 0, Ok(5)))?;
     Ok(())
 }
 
-fn admit_and_touch<S: Store>(rt: &HostRuntime, store: &mut S, config: &Config) -> Result<(), Stop>
+fn admit_and_touch<S: Store>(teller: &Teller, store: &mut S, config: &Config) -> Result<(), Stop>
     requires made_for { S.config store.old ≡ config.now }
     requires order { IsUpToNow 5 (S.world store.old) }
 {
@@ -186,7 +186,7 @@ fn admit_and_touch<S: Store>(rt: &HostRuntime, store: &mut S, config: &Config) -
     if admit_first(store, config, &packet, 5)?.is_err() {
         return Err(Stop::Input);
     }
-    touch(rt, store, &packet, 5)
+    touch(teller, store, &packet, 5)
 }
 
 fn admit_first<S: Store>(
@@ -214,7 +214,7 @@ fn is_held<S: Store>(store: &S, packet: &Packet) -> bool
         || store.find_inside(&inner_key(packet, packet)).is_some()
 }
 
-fn touch<S: Store>(rt: &HostRuntime, store: &mut S, packet: &Packet, now: u64) -> Result<(), Stop>
+fn touch<S: Store>(teller: &Teller, store: &mut S, packet: &Packet, now: u64) -> Result<(), Stop>
     requires order { IsUpToNow now (S.world store.old) }
 {
     let key = FlowKey::of(packet);
@@ -226,23 +226,23 @@ fn touch<S: Store>(rt: &HostRuntime, store: &mut S, packet: &Packet, now: u64) -
     }
     let before = counts(store);
     let mut meter = Meter::new();
-    begin_free(rt, "has_closed")?;
+    begin_free(teller, "has_closed")?;
     let closed = store.has_closed(found, &mut meter);
-    end(rt)?;
-    plain(rt, !closed && counts(store) == before)?;
+    end(teller)?;
+    plain(teller, !closed && counts(store) == before)?;
     let mut meter = Meter::new();
-    begin_free(rt, "touch")?;
+    begin_free(teller, "touch")?;
     let touched = store.touch(found, packet, now, &mut meter);
-    end(rt)?;
+    end(teller)?;
     plain(
-        rt,
+        teller,
         touched.source == A1 && !touched.completed && counts(store) == before,
     )?;
     Ok(())
 }
 
 fn admit_all<S: Store>(
-    rt: &HostRuntime,
+    teller: &Teller,
     store: &mut S,
     config: &Config,
     rows: &[Row],
@@ -251,39 +251,34 @@ fn admit_all<S: Store>(
     ensures made_for { S.config store.new ≡ config.now }
 {
     for row in rows {
-        if !admit(rt, store, config, row)? {
-            admit(rt, store, config, row)?;
+        if !admit(teller, store, config, row)? {
+            admit(teller, store, config, row)?;
         }
     }
     Ok(())
 }
 
 /// A state of a rule, or the limit that is met, at which no memory is taken but for a node that is left.
-fn admit<S: Store>(
-    rt: &HostRuntime,
-    store: &mut S,
-    config: &Config,
-    row: &Row,
-) -> Result<bool, Stop>
+fn admit<S: Store>(teller: &Teller, store: &mut S, config: &Config, row: &Row) -> Result<bool, Stop>
     requires made_for { S.config store.old ≡ config.now }
     ensures made_for { S.config store.new ≡ config.now }
 {
     let (ask, source, port, rule, wanted) = *row;
     let packet = packet(&Sent::Udp(53), source, port)?;
     let before = counts(store);
-    begin_ask(rt, ask)?;
+    begin_ask(teller, ask)?;
     let answer = admit_one(store, config, &packet, RuleNo(rule))?;
-    end(rt)?;
+    end(teller)?;
     let found = store
         .find(&FlowKey::of(&packet))
         .map(|found| found.number.0);
     match answer {
-        Some(Ok(number)) => plain(rt, Ok(number) == wanted && found == Some(number)),
+        Some(Ok(number)) => plain(teller, Ok(number) == wanted && found == Some(number)),
         Some(Err(limit)) => plain(
-            rt,
+            teller,
             Err(limit) == wanted && found == None && counts(store) == after_refusal(ask, before),
         ),
-        None => refused(rt, found == None && counts(store) == before),
+        None => refused(teller, found == None && counts(store) == before),
     }
 }
 
@@ -296,15 +291,15 @@ fn after_refusal(ask: Ask, before: (u64, u64, u64)) -> (u64, u64, u64) {
     }
 }
 
-fn begin_ask(rt: &HostRuntime, ask: Ask) -> Result<(), Stop> {
+fn begin_ask(teller: &Teller, ask: Ask) -> Result<(), Stop> {
     match ask {
-        Ask::FirstTracked => begin(rt, "first admit where sources are tracked"),
-        Ask::FirstUntracked => begin(rt, "first admit where no sources are tracked"),
-        Ask::Tracked => begin(rt, "admit where sources are tracked"),
-        Ask::Untracked => begin(rt, "admit where no sources are tracked"),
-        Ask::AtLimit => begin_free(rt, "admit at a limit"),
-        Ask::Stray => begin(rt, "admit where a refusal leaves a node"),
-        Ask::InRoom => begin_free(rt, "admit in the room of a state that left"),
+        Ask::FirstTracked => begin(teller, "first admit where sources are tracked"),
+        Ask::FirstUntracked => begin(teller, "first admit where no sources are tracked"),
+        Ask::Tracked => begin(teller, "admit where sources are tracked"),
+        Ask::Untracked => begin(teller, "admit where no sources are tracked"),
+        Ask::AtLimit => begin_free(teller, "admit at a limit"),
+        Ask::Stray => begin(teller, "admit where a refusal leaves a node"),
+        Ask::InRoom => begin_free(teller, "admit in the room of a state that left"),
     }
 }
 
@@ -329,46 +324,46 @@ fn admit_one<S: Store>(
 }
 
 /// A state is killed, those of a source are flushed, and slices take the others away.
-fn take_away<S: Store>(rt: &HostRuntime, store: &mut S) -> Result<(), Stop> {
+fn take_away<S: Store>(teller: &Teller, store: &mut S) -> Result<(), Stop> {
     if !store.holds(StateNo(1)) {
-        wrong(rt)?;
+        wrong(teller)?;
         return Ok(());
     }
-    kill(rt, store)?;
-    flush(rt, store)?;
-    purge(rt, store)
+    kill(teller, store)?;
+    flush(teller, store)?;
+    purge(teller, store)
 }
 
-fn kill<S: Store>(rt: &HostRuntime, store: &mut S) -> Result<(), Stop> {
+fn kill<S: Store>(teller: &Teller, store: &mut S) -> Result<(), Stop> {
     let first = packet(&Sent::Udp(53), A1, 1)?;
     let Some(found) = store.find(&FlowKey::of(&first)) else {
         return Err(Stop::Input);
     };
     let mut meter = Meter::new();
-    begin_free(rt, "kill")?;
+    begin_free(teller, "kill")?;
     store.kill(found, 6, &mut meter);
-    end(rt)?;
-    plain(rt, counts(store) == (13, 2, 14))?;
+    end(teller)?;
+    plain(teller, counts(store) == (13, 2, 14))?;
     Ok(())
 }
 
-fn flush<S: Store>(rt: &HostRuntime, store: &mut S) -> Result<(), Stop> {
+fn flush<S: Store>(teller: &Teller, store: &mut S) -> Result<(), Stop> {
     let mut meter = Meter::new();
-    begin_free(rt, "flush")?;
+    begin_free(teller, "flush")?;
     let killed = store.flush(Dir::In, A1, Some(RuleNo(0)), 6, &mut meter);
-    end(rt)?;
-    plain(rt, killed == 5 && counts(store) == (8, 2, 14))?;
+    end(teller)?;
+    plain(teller, killed == 5 && counts(store) == (8, 2, 14))?;
     Ok(())
 }
 
-fn purge<S: Store>(rt: &HostRuntime, store: &mut S) -> Result<(), Stop> {
-    begin_free(rt, "slices")?;
+fn purge<S: Store>(teller: &Teller, store: &mut S) -> Result<(), Stop> {
+    begin_free(teller, "slices")?;
     for second in 0..20u64 {
         let mut meter = Meter::new();
         store.purge_states(second + 1_000_000, &mut meter);
         store.purge_nodes(second + 1_000_000, &mut meter);
     }
-    end(rt)?;
-    plain(rt, counts(store) == (0, 0, 14))?;
+    end(teller)?;
+    plain(teller, counts(store) == (0, 0, 14))?;
     Ok(())
 }

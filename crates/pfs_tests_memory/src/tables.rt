@@ -3,7 +3,7 @@
 ghost use Rattle.std.specs.Prelude.{◌≡◌, ◌<◌, length};
 
 use crate::rules_texts::{FULL, NODES, OVERLOAD};
-use crate::telling::{Stop, answered, begin, begin_free, end, plain, refused};
+use crate::telling::{Stop, Teller, answered, begin, begin_free, end, plain, refused};
 use pfs_addr_values::{Addr, Meter, NoMemory, Packet};
 use pfs_conf::{Config, RuleNo, TableNo, load};
 use pfs_eval::{Added, Book, Entered, NoSides, Tables};
@@ -25,37 +25,37 @@ const HOSTS: &[u8] = b"set limit table-entries 41\ntable <bad> { 203.0.113.9 }\n
 const FREE: u8 = 40;
 
 /// Tables and books of rules, and hosts that are added, with room made before and without.
-pub fn tell_tables(rt: &HostRuntime) -> Result<(), Stop> {
+pub fn tell_tables(teller: &Teller) -> Result<(), Stop> {
     let udp = packet(&Sent::Udp(53), A1, 1)?;
     for row in RULES {
-        let config = load(rt.alloc(), row.0)?;
-        tell_book(rt, &config, row, &udp)?;
+        let config = load(teller.alloc(), row.0)?;
+        tell_book(teller, &config, row, &udp)?;
     }
-    let config = load(rt.alloc(), HOSTS)?;
+    let config = load(teller.alloc(), HOSTS)?;
     if config.table_count() != 1 {
         return Err(Stop::Input);
     }
-    add_with_room(rt, &config)?;
-    add_without_room(rt, &config)?;
-    enter_and_delete(rt, &config)
+    add_with_room(teller, &config)?;
+    add_without_room(teller, &config)?;
+    enter_and_delete(teller, &config)
 }
 
-fn tell_book(rt: &HostRuntime, config: &Config, row: &Row, udp: &Packet) -> Result<(), Stop> {
-    if !new_tables(rt, config, row.1)? {
-        new_tables(rt, config, row.1)?;
+fn tell_book(teller: &Teller, config: &Config, row: &Row, udp: &Packet) -> Result<(), Stop> {
+    if !new_tables(teller, config, row.1)? {
+        new_tables(teller, config, row.1)?;
     }
-    let tables = Tables::new(rt.alloc(), config)?;
-    if !new_book(rt, config, &tables, udp, row.2)? {
-        new_book(rt, config, &tables, udp, row.2)?;
+    let tables = Tables::new(teller.alloc(), config)?;
+    if !new_book(teller, config, &tables, udp, row.2)? {
+        new_book(teller, config, &tables, udp, row.2)?;
     }
     Ok(())
 }
 
-fn new_tables(rt: &HostRuntime, config: &Config, entries: u64) -> Result<bool, Stop> {
-    begin(rt, "Tables::new")?;
-    let is_right = are_tables(Tables::new(rt.alloc(), config), entries);
-    end(rt)?;
-    answered(rt, is_right)
+fn new_tables(teller: &Teller, config: &Config, entries: u64) -> Result<bool, Stop> {
+    begin(teller, "Tables::new")?;
+    let is_right = are_tables(Tables::new(teller.alloc(), config), entries);
+    end(teller)?;
+    answered(teller, is_right)
 }
 
 /// Whether new tables have so many entries, where there are any.
@@ -67,35 +67,35 @@ fn are_tables(made: Result<Tables, NoMemory>, entries: u64) -> Option<bool> {
 }
 
 fn new_book(
-    rt: &HostRuntime,
+    teller: &Teller,
     config: &Config,
     tables: &Tables,
     udp: &Packet,
     rule: Option<u32>,
 ) -> Result<bool, Stop> {
-    begin(rt, "Book::new")?;
-    let answer = Book::new(rt.alloc(), config);
-    end(rt)?;
+    begin(teller, "Book::new")?;
+    let answer = Book::new(teller.alloc(), config);
+    end(teller)?;
     match answer {
-        Ok(book) => decide(rt, &book, tables, udp, rule),
-        Err(_) => refused(rt, true),
+        Ok(book) => decide(teller, &book, tables, udp, rule),
+        Err(_) => refused(teller, true),
     }
 }
 
 fn decide(
-    rt: &HostRuntime,
+    teller: &Teller,
     book: &Book,
     tables: &Tables,
     udp: &Packet,
     rule: Option<u32>,
 ) -> Result<bool, Stop> {
-    plain(rt, true)?;
+    plain(teller, true)?;
     let mut packet = *udp;
     let mut meter = Meter::new();
-    begin_free(rt, "decide")?;
+    begin_free(teller, "decide")?;
     let decided = book.decide(tables, &NoSides, &mut packet, &mut meter).rule;
-    end(rt)?;
-    plain(rt, decided.map(number_of) == rule)
+    end(teller)?;
+    plain(teller, decided.map(number_of) == rule)
 }
 
 fn number_of(rule: RuleNo) -> u32 {
@@ -123,99 +123,102 @@ fn is_held(tables: &Tables, count: u8) -> bool {
 }
 
 /// Room is made for each host, which is then added without memory; the last host is one too many.
-fn add_with_room(rt: &HostRuntime, config: &Config) -> Result<(), Stop>
+fn add_with_room(teller: &Teller, config: &Config) -> Result<(), Stop>
     requires { 0 < length config.now.tables }
 {
-    let mut tables = Tables::new(rt.alloc(), config)?;
+    let mut tables = Tables::new(teller.alloc(), config)?;
     for number in 0..FREE {
-        if !make_room(rt, &mut tables, number)? {
-            make_room(rt, &mut tables, number)?;
+        if !make_room(teller, &mut tables, number)? {
+            make_room(teller, &mut tables, number)?;
         }
-        add_free(rt, &mut tables, number, Added::New)?;
-        add_free(rt, &mut tables, number, Added::Held)?;
+        add_free(teller, &mut tables, number, Added::New)?;
+        add_free(teller, &mut tables, number, Added::Held)?;
     }
-    room_at_limit(rt, &mut tables)?;
-    add_free(rt, &mut tables, FREE, Added::Full)?;
-    expire(rt, &mut tables)
+    room_at_limit(teller, &mut tables)?;
+    add_free(teller, &mut tables, FREE, Added::Full)?;
+    expire(teller, &mut tables)
 }
 
-fn add_without_room(rt: &HostRuntime, config: &Config) -> Result<(), Stop>
+fn add_without_room(teller: &Teller, config: &Config) -> Result<(), Stop>
     requires { 0 < length config.now.tables }
 {
-    let mut tables = Tables::new(rt.alloc(), config)?;
+    let mut tables = Tables::new(teller.alloc(), config)?;
     for number in 0..FREE {
-        if !add(rt, &mut tables, number)? {
-            add(rt, &mut tables, number)?;
+        if !add(teller, &mut tables, number)? {
+            add(teller, &mut tables, number)?;
         }
     }
-    add_free(rt, &mut tables, FREE, Added::Full)
+    add_free(teller, &mut tables, FREE, Added::Full)
 }
 
-fn make_room(rt: &HostRuntime, tables: &mut Tables, number: u8) -> Result<bool, Stop>
+fn make_room(teller: &Teller, tables: &mut Tables, number: u8) -> Result<bool, Stop>
     requires { 0 < length tables.old.entries }
     ensures { length tables.new.entries ≡ length tables.old.entries }
 {
-    begin(rt, "make_room")?;
+    begin(teller, "make_room")?;
     let answer = tables.make_room(TableNo(0));
-    end(rt)?;
+    end(teller)?;
     match answer {
-        Ok(()) => plain(rt, tables.has_room(TableNo(0)) && is_held(tables, number)),
-        Err(_) => refused(rt, is_held(tables, number)),
+        Ok(()) => plain(
+            teller,
+            tables.has_room(TableNo(0)) && is_held(tables, number),
+        ),
+        Err(_) => refused(teller, is_held(tables, number)),
     }
 }
 
-fn room_at_limit(rt: &HostRuntime, tables: &mut Tables) -> Result<(), Stop>
+fn room_at_limit(teller: &Teller, tables: &mut Tables) -> Result<(), Stop>
     requires { 0 < length tables.old.entries }
     ensures { length tables.new.entries ≡ length tables.old.entries }
 {
-    begin_free(rt, "make_room at the limit")?;
+    begin_free(teller, "make_room at the limit")?;
     let answer = tables.make_room(TableNo(0));
-    end(rt)?;
-    plain(rt, answer.is_ok() && is_held(tables, FREE))?;
+    end(teller)?;
+    plain(teller, answer.is_ok() && is_held(tables, FREE))?;
     Ok(())
 }
 
 /// A host that there is room for, that is held, or that is one too many.
-fn add_free(rt: &HostRuntime, tables: &mut Tables, number: u8, wanted: Added) -> Result<(), Stop>
+fn add_free(teller: &Teller, tables: &mut Tables, number: u8, wanted: Added) -> Result<(), Stop>
     requires { 0 < length tables.old.entries }
     ensures { length tables.new.entries ≡ length tables.old.entries }
 {
-    begin_free(rt, "add_host with room, held or full")?;
+    begin_free(teller, "add_host with room, held or full")?;
     let answer = tables.add_host(TableNo(0), host(number), 5);
-    end(rt)?;
+    end(teller)?;
     let count = if wanted == Added::Full {
         number
     } else {
         number.saturating_add(1)
     };
-    plain(rt, answer == Ok(wanted) && is_held(tables, count))?;
+    plain(teller, answer == Ok(wanted) && is_held(tables, count))?;
     Ok(())
 }
 
-fn add(rt: &HostRuntime, tables: &mut Tables, number: u8) -> Result<bool, Stop>
+fn add(teller: &Teller, tables: &mut Tables, number: u8) -> Result<bool, Stop>
     requires { 0 < length tables.old.entries }
     ensures { length tables.new.entries ≡ length tables.old.entries }
 {
-    begin(rt, "add_host")?;
+    begin(teller, "add_host")?;
     let answer = tables.add_host(TableNo(0), host(number), 5);
-    end(rt)?;
+    end(teller)?;
     match answer {
         Ok(added) => plain(
-            rt,
+            teller,
             added == Added::New && is_held(tables, number.saturating_add(1)),
         ),
-        Err(_) => refused(rt, is_held(tables, number)),
+        Err(_) => refused(teller, is_held(tables, number)),
     }
 }
 
 /// All entries leave, those of the text too.
-fn expire(rt: &HostRuntime, tables: &mut Tables) -> Result<(), Stop>
+fn expire(teller: &Teller, tables: &mut Tables) -> Result<(), Stop>
     requires { 0 < length tables.old.entries }
 {
-    begin_free(rt, "expire")?;
+    begin_free(teller, "expire")?;
     let left = tables.expire(TableNo(0), 5, 5, 0);
-    end(rt)?;
-    plain(rt, left == u64::from(FREE) + 1 && tables.entries() == 0)?;
+    end(teller)?;
+    plain(teller, left == u64::from(FREE) + 1 && tables.entries() == 0)?;
     Ok(())
 }
 
@@ -234,41 +237,44 @@ const ENTRIES: &[&str] = &[
 ];
 
 /// An administrator adds entries, and hosts up to the limit, and takes the entries out.
-fn enter_and_delete(rt: &HostRuntime, config: &Config) -> Result<(), Stop>
+fn enter_and_delete(teller: &Teller, config: &Config) -> Result<(), Stop>
     requires { 0 < length config.now.tables }
 {
-    let mut tables = Tables::new(rt.alloc(), config)?;
+    let mut tables = Tables::new(teller.alloc(), config)?;
     for text in ENTRIES {
-        if !enter(rt, &mut tables, text)? {
-            enter(rt, &mut tables, text)?;
+        if !enter(teller, &mut tables, text)? {
+            enter(teller, &mut tables, text)?;
         }
-        enter_free(rt, &mut tables, text, Entered::Held)?;
+        enter_free(teller, &mut tables, text, Entered::Held)?;
     }
-    enter_free(rt, &mut tables, "10.0.0.0/9", Entered::Conflict)?;
+    enter_free(teller, &mut tables, "10.0.0.0/9", Entered::Conflict)?;
     for number in 0..FREE {
         tables.add_host(TableNo(0), Addr::V4([10, 1, 1, number]), 5)?;
     }
-    enter_free(rt, &mut tables, "10.1.0.0/16", Entered::Full)?;
-    delete_each(rt, &mut tables)
+    enter_free(teller, &mut tables, "10.1.0.0/16", Entered::Full)?;
+    delete_each(teller, &mut tables)
 }
 
 /// The entry is new; or, where memory was refused, the tables are as before.
-fn enter(rt: &HostRuntime, tables: &mut Tables, text: &str) -> Result<bool, Stop>
+fn enter(teller: &Teller, tables: &mut Tables, text: &str) -> Result<bool, Stop>
     requires { 0 < length tables.old.entries }
     ensures { length tables.new.entries ≡ length tables.old.entries }
 {
     let entry = entry(text)?;
     let count = tables.entries();
     let before = answers(tables);
-    begin(rt, "add_entry")?;
+    begin(teller, "add_entry")?;
     let answer = tables.add_entry(TableNo(0), &entry, 5);
-    end(rt)?;
+    end(teller)?;
     match answer {
         Ok(became) => {
             let is_one_more = tables.entries() == count.saturating_add(1);
-            plain(rt, became == Entered::New && is_one_more)
+            plain(teller, became == Entered::New && is_one_more)
         }
-        Err(_) => refused(rt, tables.entries() == count && answers(tables) == before),
+        Err(_) => refused(
+            teller,
+            tables.entries() == count && answers(tables) == before,
+        ),
     }
 }
 
@@ -283,45 +289,40 @@ fn answers(tables: &Tables) -> (bool, bool, bool, bool) {
 }
 
 /// An entry that is held, with the same sign or the other, or that is one too many.
-fn enter_free(
-    rt: &HostRuntime,
-    tables: &mut Tables,
-    text: &str,
-    wanted: Entered,
-) -> Result<(), Stop>
+fn enter_free(teller: &Teller, tables: &mut Tables, text: &str, wanted: Entered) -> Result<(), Stop>
     requires { 0 < length tables.old.entries }
     ensures { length tables.new.entries ≡ length tables.old.entries }
 {
     let entry = entry(text)?;
     let count = tables.entries();
-    begin_free(rt, "add_entry held, of the other sign or full")?;
+    begin_free(teller, "add_entry held, of the other sign or full")?;
     let answer = tables.add_entry(TableNo(0), &entry, 6);
-    end(rt)?;
-    plain(rt, answer == Ok(wanted) && tables.entries() == count)?;
+    end(teller)?;
+    plain(teller, answer == Ok(wanted) && tables.entries() == count)?;
     Ok(())
 }
 
 /// Each entry that was added is taken out, once.
-fn delete_each(rt: &HostRuntime, tables: &mut Tables) -> Result<(), Stop>
+fn delete_each(teller: &Teller, tables: &mut Tables) -> Result<(), Stop>
     requires { 0 < length tables.old.entries }
 {
     for text in ENTRIES {
-        delete(rt, tables, text, 1)?;
-        delete(rt, tables, text, 0)?;
+        delete(teller, tables, text, 1)?;
+        delete(teller, tables, text, 0)?;
     }
     Ok(())
 }
 
-fn delete(rt: &HostRuntime, tables: &mut Tables, text: &str, wanted: u64) -> Result<(), Stop>
+fn delete(teller: &Teller, tables: &mut Tables, text: &str, wanted: u64) -> Result<(), Stop>
     requires { 0 < length tables.old.entries }
     ensures { length tables.new.entries ≡ length tables.old.entries }
 {
     let entry = entry(text)?;
     let count = tables.entries();
-    begin_free(rt, "delete_entry")?;
+    begin_free(teller, "delete_entry")?;
     let deleted = tables.delete_entry(TableNo(0), &entry);
-    end(rt)?;
+    end(teller)?;
     let is_right = deleted == wanted && count.checked_sub(deleted) == Some(tables.entries());
-    plain(rt, is_right)?;
+    plain(teller, is_right)?;
     Ok(())
 }

@@ -3,7 +3,8 @@
 use pfs_addr_values::NoMemory;
 use pfs_conf::LoadFault;
 use pfs_tests_cases::CaseError;
-use std::alloc::{AllocError, AllocFailed};
+use std::alloc::{AllocError, AllocFailed, Global};
+use std::cell::Cell;
 use std::io::{Error, ErrorKind};
 use std::process::ExitCode;
 
@@ -61,55 +62,126 @@ impl From<Error> for Stop {
     }
 }
 
+/// Tells what came of the calls: of each, where a word chooses a part of them, so that one sees in which call memory was refused; else
+/// only of those that deviate, and how many there were.
+#[derive(Drop)]
+pub struct Teller<'a> {
+    rt: &'a HostRuntime,
+    lists: bool,
+    /// The call that is made, or was made last: its name, and in which case it is.
+    call: Cell<(&'static str, &'static str)>,
+    calls: Cell<u64>,
+    free_calls: Cell<u64>,
+    deviations: Cell<u64>,
+}
+
+impl<'a> Teller<'a> {
+    /// Of no calls so far.
+    pub fn new(rt: &'a HostRuntime, lists: bool) -> Teller<'a> {
+        Teller {
+            rt,
+            lists,
+            call: Cell::new(("no call", "")),
+            calls: Cell::new(0),
+            free_calls: Cell::new(0),
+            deviations: Cell::new(0),
+        }
+    }
+
+    /// The program's allocator.
+    pub fn alloc(&self) -> Global {
+        self.rt.alloc()
+    }
+
+    /// What is told behind all calls.
+    pub fn sum(&self) -> Result<(), Stop> {
+        if self.lists {
+            println!(self.rt; "whole")?;
+            return Ok(());
+        }
+        let (calls, free) = (self.calls.get(), self.free_calls.get());
+        let deviations = self.deviations.get();
+        println!(self.rt; "{calls} calls, {free} of them take no memory: {deviations} deviate")?;
+        Ok(())
+    }
+
+    fn begin(&self, kind: &str, name: &'static str, case: &'static str) -> Result<(), Stop> {
+        self.call.set((name, case));
+        raise(&self.calls);
+        if self.lists {
+            println!(self.rt; "{kind} {name}{case}")?;
+        }
+        Ok(())
+    }
+
+    /// A verdict on the last call, and whether it is what the call has to answer where no memory is refused.
+    fn tell(&self, verdict: &str, deviates: bool) -> Result<(), Stop> {
+        if self.lists {
+            println!(self.rt; "{verdict}")?;
+        } else if deviates {
+            let (name, case) = self.call.get();
+            println!(self.rt; "{name}{case}: {verdict}")?;
+        }
+        if deviates {
+            raise(&self.deviations);
+        }
+        Ok(())
+    }
+}
+
+fn raise(count: &Cell<u64>) {
+    count.set(count.get().saturating_add(1));
+}
+
 /// A call begins that may take memory.
-pub fn begin(rt: &HostRuntime, name: &str) -> Result<(), Stop> {
-    println!(rt; "call {name}")?;
-    Ok(())
+pub fn begin(teller: &Teller, name: &'static str) -> Result<(), Stop> {
+    teller.begin("call", name, "")
+}
+
+/// A call begins that may take memory in this case.
+pub fn begin_case(teller: &Teller, name: &'static str, case: &'static str) -> Result<(), Stop> {
+    teller.begin("call", name, case)
 }
 
 /// A call begins that takes none.
-pub fn begin_free(rt: &HostRuntime, name: &str) -> Result<(), Stop> {
-    println!(rt; "free {name}")?;
-    Ok(())
+pub fn begin_free(teller: &Teller, name: &'static str) -> Result<(), Stop> {
+    raise(&teller.free_calls);
+    teller.begin("free", name, "")
 }
 
 /// A call has ended; what follows only looks at what came of it.
-pub fn end(rt: &HostRuntime) -> Result<(), Stop> {
-    println!(rt; "done")?;
+pub fn end(teller: &Teller) -> Result<(), Stop> {
+    if teller.lists {
+        println!(teller.rt; "done")?;
+    }
     Ok(())
 }
 
 /// It answered, and that is the plain answer.
-pub fn plain(rt: &HostRuntime, is_right: bool) -> Result<bool, Stop> {
-    if is_right {
-        println!(rt; "plain")?;
-    } else {
-        println!(rt; "wrong answer")?;
-    }
+pub fn plain(teller: &Teller, is_right: bool) -> Result<bool, Stop> {
+    let verdict = if is_right { "plain" } else { "wrong answer" };
+    teller.tell(verdict, !is_right)?;
     Ok(true)
 }
 
 /// It returned out of memory, and all that must then hold holds.
-pub fn refused(rt: &HostRuntime, is_right: bool) -> Result<bool, Stop> {
-    if is_right {
-        println!(rt; "refused")?;
-    } else {
-        println!(rt; "wrong refusal")?;
-    }
+pub fn refused(teller: &Teller, is_right: bool) -> Result<bool, Stop> {
+    let verdict = if is_right { "refused" } else { "wrong refusal" };
+    teller.tell(verdict, true)?;
     Ok(false)
 }
 
 /// It answered something else.
-pub fn wrong(rt: &HostRuntime) -> Result<bool, Stop> {
-    println!(rt; "wrong error")?;
+pub fn wrong(teller: &Teller) -> Result<bool, Stop> {
+    teller.tell("wrong error", true)?;
     Ok(true)
 }
 
 /// What came of a call that returns a value: whether it is the plain one, or none where memory was refused.
-pub fn answered(rt: &HostRuntime, is_right: Option<bool>) -> Result<bool, Stop> {
+pub fn answered(teller: &Teller, is_right: Option<bool>) -> Result<bool, Stop> {
     match is_right {
-        Some(is_right) => plain(rt, is_right),
-        None => refused(rt, true),
+        Some(is_right) => plain(teller, is_right),
+        None => refused(teller, true),
     }
 }
 

@@ -1,7 +1,7 @@
 //! Addresses as text, and rules texts with their configurations.
 
 use crate::rules_texts::{FULL, NODES, OVERLOAD};
-use crate::telling::{Stop, begin, end, plain, refused};
+use crate::telling::{Stop, Teller, begin, end, plain, refused};
 use pfs_addr::push_addr;
 use pfs_addr_values::Addr;
 use pfs_conf::{Config, Kind, LoadFault, load, show};
@@ -27,56 +27,56 @@ const HOSTS: &[([u8; 4], &[u8])] = &[
 ];
 
 /// Addresses are appended to a text that holds something already.
-pub fn tell_addresses(rt: &HostRuntime) -> Result<(), Stop> {
-    let mut out = Vec::from_slice(rt.alloc(), b"at ")?;
+pub fn tell_addresses(teller: &Teller) -> Result<(), Stop> {
+    let mut out = Vec::from_slice(teller.alloc(), b"at ")?;
     for row in HOSTS {
-        if !append(rt, &mut out, row)? {
-            append(rt, &mut out, row)?;
+        if !append(teller, &mut out, row)? {
+            append(teller, &mut out, row)?;
         }
     }
     Ok(())
 }
 
-fn append(rt: &HostRuntime, out: &mut Vec<u8>, row: &([u8; 4], &[u8])) -> Result<bool, Stop> {
+fn append(teller: &Teller, out: &mut Vec<u8>, row: &([u8; 4], &[u8])) -> Result<bool, Stop> {
     let (bytes, wanted) = *row;
     let before = out.len();
-    begin(rt, "push_addr")?;
+    begin(teller, "push_addr")?;
     let answer = push_addr(out, Addr::V4(bytes));
-    end(rt)?;
+    end(teller)?;
     match answer {
-        Ok(()) => plain(rt, out.as_slice() == wanted),
+        Ok(()) => plain(teller, out.as_slice() == wanted),
         Err(_) => refused(
-            rt,
+            teller,
             out.len() == before && wanted.starts_with(out.as_slice()),
         ),
     }
 }
 
 /// Rules texts are loaded, shown and copied.
-pub fn tell_texts(rt: &HostRuntime) -> Result<(), Stop> {
+pub fn tell_texts(teller: &Teller) -> Result<(), Stop> {
     for row in TEXTS {
-        if !load_one(rt, row)? {
-            load_one(rt, row)?;
+        if !load_one(teller, row)? {
+            load_one(teller, row)?;
         }
     }
-    let config = load(rt.alloc(), EVERYTHING)?;
-    if !show_one(rt, &config)? {
-        show_one(rt, &config)?;
+    let config = load(teller.alloc(), EVERYTHING)?;
+    if !show_one(teller, &config)? {
+        show_one(teller, &config)?;
     }
-    if !copy_one(rt, &config)? {
-        copy_one(rt, &config)?;
+    if !copy_one(teller, &config)? {
+        copy_one(teller, &config)?;
     }
     Ok(())
 }
 
-fn load_one(rt: &HostRuntime, row: &Row) -> Result<bool, Stop> {
+fn load_one(teller: &Teller, row: &Row) -> Result<bool, Stop> {
     let (text, items, tables, entries) = *row;
-    begin(rt, "load")?;
-    let answer = load(rt.alloc(), text);
-    end(rt)?;
+    begin(teller, "load")?;
+    let answer = load(teller.alloc(), text);
+    end(teller)?;
     match answer {
-        Ok(config) => plain(rt, counts(&config) == (items, tables, entries)),
-        Err(fault) => refused(rt, is_memory(&fault)),
+        Ok(config) => plain(teller, counts(&config) == (items, tables, entries)),
+        Err(fault) => refused(teller, is_memory(&fault)),
     }
 }
 
@@ -92,23 +92,23 @@ fn is_memory(fault: &LoadFault) -> bool {
     fault.line == 0 && fault.kind == Kind::Memory
 }
 
-fn show_one(rt: &HostRuntime, config: &Config) -> Result<bool, Stop> {
-    begin(rt, "show")?;
-    let answer = show(rt.alloc(), config);
-    end(rt)?;
+fn show_one(teller: &Teller, config: &Config) -> Result<bool, Stop> {
+    begin(teller, "show")?;
+    let answer = show(teller.alloc(), config);
+    end(teller)?;
     match answer {
-        Ok(text) => plain(rt, text.as_slice() == SHOWN),
-        Err(_) => refused(rt, true),
+        Ok(text) => plain(teller, text.as_slice() == SHOWN),
+        Err(_) => refused(teller, true),
     }
 }
 
-fn copy_one(rt: &HostRuntime, config: &Config) -> Result<bool, Stop> {
-    begin(rt, "copy")?;
+fn copy_one(teller: &Teller, config: &Config) -> Result<bool, Stop> {
+    begin(teller, "copy")?;
     let answer = config.copy();
-    end(rt)?;
+    end(teller)?;
     let Ok(copy) = answer else {
-        return refused(rt, true);
+        return refused(teller, true);
     };
-    let text = show(rt.alloc(), &copy)?;
-    plain(rt, text.as_slice() == SHOWN)
+    let text = show(teller.alloc(), &copy)?;
+    plain(teller, text.as_slice() == SHOWN)
 }

@@ -236,6 +236,7 @@ def _interfaces_meet(one: str, other: str) -> bool:
 
 
 def _ports_meet(one: str, other: str) -> bool:
+    """Whether a port can be in both of two ranges, as they are written. An empty one is every port."""
     if not one or not other:
         return True
     (low, high), (least, most) = _range(one), _range(other)
@@ -243,6 +244,7 @@ def _ports_meet(one: str, other: str) -> bool:
 
 
 def _range(text: str) -> tuple[int, int]:
+    """The first and the last port of a range, as it is written."""
     numbers = [int(it) for it in re.findall(r"[0-9]+", text)]
     return numbers[0], numbers[-1]
 

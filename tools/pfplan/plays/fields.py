@@ -75,7 +75,7 @@ def flag(name: str, default: bool) -> Field:
 
 
 def one_of(name: str, known: Sequence[str], default: Any = REQUIRED) -> Field:
-    """One of some words."""
+    """One of the known words."""
 
     def read(value: Any) -> str:
         if value not in known:

@@ -120,7 +120,8 @@ class Backlog:
         self._is_any_gone = False
 
     def come(self, answers: list[str]) -> None:
-        """SYN packets were let in now, with these answers."""
+        """SYN packets of forged addresses were let in now: these are the servers' answers to them, and go out once the
+        servers have taken their time."""
         slot = self._world.now + self._answer
         there = self._coming.get(slot)
         if there is None:
