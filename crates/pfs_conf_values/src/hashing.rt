@@ -3,7 +3,7 @@
 ghost use Rattle.std.specs.Prelude.{◌≡◌};
 ghost use Rattle.std.specs.Hash.DefaultHasher as sip;
 ghost use Rattle.pfs_conf_values.specs.Configs.{conf_of};
-ghost use Rattle.pfs_conf_values.specs.Hashing.{after_conf, begun_with, hasher_of, hasher_of_text};
+ghost use Rattle.pfs_conf_values.specs.Hashing.{after_conf, after_items, begun_with, hasher_of, hasher_of_text, item_word};
 
 use crate::items::Item;
 use crate::limits::Limits;
@@ -12,7 +12,7 @@ use crate::routes::Route;
 use crate::syncookies::Syncookies;
 use crate::tables::{TableDef, feed_tables};
 use crate::timeouts::Timeouts;
-use std::hash::{BuildHasher, DefaultHasher, Hash, Hasher};
+use std::hash::{BuildHasher, DefaultHasher, FoldHasher, Hash, Hasher};
 
 /// The hasher of an index whose keys a stranger chooses: SipHash that was fed with the rules' own hash. Each key goes on from a
 /// copy of it. So a sender who does not know the rules cannot tell which keys meet in one place. One who knows or
@@ -43,7 +43,7 @@ impl RulesHasher {
         limits.hash(&mut rules);
         timeouts.hash(&mut rules);
         feed_tables(tables, &mut rules);
-        items.hash(&mut rules);
+        feed_items(items, &mut rules);
         RulesHasher::begun_with(&rules)
     }
 
@@ -74,4 +74,24 @@ impl BuildHasher for RulesHasher {
     fn build_hasher(&self) -> DefaultHasher {
         self.begun
     }
+}
+
+/// Feeds a hasher with how many items there are, and with a word of each.
+fn feed_items(items: &[Item], state: &mut DefaultHasher)
+    ensures { state.new ≡ after_items state.old items.now }
+{
+    items.len().hash(state);
+    for item in items {
+        state.write_u64(item_word(item));
+    }
+}
+
+/// All that an item says, in one word. To fold it takes a tenth of the steps that SipHash takes for its many short parts, and the words
+/// go into SipHash.
+fn item_word(item: &Item) -> u64
+    ensures { result ≡ item_word item.now }
+{
+    let mut word = FoldHasher::default();
+    item.hash(&mut word);
+    word.finish()
 }

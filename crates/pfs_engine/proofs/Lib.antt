@@ -2,11 +2,9 @@ mod Admitting
 mod Belonging
 mod Due
 mod Free
-mod Fewer
 mod Keeping
 mod Killing
 mod Metering
 mod Numbered
 mod Rows
-mod Watching
 mod Turning

@@ -13,11 +13,13 @@ use Rattle.pfs_cookies.specs.Cookies.{CookiesOut, cookies_turned, has_cookie, no
 use Rattle.pfs_store_contract.specs.Counts.{half_open}
 use Rattle.pfs_store_contract.specs.Purging.{purge, state_round, state_share, stays}
 use Rattle.pfs_store_contract.specs.Worlds.{World}
+use Rattle.pfs_store_contract.specs.Passages.{purged_both, purged_of_none}
+use Rattle.pfs_store_contract.specs.declared.records.Purged.{Purged}
 use Rattle.pfs_store_contract.specs.declared.records.State.{State}
+use Rattle.pfs_store_contract.proofs.Passages.{purged_with}
 use Rattle.pfs_track.specs.StatePhases.{is_half_open}
 use Rattle.pfs_engine_machine.specs.Guards.{Guard, are_on, guard_after_seconds, guard_at_second, guard_rested, guard_turned, is_turn, share_of_states, stays_on}
-use Rattle.pfs_engine_machine.specs.Machine.{world_after_purges}
-use Rattle.pfs_engine_machine.specs.Shares.{seconds, most_nodes, most_states}
+use Rattle.pfs_store_contract.specs.Seconds.{seconds, most_nodes, most_states, purged_of, world_after_purges}
 use Rattle.pfs_engine_machine.proofs.Counts.{count-filter_le}
 use Rattle.pfs_engine.specs.Guarding.{HasNoTurn, IsNextTurn}
 
@@ -265,15 +267,34 @@ module _ (conf : Conf) (w after : World) (from mid to : ℕ) (order : from ≤ m
       ap (λ (x : World). world_after_purges conf x (seconds mid to)) is
       ∙ sym (ap (world_after_purges conf w) (seconds-parts from mid to order rest) ∙ purged-parts conf w (seconds from mid) (seconds mid to))
 
-  pub states-left : max (most_states conf w (seconds from mid)) (most_states conf after (seconds mid to)) ≡ most_states conf w (seconds from to)
+  states-left : max (most_states conf w (seconds from mid)) (most_states conf after (seconds mid to)) ≡ most_states conf w (seconds from to)
   states-left =
       ap (λ (x : World). max (most_states conf w (seconds from mid)) (most_states conf x (seconds mid to))) is
       ∙ sym (ap (most_states conf w) (seconds-parts from mid to order rest) ∙ states-parts conf w (seconds from mid) (seconds mid to))
 
-  pub nodes-left : max (most_nodes conf w (seconds from mid)) (most_nodes conf after (seconds mid to)) ≡ most_nodes conf w (seconds from to)
+  nodes-left : max (most_nodes conf w (seconds from mid)) (most_nodes conf after (seconds mid to)) ≡ most_nodes conf w (seconds from to)
   nodes-left =
       ap (λ (x : World). max (most_nodes conf w (seconds from mid)) (most_nodes conf x (seconds mid to))) is
       ∙ sym (ap (most_nodes conf w) (seconds-parts from mid to order rest) ∙ nodes-parts conf w (seconds from mid) (seconds mid to))
+
+  -- how much all examine
+  pub purged-left : (counts : Bool) (p : Purged) → purged_both (purged_both p (purged_of counts conf w (seconds from mid))) (purged_of counts conf after (seconds mid to))
+      ≡ purged_both p (purged_of counts conf w (seconds from to))
+  purged-left counts p =
+      let states : max (max p.most_states (most_states conf w (seconds from mid))) (most_states conf after (seconds mid to)) ≡ max p.most_states (most_states conf w (seconds from to)) = omega (arith, states-left) in
+      let nodes : max (max p.most_nodes (most_nodes conf w (seconds from mid))) (most_nodes conf after (seconds mid to)) ≡ max p.most_nodes (most_nodes conf w (seconds from to)) = omega (arith, nodes-left) in
+      (λ i. purged_with (looks counts i) (states i) (nodes i))
+    where
+      looks : (b : Bool) → max (max p.looks (if b then most_states conf w (seconds from mid) else 0)) (if b then most_states conf after (seconds mid to) else 0)
+          ≡ max p.looks (if b then most_states conf w (seconds from to) else 0)
+      looks true = omega (arith, states-left)
+      looks false = omega arith
+
+max-zero : (a : ℕ) → max 0 a ≡ a
+max-zero a = omega arith
+
+pub none-first : (p : Purged) → purged_both purged_of_none p ≡ p
+none-first p = λ i. purged_with (max-zero p.looks i) (max-zero p.most_states i) (max-zero p.most_nodes i)
 
 -- and of the guard, after a part that ends with its next turn
 pub guard-left : (conf : Conf) (w after : World) (g new : Guard) (from to turn : ℕ) → IsNextTurn g from to turn → after ≡ world_after_purges conf w (seconds from turn)

@@ -14,7 +14,7 @@ use Rattle.pfs_engine_machine.specs.Looks.{looks_before}
 use Rattle.pfs_engine_machine.specs.Machine.{Held, Machine, answer_behind_guard, due, held_behind_guard, held_refused, machine_at_moment, outcome_of_new}
 use Rattle.pfs_engine_machine.specs.Refusals.{IsDroppedBehindGuard}
 use Rattle.pfs_engine_machine.specs.Runs.{without_memory}
-use Rattle.pfs_engine_machine.specs.Shares.{most_nodes, most_states}
+use Rattle.pfs_store_contract.specs.Seconds.{most_nodes, most_states}
 use Rattle.pfs_engine_machine.specs.Visits.{AreVisitsBehindGuard}
 use Rattle.pfs_engine_machine.specs.declared.events.Arrival.{Arrival}
 use Rattle.pfs_engine_machine.specs.declared.events.Arrival.TheVariants as arrival

@@ -5,5 +5,4 @@ pub mod Meters
 pub mod Packets
 pub mod Rooms
 pub mod Views
-pub mod Watches
 pub mod Ways

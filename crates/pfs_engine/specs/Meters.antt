@@ -13,11 +13,9 @@ use Rattle.pfs_store_contract.specs.declared.records.State.{State}
 use Rattle.pfs_engine_machine.specs.Guards.{Guard}
 use Rattle.pfs_engine_machine.specs.Looks.{AreLooks, AreLooksBehind, first_looks, looks_before, states_beside}
 use Rattle.pfs_engine_machine.specs.Machine.{Held, held_behind_guard}
-use Rattle.pfs_engine_machine.specs.Shares.{most_nodes, most_states}
 use Rattle.pfs_engine_machine.specs.Visits.{AreVisits, AreVisitsBehindGuard}
 use Rattle.pfs_engine_machine.specs.Sides.{state_for}
 use Rattle.pfs_engine_machine.specs.declared.events.Outcome.{Outcome}
-use Rattle.pfs_engine.specs.declared.works.Work.{Work}
 
 -- the looks of a packet behind the guard, by what came of it
 abbrev pub AreLooksBehindGuard : Conf → Guard → Held → PacketView → ℕ → ℕ → Outcome → Type 0
@@ -69,18 +67,3 @@ pub record AreLooksOfFlush (counts : Bool) (before after held left of_source : �
   pub least : counts ≡ true → before + (held - left) ≤ after
   pub most : counts ≡ true → after ≤ before + of_source
   pub uncounted : counts ≡ false → after ≡ before
-
--- the work of purges: the most that one slice of states and one of nodes examines; the looks are those of that slice of states,
--- where the store counts them; and no item is compared
-pub record IsWorkOfPurges (counts : Bool) (conf : Conf) (w : World) (seconds : List ℕ) (work : Work) : Type 0 where
-  pub most_states : work.most_states ≡ most_states conf w seconds
-  pub most_nodes : work.most_nodes ≡ most_nodes conf w seconds
-  pub visits : work.visits ≡ 0
-  pub looks : counts ≡ true → work.looks ≡ work.most_states
-  pub uncounted : counts ≡ false → work.looks ≡ 0
-
--- the work of one more purge compares no item, and counts its looks as that of those before it
-pub record CountsOn (counts : Bool) (before after : Work) : Type 0 where
-  pub visits : after.visits ≡ before.visits
-  pub looks : counts ≡ true → before.looks ≡ before.most_states → after.looks ≡ after.most_states
-  pub uncounted : counts ≡ false → before.looks ≡ 0 → after.looks ≡ 0

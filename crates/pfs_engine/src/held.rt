@@ -11,23 +11,20 @@ ghost use Rattle.pfs_store_contract.specs.Calls.{onward_key, state_number, state
 ghost use Rattle.pfs_store_contract.specs.Counts.{half_open};
 ghost use Rattle.pfs_store_contract.specs.Worlds.{empty_world, state_numbered, state_with};
 ghost use Rattle.pfs_engine_machine.specs.Kept.{IsPlain, Rise};
-ghost use Rattle.pfs_engine_machine.specs.Machine.{answer_to_command, answer_to_kill, deciding_rule, held_of, losing_rule, packet_ruled, start, world_after_purges};
-ghost use Rattle.pfs_engine_machine.specs.Shares.{seconds};
+ghost use Rattle.pfs_engine_machine.specs.Machine.{answer_to_command, answer_to_kill, deciding_rule, held_of, losing_rule, packet_ruled, start};
+ghost use Rattle.pfs_store_contract.specs.Seconds.{purged_of, seconds, world_after_purges};
 ghost use Rattle.pfs_engine_machine.specs.Sides.{are_free, state_for};
 ghost use Rattle.pfs_engine_machine.specs.Visits.{AreVisits};
 ghost use Rattle.pfs_engine_machine.specs.Ways.{inside};
 ghost use Rattle.pfs_engine.specs.Held.{Holds, IsAnsweredAs, IsDone};
-ghost use Rattle.pfs_engine.specs.Meters.{IsWorkOfPurges};
 ghost use Rattle.pfs_engine.specs.Ways.{HasRoutes};
 
-use crate::purges::purge_each;
 use crate::ways::may_go_on;
-use crate::works::Work;
 use pfs_addr_values::{Dir, FlowKey, Meter, NoMemory, Packet};
 use pfs_conf_values::{Config, LimitName, TableNo};
 use pfs_engine_machine::{Command, Entered, FromTo, Outcome, TableEntry};
 use pfs_eval::{Book, Decision, Sides, Tables};
-use pfs_store_contract::{Found, Store, inner_key, wire_key};
+use pfs_store_contract::{Found, Purged, Store, inner_key, wire_key};
 use std::alloc::Global;
 use std::marker::Model;
 
@@ -193,15 +190,15 @@ impl<S: Store> Held<S> {
         self.book.decide(&self.tables, &sides, packet, visits)
     }
 
-    /// The purges of the seconds after one moment up to another, and the greatest slices. No memory is taken.
-    pub(crate) fn purge(&mut self, from: u64, to: u64) -> Work
+    /// The purges of the seconds after one moment up to another, and how much they examined. No memory is taken.
+    pub(crate) fn purge(&mut self, from: u64, to: u64) -> Purged
         requires order { from ≤ to }
         requires moment { to < 2 ^ 32 }
         ensures held { Holds self.old self.new
             (held_of (world_after_purges self.old.config self.old.held.world (seconds from to)) self.old.held.tables) }
-        ensures work { IsWorkOfPurges S.counts self.old.config self.old.held.world (seconds from to) result }
+        ensures answer { result ≡ purged_of S.counts self.old.config self.old.held.world (seconds from to) }
     {
-        purge_each(&mut self.store, from, to)
+        self.store.purge_seconds(from, to)
     }
 
     /// Takes the entries out of a table that were added `seconds` before `now`, or earlier; those that the rules text says count

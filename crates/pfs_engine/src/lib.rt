@@ -8,8 +8,6 @@ mod held;
 pub mod laws;
 mod packets;
 mod passing;
-mod purges;
-mod watches;
 mod ways;
 mod works;
 

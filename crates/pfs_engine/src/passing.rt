@@ -3,16 +3,15 @@
 ghost use Rattle.std.specs.Prelude.{◌≡◌, ◌<◌, ◌≤◌, ◌^◌};
 ghost use Rattle.std.specs.Option.{ForSome};
 ghost use Rattle.pfs_engine_machine.specs.Guards.{guard_after_seconds};
-ghost use Rattle.pfs_engine_machine.specs.Machine.{due, held_of, world_after_purges};
-ghost use Rattle.pfs_engine_machine.specs.Shares.{seconds};
+ghost use Rattle.pfs_engine_machine.specs.Machine.{due, held_of};
+ghost use Rattle.pfs_store_contract.specs.Seconds.{purged_of, seconds, world_after_purges};
 ghost use Rattle.pfs_engine.specs.Calls.{IsWorkOfSeconds};
 ghost use Rattle.pfs_engine.specs.Held.{Holds};
-ghost use Rattle.pfs_engine.specs.Meters.{IsWorkOfPurges};
 
 use crate::guard::Guard;
 use crate::held::Held;
 use crate::works::Work;
-use pfs_store_contract::Store;
+use pfs_store_contract::{Purged, Store};
 
 /// All seconds due between the last moment and this one; none before the first event. It takes no memory.
 #[tactic(auto, using(crate::proofs::Due::none_due))]
@@ -33,31 +32,35 @@ pub(crate) fn pass_due<S: Store>(
         // Most records come in the second of the one before.
         Some(last) if last == now => Work::none(),
         Some(last) => {
-            let work = pass(guard, held, last, now);
+            let purged = pass(guard, held, last, now);
             Work {
+                looks: purged.looks,
                 slices: 2 * (now - last),
-                ..work
+                most_states: purged.most_states,
+                most_nodes: purged.most_nodes,
+                ..Work::none()
             }
         }
         None => Work::none(),
     }
 }
 
-/// The seconds after one moment up to another, parted at those at which the secret turns; and their greatest slices.
-fn pass<S: Store>(guard: &mut Guard, held: &mut Held<S>, from: u64, to: u64) -> Work
+/// The seconds after one moment up to another, parted at those at which the secret turns; and how much they
+/// examined.
+fn pass<S: Store>(guard: &mut Guard, held: &mut Held<S>, from: u64, to: u64) -> Purged
     requires order { from ≤ to }
     requires moment { to < 2 ^ 32 }
     ensures held { Holds held.old held.new
         (held_of (world_after_purges held.old.config held.old.held.world (seconds from to)) held.old.held.tables) }
     ensures guard { guard.new ≡ guard_after_seconds held.old.config held.old.held.world guard.old (seconds from to) }
-    ensures work { IsWorkOfPurges S.counts held.old.config held.old.held.world (seconds from to) result }
+    ensures answer { result ≡ purged_of S.counts held.old.config held.old.held.world (seconds from to) }
 {
     let mut at = from;
-    let mut work = Work::none();
+    let mut purged = Purged::none();
     while let Some(turn) = guard.next_turn(at, to) {
-        work = Work::greatest(work, held.purge(at, turn));
+        purged = purged.greatest(held.purge(at, turn));
         guard.turn(held);
         at = turn;
     }
-    Work::greatest(work, held.purge(at, to))
+    purged.greatest(held.purge(at, to))
 }

@@ -1,6 +1,6 @@
 //! How much work a call of the engine was.
 
-ghost use Rattle.std.specs.Prelude.{◌≡◌, max};
+ghost use Rattle.std.specs.Prelude.{◌≡◌};
 ghost use Rattle.pfs_engine.specs.Calls.{work_of_event};
 ghost use Rattle.pfs_engine.specs.Ways.{work_of_both};
 
@@ -31,22 +31,6 @@ impl Work {
             slices: 0,
             most_states: 0,
             most_nodes: 0,
-        }
-    }
-
-    /// The work of purges with that of further ones: the greatest slices, and the most looks of one.
-    pub(crate) fn greatest(work: Work, further: Work) -> Work
-        ensures { result ≡ record work {
-          looks = max work.looks further.looks;
-          most_states = max work.most_states further.most_states;
-          most_nodes = max work.most_nodes further.most_nodes;
-        } }
-    {
-        Work {
-            looks: work.looks.max(further.looks),
-            most_states: work.most_states.max(further.most_states),
-            most_nodes: work.most_nodes.max(further.most_nodes),
-            ..work
         }
     }
 

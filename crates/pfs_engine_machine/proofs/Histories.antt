@@ -20,6 +20,7 @@ use Rattle.pfs_store_contract.specs.Leaving.{world_without}
 use Rattle.pfs_store_contract.specs.Purging.{node_round, node_share, purge, state_round, state_share, state_slice, stays}
 use Rattle.pfs_store_contract.specs.Touching.{completes_at, is_asking, is_taken, may_reopen, node_score, nodes_scored, nodes_touched, score_in, world_after_touch}
 use Rattle.pfs_store_contract.specs.Worlds.{World}
+use Rattle.pfs_store_contract.specs.Seconds.{world_after_purges}
 use Rattle.pfs_store_contract.specs.declared.records.Limit.{Limit}
 use Rattle.pfs_store_contract.specs.declared.records.Node.{Node}
 use Rattle.pfs_store_contract.specs.declared.records.NodeScope.{NodeScope}
@@ -29,7 +30,7 @@ use Rattle.pfs_track.specs.declared.scores.Score.{Score}
 use Rattle.pfs_engine_machine.proofs.Counts.{any-push, count-filter_le, count-push}
 use Rattle.pfs_engine_machine.specs.Kept.{moment_of, own_scope}
 use Rattle.pfs_engine_machine.specs.Guards.{Guard, brings_cookie, gets_cookie}
-use Rattle.pfs_engine_machine.specs.Machine.{Held, Machine, answer_behind_guard, answer_to_arrival, machine_at_moment, answer_to_packet, answer_of_exceeded, answer_of_key, answer_of_state, answer_of_handshake, due, exceeded_of, first_moment, held_for, held_of, outcome_of_held, world_after_purges, start, step, machine_after, outcomes_of}
+use Rattle.pfs_engine_machine.specs.Machine.{Held, Machine, answer_behind_guard, answer_to_arrival, machine_at_moment, answer_to_packet, answer_of_exceeded, answer_of_key, answer_of_state, answer_of_handshake, due, exceeded_of, first_moment, held_for, held_of, outcome_of_held, start, step, machine_after, outcomes_of}
 use Rattle.pfs_engine_machine.specs.Rates.{Handshake, completed_state, score_through, handshake_at, handshaking_state, handshakes, history_score, is_from, moments_of, with_handshake}
 use Rattle.pfs_engine_machine.specs.Runs.{IsInOrder}
 use Rattle.pfs_engine_machine.specs.declared.events.Event.{Event}

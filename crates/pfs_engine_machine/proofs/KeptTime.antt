@@ -21,6 +21,7 @@ use Rattle.pfs_store_contract.specs.Counts.{is_connection, is_node, is_of_node, 
 use Rattle.pfs_store_contract.specs.Leaving.{node_after_leaving, world_with_stay}
 use Rattle.pfs_store_contract.specs.Purging.{is_among, node_round, node_share, node_slice, node_stays, purge, state_round, state_share, state_slice, stays}
 use Rattle.pfs_store_contract.specs.Worlds.{World, inner_key}
+use Rattle.pfs_store_contract.specs.Seconds.{world_after_purges}
 use Rattle.pfs_store_contract.specs.declared.kills.FromTo.{FromTo}
 use Rattle.pfs_store_contract.specs.declared.records.Node.{Node}
 use Rattle.pfs_store_contract.specs.declared.records.NodeScope.{NodeScope}
@@ -35,7 +36,7 @@ use Rattle.std.proofs.lemmas.Bool.{and_parts}
 use Rattle.pfs_store_contract.proofs.ScopeLaws.{same_scope_true}
 use Rattle.pfs_engine_machine.specs.declared.events.Command.{Command}
 use Rattle.pfs_engine_machine.specs.declared.events.Command.TheVariants as command
-use Rattle.pfs_engine_machine.specs.Machine.{Held, Machine, machine_at_moment, due, answer_to_command, first_moment, held_of, world_after_purges, start}
+use Rattle.pfs_engine_machine.specs.Machine.{Held, Machine, machine_at_moment, due, answer_to_command, first_moment, held_of, start}
 
 -- ---- the start
 

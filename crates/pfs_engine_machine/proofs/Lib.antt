@@ -22,8 +22,6 @@ mod Lists
 pub mod Numbers
 pub mod OptionLaws
 mod PacketChanges
-pub mod Purging
-pub mod Quiet
 pub mod RecordRuns
 mod Remembering
 pub mod Renewals

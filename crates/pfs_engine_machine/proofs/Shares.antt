@@ -4,7 +4,7 @@ use Rattle.std.proofs.lemmas.List.{length-take}
 use Rattle.pfs_conf_values.specs.Configs.{Conf}
 use Rattle.pfs_store_contract.specs.Purging.{node_round, node_share, purge, state_round, state_share, state_slice}
 use Rattle.pfs_store_contract.specs.Worlds.{World}
-use Rattle.pfs_engine_machine.specs.Shares.{most_nodes, most_states}
+use Rattle.pfs_store_contract.specs.Seconds.{most_nodes, most_states}
 
 pub most_states-share : (conf : Conf) (w : World) (ss : List ℕ) → most_states conf w ss ≤ state_share conf
 most_states-share conf w [] = omega arith

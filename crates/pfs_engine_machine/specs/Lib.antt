@@ -4,12 +4,10 @@ pub mod Guards
 pub mod Kept
 pub mod Looks
 pub mod Machine
-pub mod Quiet
 pub mod RateMemory
 pub mod Rates
 pub mod Refusals
 pub mod Runs
-pub mod Shares
 pub mod Sides
 pub mod Sources
 pub mod Staleness

@@ -20,7 +20,7 @@ use Rattle.pfs_store_contract.specs.Admission.{is_answered, limit_met, world_aft
 use Rattle.pfs_store_contract.specs.Calls.{from_to_count, onward_key, world_elsewhere, world_reopened}
 use Rattle.pfs_store_contract.specs.Handshakes.{flush_of, goes_with, hits_connections, hits_rate, stays_at_kill}
 use Rattle.pfs_store_contract.specs.Leaving.{world_without}
-use Rattle.pfs_store_contract.specs.Purging.{purge}
+use Rattle.pfs_store_contract.specs.Seconds.{world_after_purges}
 use Rattle.pfs_store_contract.specs.Touching.{completes_at, is_asking, is_taken, world_after_touch}
 use Rattle.pfs_store_contract.specs.Worlds.{World, empty_world}
 use Rattle.pfs_store_contract.specs.declared.kills.FromTo.{FromTo}
@@ -74,11 +74,6 @@ entries_held m = entry_count m.held.tables
 abbrev pub due : Option ℕ → ℕ → List ℕ
 due None now = []
 due (Some last) now = range_with_len (last + 1) (now - last)
-
--- the world after the purges of these seconds
-abbrev pub world_after_purges : Conf → World → List ℕ → World
-world_after_purges conf w [] = w
-world_after_purges conf w (s ∷ ss) = world_after_purges conf (purge conf w s) ss
 
 -- the first moment, once an event has come at this one
 abbrev pub first_moment : Option ℕ → ℕ → ℕ

@@ -4,6 +4,7 @@ pub mod Counting
 pub mod Cuts
 pub mod Deciding
 pub mod Distinct
+pub mod Glancing
 pub mod Leaving
 pub mod Known
 pub mod LinesMade

@@ -50,7 +50,7 @@ items-are {items} {lines} a = each_item items lines a.long (λ p i line at there
 
 -- ---- one more line, and a line that is written anew
 
-get-more : {X : Type 0} (xs : List X) (y x : X) (p : ℕ) → slice_get (xs ++ y ∷ []) p ≡ Some x
+pub get-more : {X : Type 0} (xs : List X) (y x : X) (p : ℕ) → slice_get (xs ++ y ∷ []) p ≡ Some x
     → (slice_get xs p ≡ Some x) ⊎ ((p ≡ length xs) × (x ≡ y))
 get-more [] y x zero h = inr (refl, sym (some_same h))
 get-more [] y x (suc p) h = cc

@@ -2,6 +2,7 @@ pub mod Asking
 pub mod Blooms
 pub mod Covering
 pub mod Entries
+pub mod Glances
 pub mod Holdings
 pub mod Lengths
 pub mod Lines

@@ -9,6 +9,7 @@ ghost use Rattle.pfs_eval.specs.Verdict.{IsRuleAt, cut, lost_by, packet_at_cut, 
 ghost use Rattle.pfs_eval.specs.Visits.{visit_bound, visit_floor, visits_of};
 
 use crate::comparing::failing;
+use crate::glances::{Glance, glances, name_word};
 use crate::lines::{Line, lines};
 use crate::tables::Tables;
 use crate::translating::{Sides, translate};
@@ -22,19 +23,22 @@ use std::marker::Model;
 /// (pf.conf(5), PACKET FILTERING and ANCHORS)
 #[derive(Drop)]
 pub struct Book {
+    /// What a visit reads of each line. A walk goes over these, and reads a line where all that its item asks holds.
+    glances: Vec<Glance>,
     lines: Vec<Line>,
 }
 
 impl Model for Book {
     ghost use Rattle.std.specs.Prelude.{List};
     ghost use Rattle.pfs_conf_values.specs.declared.items.Item.{Item};
+    ghost use Rattle.pfs_eval.specs.Glances.{AreGlances};
     ghost use Rattle.pfs_eval.specs.Lines.{AreLines, items_of};
 
     ghost Value = { List Item };
 
     ghost view = { λ b. items_of b.lines.items };
 
-    ghost invariant = { λ b. AreLines (items_of b.lines.items) b.lines.items };
+    ghost invariant = { λ b. AreLines (items_of b.lines.items) b.lines.items × AreGlances b.lines.items b.glances.items };
 }
 
 /// What the rules make of a packet.
@@ -51,9 +55,9 @@ impl Book {
     pub fn new(alloc: Global, config: &Config) -> Result<Book, NoMemory>
         ensures { IfOk result (λ b. b ≡ config.now.items) }
     {
-        Ok(Book {
-            lines: lines(alloc, config)?,
-        })
+        let lines = lines(alloc, config)?;
+        let glances = glances(alloc, &lines)?;
+        Ok(Book { glances, lines })
     }
 
     /// What the rules make of a packet, which becomes the packet as they leave it: with the tag of the last rule that matched and gives
@@ -131,17 +135,21 @@ impl Book {
         ensures preorder { IsPreorder 0 self.now }
     {
         let lines = self.lines.as_slice();
+        let glances = self.glances.as_slice();
+        // no rule changes it
+        let name = name_word(&packet.ifname());
         let mut walk = Walk {
             place: 0,
             stop_depth: 0,
             found: None,
         };
-        while (walk.place as usize) < lines.len()
-            && walk.stop_depth <= lines[walk.place as usize].item.depth
+        while (walk.place as usize) < glances.len()
+            && walk.stop_depth <= glances[walk.place as usize].depth
         {
             let line = &lines[walk.place as usize];
-            let failed = failing(&line.item.what, tables, packet, meter);
-            walk = walk.on(line, failed, sides, packet);
+            let glance = &glances[walk.place as usize];
+            let failed = failing(glance, &line.item.what, name, tables, packet, meter);
+            walk = walk.on(glance, line, failed, sides, packet);
         }
         walk.found
     }

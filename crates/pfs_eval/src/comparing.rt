@@ -1,11 +1,14 @@
 //! What items ask of packets, and the one way to compare an item with a packet, which is counted as a visit.
 
-ghost use Rattle.std.specs.Prelude.{◌≡◌, ◌+◌, ◌-◌, ◌<◌, ◌^◌, ◌↔◌, IsTrue, MatchOption, false, true};
+ghost use Rattle.std.specs.Prelude.{◌≡◌, ◌+◌, ◌-◌, ◌<◌, ◌^◌, ◌↔◌, ◌≤◌, ◌/◌, IsTrue, MatchOption, false, true};
 ghost use Rattle.pfs_addr_values.specs.Packets.{came_in_on};
 ghost use Rattle.pfs_eval.specs.Asking.{came_to, is_same_tag, is_this_interface, received_on_holds, tagged_holds};
+ghost use Rattle.pfs_eval.specs.Glances.{IsKept, IsOnKept, IsWordOf, asks_flags, inet_holds, near_host};
 ghost use Rattle.pfs_eval.specs.Matching.{common_flags, dir_holds, family_holds, filter_holds, filter_of, flags_hold, host_holds, interface_holds, ports_hold, prefix_holds, proto_holds, same_flags, turned_if};
+ghost use Rattle.pfs_eval.specs.Tables.{table_answer};
 ghost use Rattle.pfs_eval.specs.Parameters.{IsSame, failing_at, holds_at, same_test};
 
+use crate::glances::{Glance, Near, NearKind, OnKind};
 use crate::tables::Tables;
 use pfs_addr_values::{Addr, Dir, Flags, IfName, Meter, Packet, Prefix, Proto, TagNo};
 use pfs_conf_values::{
@@ -35,21 +38,26 @@ pub enum Parameter {
     Flags,
 }
 
-/// Visits an item: compares what it asks with a packet. The answer is the first parameter that does not hold of the packet, or
-/// `None` where each that is given holds. (pf.conf(5), PARAMETERS)
+/// Visits an item: compares what it asks with a packet, where `glance` is what a visit reads of it, and `name` the word of the packet's
+/// interface. The answer is the first parameter that does not hold of the packet, or `None` where each that is given holds.
+/// (pf.conf(5), PARAMETERS)
 pub fn failing(
+    glance: &Glance,
     what: &ItemKind,
+    name: u64,
     tables: &Tables,
     packet: &Packet,
     visits: &mut Meter,
 ) -> Option<Parameter>
-    requires { visits.old < 2 ^ 64 - 1 }
+    requires kept { IsKept (filter_of what.now) glance.now }
+    requires name { IsWordOf packet.now.ifname name }
+    requires visits { visits.old < 2 ^ 64 - 1 }
     ensures answer { MatchOption result (filter_holds tables.now.entries packet.now (filter_of what.now) ≡ true) (λ k. holds_at tables.now.entries packet.now k (filter_of what.now) ≡ false) }
     ensures first { result ≡ failing_at tables.now.entries packet.now (filter_of what.now) }
     ensures visit { visits.new ≡ visits.old + 1 }
 {
     visits.tick();
-    first_failing(tables, packet, filter_of(what))
+    first_failing(glance, what, name, tables, packet)
 }
 
 /// Whether two items ask the same at a parameter: it is written the same in both, negation included.
@@ -71,7 +79,7 @@ pub fn ask_same(one: &ItemKind, two: &ItemKind, parameter: Parameter) -> bool
 }
 
 /// What this rule or anchor asks.
-fn filter_of(what: &ItemKind) -> &Filter
+pub fn filter_of(what: &ItemKind) -> &Filter
     ensures { result.now ≡ filter_of what.now }
 {
     match what {
@@ -82,35 +90,43 @@ fn filter_of(what: &ItemKind) -> &Filter
 
 /// The first parameter that does not hold.
 #[tactic(auto, unfolding(crate::specs::Parameters::failing_at))]
-fn first_failing(tables: &Tables, packet: &Packet, filter: &Filter) -> Option<Parameter>
-    ensures first { result ≡ failing_at tables.now.entries packet.now filter.now }
-    ensures answer { MatchOption result (filter_holds tables.now.entries packet.now filter.now ≡ true) (λ k. holds_at tables.now.entries packet.now k filter.now ≡ false) }
+fn first_failing(
+    glance: &Glance,
+    what: &ItemKind,
+    name: u64,
+    tables: &Tables,
+    packet: &Packet,
+) -> Option<Parameter>
+    requires kept { IsKept (filter_of what.now) glance.now }
+    requires name { IsWordOf packet.now.ifname name }
+    ensures first { result ≡ failing_at tables.now.entries packet.now (filter_of what.now) }
+    ensures answer { MatchOption result (filter_holds tables.now.entries packet.now (filter_of what.now) ≡ true) (λ k. holds_at tables.now.entries packet.now k (filter_of what.now) ≡ false) }
 {
-    if !interface_holds(&filter.on, packet) {
+    if !on_holds(glance, what, name, packet) {
         return Some(Parameter::Interface);
     }
-    if !dir_holds(filter.dir, packet.dir()) {
+    if !dir_holds(glance.dir, packet.dir()) {
         return Some(Parameter::Direction);
     }
-    if !family_holds(filter.family, packet.src(), packet.dst()) {
+    if !family_holds(glance.family, packet.src(), packet.dst()) {
         return Some(Parameter::Family);
     }
-    if !proto_holds(filter.proto, packet.proto()) {
+    if !proto_holds(glance.proto, packet.proto()) {
         return Some(Parameter::Protocol);
     }
-    if !source_holds(tables, &filter.from.host, packet) {
+    if !source_holds(glance, what, tables, packet) {
         return Some(Parameter::SourceHost);
     }
-    if !destination_holds(tables, &filter.to.host, packet) {
+    if !destination_holds(glance, what, tables, packet) {
         return Some(Parameter::DestinationHost);
     }
-    if !ports_hold(filter.from.ports, packet.sport()) {
+    if !ports_hold(glance.source_ports, packet.sport()) {
         return Some(Parameter::SourcePort);
     }
-    if !ports_hold(filter.to.ports, packet.dport()) {
+    if !ports_hold(glance.destination_ports, packet.dport()) {
         return Some(Parameter::DestinationPort);
     }
-    if !flags_hold(filter.flags, packet.proto(), packet.flags()) {
+    if !all_flags_hold(glance, what, packet) {
         return Some(Parameter::Flags);
     }
     None
@@ -176,6 +192,21 @@ fn dir_holds(wanted: Option<Dir>, dir: Dir) -> bool
     wanted.is_none_or(|wanted| wanted == dir)
 }
 
+/// Whether the interface that an item asks for is the packet's, where this is the word of its name.
+#[inline(always)]
+fn on_holds(glance: &Glance, what: &ItemKind, name: u64, packet: &Packet) -> bool
+    requires kept { IsOnKept (filter_of what.now).on glance.now.on glance.now.word }
+    requires name { IsWordOf packet.now.ifname name }
+    ensures { result ≡ interface_holds (filter_of what.now).on packet.now.ifname }
+{
+    match glance.on {
+        OnKind::Any => true,
+        OnKind::This => glance.word == name,
+        OnKind::Other => glance.word != name,
+        OnKind::Far => interface_holds(&filter_of(what).on, packet),
+    }
+}
+
 /// The packet is asked: its name is compared in place and not copied for each item.
 fn interface_holds(on: &Option<Interface>, packet: &Packet) -> bool
     ensures { result ≡ interface_holds on.now packet.now.ifname }
@@ -204,18 +235,61 @@ fn proto_holds(wanted: Option<Proto>, proto: Proto) -> bool
 
 /// The host after `from`. The packet's address is taken from it only where the host is not `any`.
 #[inline(always)]
-fn source_holds(tables: &Tables, host: &Host<TableNo>, packet: &Packet) -> bool
-    ensures { result ≡ host_holds tables.now.entries host.now packet.now.source.addr }
+fn source_holds(glance: &Glance, what: &ItemKind, tables: &Tables, packet: &Packet) -> bool
+    requires { glance.now.source ≡ near_host (filter_of what.now).from.host }
+    ensures { result ≡ host_holds tables.now.entries (filter_of what.now).from.host packet.now.source.addr }
 {
-    matches!(*host, Host::Any) || host_holds(tables, host, packet.src())
+    match glance.source.kind {
+        NearKind::Any => true,
+        NearKind::Inet => inet_holds(glance.source, packet.src()),
+        NearKind::Table => table_holds(tables, glance.source, packet.src()),
+        NearKind::Far => host_holds(tables, &filter_of(what).from.host, packet.src()),
+    }
 }
 
 /// The host after `to`, as `source_holds` says.
 #[inline(always)]
-fn destination_holds(tables: &Tables, host: &Host<TableNo>, packet: &Packet) -> bool
-    ensures { result ≡ host_holds tables.now.entries host.now packet.now.destination.addr }
+fn destination_holds(glance: &Glance, what: &ItemKind, tables: &Tables, packet: &Packet) -> bool
+    requires { glance.now.destination ≡ near_host (filter_of what.now).to.host }
+    ensures { result ≡ host_holds tables.now.entries (filter_of what.now).to.host packet.now.destination.addr }
 {
-    matches!(*host, Host::Any) || host_holds(tables, host, packet.dst())
+    match glance.destination.kind {
+        NearKind::Any => true,
+        NearKind::Inet => inet_holds(glance.destination, packet.dst()),
+        NearKind::Table => table_holds(tables, glance.destination, packet.dst()),
+        NearKind::Far => host_holds(tables, &filter_of(what).to.host, packet.dst()),
+    }
+}
+
+/// A prefix of IPv4 that is kept in few bytes.
+#[inline(always)]
+fn inet_holds(near: Near, addr: Addr) -> bool
+    requires { near.hidden ≤ 32 }
+    ensures { result ≡ inet_holds near addr }
+{
+    match addr {
+        Addr::V4(bytes) => turned(
+            near.negated,
+            first_of(near.word, near.hidden) == first_of(u32::from_be_bytes(bytes), near.hidden),
+        ),
+        Addr::V6(_) => false,
+    }
+}
+
+/// A number without its last bits.
+fn first_of(number: u32, hidden: u8) -> u64
+    requires { hidden ≤ 32 }
+    ensures { result ≡ number / 2 ^ hidden }
+{
+    u64::from(number) >> hidden
+}
+
+/// A table that is kept in few bytes.
+#[inline(always)]
+fn table_holds(tables: &Tables, near: Near, addr: Addr) -> bool
+    ensures { result ≡ turned_if near.negated (table_answer tables.now.entries near.word addr) }
+{
+    turned(near.negated, tables.matches(TableNo(near.word), addr))
 }
 
 /// Inlined: an address is compared in place and not copied for each host.
@@ -244,6 +318,14 @@ fn ports_hold(ports: Option<Ports>, port: u16) -> bool
         None => true,
         Some(ports) => ports.low <= port && port <= ports.high,
     }
+}
+
+/// The flags, which are read in the item where it asks for some.
+fn all_flags_hold(glance: &Glance, what: &ItemKind, packet: &Packet) -> bool
+    requires { glance.now.asks_flags ≡ asks_flags (filter_of what.now).flags }
+    ensures { result ≡ flags_hold (filter_of what.now).flags packet.now.proto packet.now.flags }
+{
+    !glance.asks_flags || flags_hold(filter_of(what).flags, packet.proto(), packet.flags())
 }
 
 fn flags_hold(test: FlagTest, proto: Proto, flags: Flags) -> bool

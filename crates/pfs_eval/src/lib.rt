@@ -5,6 +5,7 @@ mod blooms;
 mod books;
 mod comparing;
 mod entries;
+mod glances;
 mod lengths;
 mod lines;
 mod routing;

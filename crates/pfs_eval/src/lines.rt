@@ -1,4 +1,4 @@
-//! The items of a book, and what a walk reads of each.
+//! The items of a book, and where a walk goes on from each.
 
 ghost use Rattle.std.specs.Prelude.{◌≡◌, ◌+◌, ◌<◌, ◌≤◌, ℕ, [], IfOk, Some, drop, if◌then◌else◌, length, max, nat_le, slice_get, slice_index};
 ghost use Rattle.std.specs.Option.{option_and_then};
@@ -16,9 +16,7 @@ use pfs_addr_values::TagNo;
 use pfs_conf_values::{Action, Config, Item, ItemKind, TagName, Tagged};
 use std::alloc::{AllocError, Global};
 
-/// An item, and where a walk goes on from it.
-///
-/// The fields lie in memory as they stand here: what a walk reads most comes first.
+/// An item, and where a walk goes on from it. A walk reads it where the item matches, and else what `Glance` keeps of it.
 #[derive(Clone, Copy)]
 pub struct Line {
     /// Where a walk goes on if one of the item's parameters fails.
@@ -163,7 +161,7 @@ fn next_place(config: &Config, place: u32, what: &ItemKind) -> u32
 }
 
 /// The first place, from one on, whose item is not deeper than this, or the number of items.
-fn body_end(config: &Config, from: u32, depth: u8) -> u32
+fn body_end(config: &Config, from: u32, depth: u8) -> u16
     requires { from ≤ length config.now.items }
     ensures value { result ≡ from + body_length depth (drop from config.now.items) }
     ensures most { result ≤ length config.now.items }
@@ -171,10 +169,10 @@ fn body_end(config: &Config, from: u32, depth: u8) -> u32
     let count = config.item_count();
     for place in from..count {
         if item_at(config, place).depth <= depth {
-            return place;
+            return place as u16;
         }
     }
-    count
+    count as u16
 }
 
 /// The item at a place, which is one of the configuration's.

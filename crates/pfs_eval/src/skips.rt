@@ -13,30 +13,30 @@ use pfs_conf_values::ItemKind;
 #[derive(Clone, Copy)]
 pub struct Skips {
     /// Over items on the same interface.
-    pub interface: u32,
+    pub interface: u16,
     /// Over items of the same direction.
-    pub direction: u32,
+    pub direction: u16,
     /// Over items of the same address family.
-    pub family: u32,
+    pub family: u16,
     /// Over items of the same protocol.
-    pub protocol: u32,
+    pub protocol: u16,
     /// Over items from the same host.
-    pub source_host: u32,
+    pub source_host: u16,
     /// Over items to the same host.
-    pub destination_host: u32,
+    pub destination_host: u16,
     /// Over items from the same ports.
-    pub source_port: u32,
+    pub source_port: u16,
     /// Over items to the same ports.
-    pub destination_port: u32,
+    pub destination_port: u16,
     /// Over items with the same test of flags.
-    pub flags: u32,
+    pub flags: u16,
 }
 
 impl Skips {
     ghost use Rattle.pfs_eval.specs.Skips.{skip_of};
 
     /// Where a walk goes on from an item that fails on this parameter.
-    pub fn to(&self, parameter: Parameter) -> u32
+    pub fn to(&self, parameter: Parameter) -> u16
         ensures { result ≡ skip_of self.now parameter }
     {
         match parameter {
@@ -53,7 +53,7 @@ impl Skips {
     }
 
     /// The skips of an item that no other follows in its body, or none that asks the same: all to this place.
-    pub fn all_to(place: u32) -> Skips
+    pub fn all_to(place: u16) -> Skips
         ensures { (k : Parameter) → skip_of result k ≡ place }
     {
         Skips {
@@ -71,7 +71,7 @@ impl Skips {
 
     /// The skips of an item, from those of the next item of its body, which is at `place`: as far as these where both
     /// ask the same, and to that place where they do not.
-    pub fn joined(item: &ItemKind, next: &ItemKind, place: u32, further: &Skips) -> Skips
+    pub fn joined(item: &ItemKind, next: &ItemKind, place: u16, further: &Skips) -> Skips
         ensures { (k : Parameter) → IsJoined k (filter_of item.now) (filter_of next.now) place (skip_of further.now k) (skip_of result k) }
     {
         Skips {
@@ -88,7 +88,7 @@ impl Skips {
     }
 
     /// The skip at one parameter of an item, where these are the skips of the next one, which stands at `place`.
-    fn past(&self, item: &ItemKind, next: &ItemKind, place: u32, parameter: Parameter) -> u32
+    fn past(&self, item: &ItemKind, next: &ItemKind, place: u16, parameter: Parameter) -> u16
         ensures { IsJoined parameter (filter_of item.now) (filter_of next.now) place (skip_of self.now parameter) result }
     {
         if ask_same(item, next, parameter) {

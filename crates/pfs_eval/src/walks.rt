@@ -7,6 +7,7 @@ ghost use Rattle.pfs_eval.specs.Translating.{translated};
 ghost use Rattle.pfs_eval.specs.Verdict.{can_decide};
 
 use crate::comparing::{Parameter, came_to};
+use crate::glances::Glance;
 use crate::lines::{Line, is_rule};
 use crate::translating::{Sides, translate};
 use pfs_addr_values::{Packet, TagNo};
@@ -30,18 +31,20 @@ impl Walk {
     /// a `match` rule translates it. It is found if it can decide, or lost the packet.
     pub fn on<S: Sides>(
         self,
+        glance: &Glance,
         line: &Line,
         failed: Option<Parameter>,
         sides: &S,
         packet: &mut Packet,
     ) -> Walk
-        requires { self.place < 2 ^ 32 - 1 }
+        requires place { self.place < 2 ^ 32 - 1 }
+        requires skips { glance.now.skips ≡ line.now.skips }
         ensures walk { result ≡ walk_after (S.taken sides.now) self packet.old line.now failed }
         ensures packet { packet.new ≡ packet_after (S.taken sides.now) packet.old line.now failed }
     {
         if let Some(parameter) = failed {
             return Walk {
-                place: line.skips.to(parameter),
+                place: u32::from(glance.skips.to(parameter)),
                 ..self
             };
         }

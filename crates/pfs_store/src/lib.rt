@@ -2,7 +2,7 @@
 #![tactic(auto)]
 
 pub use pfs_store_contract::{
-    Found, Limit, Node, NodeScope, Slice, State, StateNo, Store, Touched, Watched,
+    Found, Limit, Node, NodeScope, Purged, Slice, State, StateNo, Store, Touched,
 };
 pub use pfs_store_index::{IndexStore, looks_are_counted};
 pub use pfs_store_plain::PlainStore;

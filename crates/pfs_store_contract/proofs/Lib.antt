@@ -3,7 +3,7 @@ pub mod FilterLaws
 pub mod LeavingLaws
 pub mod LimitLaws
 pub mod MomentLaws
+pub mod Passages
 pub mod ScopeLaws
 pub mod SliceLaws
-pub mod Turns
 mod Worked

@@ -3,9 +3,10 @@ pub mod Calls
 pub mod Counts
 pub mod Handshakes
 pub mod Leaving
+pub mod Passages
 pub mod Plain
 pub mod Purging
-pub mod Quiet
+pub mod Seconds
 pub mod SourceLimits
 pub mod Touching
 pub mod Worlds

@@ -1,7 +1,8 @@
 //! What is held: states and source nodes, and what calls report of them.
 
-ghost use Rattle.std.specs.Prelude.{◌≡◌};
+ghost use Rattle.std.specs.Prelude.{◌≡◌, ◌==◌, ◌&&◌, if◌then◌else◌, max};
 ghost use Rattle.pfs_store_contract.specs.Calls.{told_at};
+ghost use Rattle.pfs_store_contract.specs.Passages.{purged_both, purged_of_none};
 
 use pfs_addr_values::{Addr, Dir, FlowKey, TagNo};
 use pfs_conf_values::RuleNo;
@@ -135,38 +136,60 @@ pub struct Slice {
     pub removed: u64,
 }
 
-/// What a slice did, and up to when what it examined stays.
+/// How much the purges of some seconds examined.
 #[derive(Debug, Clone, Copy, PartialEq, Eq)]
-pub struct Watched {
-    /// How many it examined, and how many of them left.
-    pub slice: Slice,
-    /// Up to when those stay that it examined, or more of them; of the numbers above the one at which the slice before it ended.
-    pub staying: Staying,
-    /// The round is known to be over with it.
-    pub over: bool,
+pub struct Purged {
+    /// The most looks of one slice of the states, if the store counts looks.
+    pub looks: u64,
+    /// The most states that one slice examined.
+    pub most_states: u64,
+    /// The most source nodes that one slice examined, and at no more it looked, if the store counts looks.
+    pub most_nodes: u64,
 }
 
-/// That those stay that are held of the numbers above one and up to another.
-#[derive(Debug, Clone, Copy, PartialEq, Eq)]
-pub struct Staying {
-    /// The number above which they are; none where it is of the least number too.
-    pub above: Option<u64>,
-    /// The greatest of the numbers; none where it is of the greatest number too.
-    pub last: Option<u64>,
-    /// A moment, in seconds, before which none of them leaves, as long as nothing comes; and, of source nodes, as long as no state
-    /// leaves. It is 0 where none is known.
-    pub until: u64,
-}
-
-impl Staying {
-    /// That all stay up to the moment 0, which says nothing.
-    pub fn unknown() -> Staying
-        ensures { result ≡ record { above = None; last = None; until = 0 } }
+impl Purged {
+    /// That of no second.
+    pub fn none() -> Purged
+        ensures { result ≡ purged_of_none }
     {
-        Staying {
-            above: None,
-            last: None,
-            until: 0,
+        Purged {
+            looks: 0,
+            most_states: 0,
+            most_nodes: 0,
+        }
+    }
+
+    /// That of one second, of which these are the slices and their looks.
+    pub fn of_slices(states: Slice, looks: u64, nodes: Slice, node_looks: u64) -> Purged
+        ensures { result ≡ record { looks = looks; most_states = states.examined; most_nodes = max nodes.examined node_looks } }
+    {
+        Purged {
+            looks,
+            most_states: states.examined,
+            most_nodes: nodes.examined.max(node_looks),
+        }
+    }
+
+    /// Up to which moment the seconds are done with a second of which this is told. Where it had nothing to examine, nothing is held, and
+    /// those after it change nothing.
+    pub(crate) fn second_after(self, second: u64, to: u64) -> u64
+        ensures { result ≡ (if (self.most_states == 0) && (self.most_nodes == 0) then to else second) }
+    {
+        if self.most_states == 0 && self.most_nodes == 0 {
+            to
+        } else {
+            second
+        }
+    }
+
+    /// That of some seconds with that of further ones: of each count the greater one.
+    pub fn greatest(self, further: Purged) -> Purged
+        ensures { result ≡ purged_both self further }
+    {
+        Purged {
+            looks: self.looks.max(further.looks),
+            most_states: self.most_states.max(further.most_states),
+            most_nodes: self.most_nodes.max(further.most_nodes),
         }
     }
 }

@@ -1,6 +1,6 @@
 //! What every kind of store does: the changes of the states and source nodes that it holds.
 
-ghost use Rattle.std.specs.Prelude.{◌≡◌, ◌+◌, ◌<◌, ◌≤◌, ◌^◌, [], Bool, false, true, None, Some, IfOk, IfSome, IsOk, IsSome, OnErr, OnOk, length, option_map};
+ghost use Rattle.std.specs.Prelude.{◌≡◌, ◌+◌, ◌<◌, ◌≤◌, ◌^◌, Bool, false, true, None, Some, IfOk, IfSome, IsOk, IsSome, OnErr, OnOk, length, option_map};
 ghost use Rattle.std.specs.Option.{option_and_then};
 ghost use Rattle.pfs_addr_values.specs.Packets.{run_limit};
 ghost use Rattle.pfs_conf_values.specs.Configs.{Conf, options_at};
@@ -9,13 +9,13 @@ ghost use Rattle.pfs_store_contract.specs.Admission.{key_inside, limit_met, wire
 ghost use Rattle.pfs_store_contract.specs.Calls.{IsAskedFree, IsFreeRefusal, answer_at, flushed_count, from_to_count, node_slice_of, onward_key, packet_limit, renewal_of, source_states, state_number, state_rule, state_slice_of, touch_of, world_asked, world_at, world_elsewhere, world_flushed, world_killed, world_touched};
 ghost use Rattle.pfs_store_contract.specs.Counts.{half_open};
 ghost use Rattle.pfs_store_contract.specs.Purging.{node_slice, state_slice};
-ghost use Rattle.pfs_store_contract.specs.Quiet.{NodesStay, StatesStay, world_after_quiet};
+ghost use Rattle.pfs_store_contract.specs.Seconds.{purged_of, seconds, world_after_purges};
 ghost use Rattle.pfs_store_contract.specs.Worlds.{IsUpToNow, World, holds_number, state_inside, state_numbered, state_with};
 ghost use Rattle.pfs_store_contract.specs.declared.records.Found.{Found};
 ghost use Rattle.pfs_store_contract.specs.declared.records.State.{State};
 
 use crate::kills::FromTo;
-use crate::records::{Found, Limit, Slice, StateNo, Staying, Touched, Watched};
+use crate::records::{Found, Limit, Purged, Slice, StateNo, Touched};
 use pfs_addr_values::{Addr, Dir, FlowKey, Meter, NoMemory, Packet};
 use pfs_conf_values::RuleNo;
 
@@ -283,59 +283,28 @@ pub trait Store {
         ensures most { meter.new ≤ meter.old + run_limit }
         ensures config { config self.new ≡ config self.old };
 
-    /// Does the slice of `purge_states`. It also returns up to when states stay, under the counts before it: those that it
-    /// examined, by their numbers; and whether the round is over. A kind of store that does not know it returns the moment 0.
-    /// (pf.conf(5), OPTIONS, "interval"; the rounds are own)
-    fn watch_states(&mut self, now: u64, meter: &mut Meter) -> Watched
-        requires moment { now ≤ 2 ^ 63 }
-        requires meter { meter.old ≤ 2 ^ 63 }
-        ensures answer { result.slice ≡ state_slice_of (config self.old) (world self.old) now }
-        ensures world { world self.new ≡ state_slice (config self.old) (world self.old) now }
-        ensures staying { StatesStay (config self.old) (world self.old).states result.staying (world self.new).states }
-        ensures over { result.over ≡ true → (world self.new).pending_states ≡ [] }
-        ensures fits { 0 < result.staying.until → length (world self.new).pending_states ≤ length (world self.new).states }
-        ensures looks { counts ≡ true → meter.new ≡ meter.old + result.slice.examined }
-        ensures uncounted { counts ≡ false → meter.new ≡ meter.old }
-        ensures most { meter.new ≤ meter.old + run_limit }
+    /// Does the purges of the seconds after one moment, up to another: in each a slice of the states, as `purge_states` does it, then
+    /// one of the source nodes, as `purge_nodes` does it. It returns how much the greatest slices examined. No memory is taken. A kind
+    /// of store may pass over seconds in which nothing leaves: then it looks at no record, but its cost may grow with what is
+    /// held. (pf.conf(5), OPTIONS, "interval"; the rounds are own)
+    fn purge_seconds(&mut self, from: u64, to: u64) -> Purged
+        requires order { from ≤ to }
+        requires moment { to < 2 ^ 32 }
+        ensures world { world self.new ≡ world_after_purges (config self.old) (world self.old) (seconds from to) }
+        ensures answer { result ≡ purged_of counts (config self.old) (world self.old) (seconds from to) }
         ensures config { config self.new ≡ config self.old }
     {
-        Watched {
-            slice: self.purge_states(now, meter),
-            staying: Staying::unknown(),
-            over: false,
+        let mut second = from;
+        let mut purged = Purged::none();
+        while second < to {
+            let mut looks = Meter::new();
+            let states = self.purge_states(second + 1, &mut looks);
+            let mut node_looks = Meter::new();
+            let nodes = self.purge_nodes(second + 1, &mut node_looks);
+            let done = Purged::of_slices(states, looks.count(), nodes, node_looks.count());
+            purged = purged.greatest(done);
+            second = done.second_after(second + 1, to);
         }
-    }
-
-    /// Does the slice of `purge_nodes`. It also returns up to when source nodes stay, where they get no state and lose none:
-    /// those that it examined, by their numbers, or more; and whether the round is over. A kind of store that does not know it
-    /// returns the moment 0. (pf.conf(5), OPTIONS, "src.track"; the rounds are own)
-    fn watch_nodes(&mut self, now: u64, meter: &mut Meter) -> Watched
-        requires meter { meter.old ≤ 2 ^ 63 }
-        ensures answer { result.slice ≡ node_slice_of (config self.old) (world self.old) now }
-        ensures world { world self.new ≡ node_slice (config self.old) (world self.old) now }
-        ensures staying { NodesStay (config self.old) (world self.old).states result.staying (world self.new).nodes }
-        ensures over { result.over ≡ true → (world self.new).pending_nodes ≡ [] }
-        ensures fits { 0 < result.staying.until → length (world self.new).pending_nodes ≤ length (world self.new).nodes }
-        ensures looks { counts ≡ true → meter.new ≡ meter.old + result.slice.examined }
-        ensures uncounted { counts ≡ false → meter.new ≡ meter.old }
-        ensures most { meter.new ≤ meter.old + run_limit }
-        ensures config { config self.new ≡ config self.old }
-    {
-        Watched {
-            slice: self.purge_nodes(now, meter),
-            staying: Staying::unknown(),
-            over: false,
-        }
-    }
-
-    /// Passes over some of so many seconds in which nothing leaves, and returns over how many. Both rounds go on by so
-    /// many slices, as if each of them had been done. A kind of store that cannot returns 0. It looks at no record, but its
-    /// cost may grow with what is held. (own)
-    fn pass_over(&mut self, seconds: u64) -> u64
-        ensures most { result ≤ seconds }
-        ensures world { world self.new ≡ world_after_quiet (config self.old) result (world self.old) }
-        ensures config { config self.new ≡ config self.old }
-    {
-        0
+        purged
     }
 }

@@ -1,8 +1,10 @@
 mod Comings
 mod Dropping
+mod Fewer
 mod Filings
 mod InsideLaws
 mod Leavings
+mod Quieting
 mod Meetings
 mod PassingNodes
 mod Reached
@@ -14,7 +16,7 @@ mod SourcePairs
 mod Stands
 mod Storing
 mod Stretches
-mod Told
 mod Turning
+mod Turns
 mod Tying
 mod Untils

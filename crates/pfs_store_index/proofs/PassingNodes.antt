@@ -4,13 +4,13 @@ use Rattle.std.specs.List.{AllByRecursion}
 use Rattle.pfs_conf_values.specs.Configs.{Conf}
 use Rattle.pfs_store_contract.specs.Counts.{node_states}
 use Rattle.pfs_store_contract.specs.Purging.{is_over}
-use Rattle.pfs_store_contract.specs.Quiet.{NodeStays}
+use Rattle.pfs_store_index.specs.Quiet.{NodeStays}
 use Rattle.pfs_store_contract.specs.declared.records.Node.{Node}
 use Rattle.pfs_store_contract.specs.declared.records.State.{State}
 use Rattle.pfs_store_records.specs.Keeping.{number_of_node}
 use Rattle.pfs_store_records.specs.Records.{between}
 use Rattle.pfs_store_records.specs.Retaining.{IsKeptUntil, is_past}
-use Rattle.pfs_store_records.specs.Tallies.{has_node_number, nodes_of, stateless}
+use Rattle.pfs_store_records.specs.Tallies.{has_node_number, nodes_of}
 use Rattle.pfs_store_index.specs.Ties.{IsCounted}
 use Rattle.pfs_store_records.specs.Walks.{IsPassing, StopsWalkAt}
 use Rattle.pfs_store_records.specs.declared.nodes.Tally.{Tally}
@@ -55,18 +55,3 @@ pub kept-nodes : (conf : Conf) (xs : List State) (a l until : ℕ) (ts : List Ta
     → AllByRecursion (λ (n : Node). between a l (node_number n) ≡ true → NodeStays conf xs until n) (nodes_of ts)
 kept-nodes conf xs a l until [] c h = tt
 kept-nodes conf xs a l until (t ∷ ts) (c, cs) (h, hs) = ((λ b z. h b (ap (λ (u : Tally). u.states) c ∙ z)), kept-nodes conf xs a l until ts cs hs)
-
--- where none is without states, none leaves before a state does
-pub tied-nodes : (conf : Conf) (xs : List State) (until : ℕ) (ts : List Tally) → AllByRecursion (IsCounted conf xs) ts → stateless ts ≡ 0 → AllByRecursion (NodeStays conf xs until) (nodes_of ts)
-tied-nodes conf xs until [] c e = tt
-tied-nodes conf xs until (t ∷ ts) (c, cs) e = go (tied-nodes conf xs until ts cs) (t.states == 0) refl e
-  where
-    some : (t.states == 0) ≡ false → node_states conf t.node.scope t.node.source xs ≡ 0 → ⊥
-    some i z =
-        let k : (t.states == 0) ≡ true = ap (λ n. n == 0) (ap (λ (u : Tally). u.states) c ∙ z) in
-        absurd (cc (i, k))
-
-    go : (stateless ts ≡ 0 → AllByRecursion (NodeStays conf xs until) (nodes_of ts)) → (b : Bool) → (t.states == 0) ≡ b → length (if b then t ∷ filter (λ (u : Tally). u.states == 0) ts else filter (λ (u : Tally). u.states == 0) ts) ≡ 0
-        → NodeStays conf xs until t.node × AllByRecursion (NodeStays conf xs until) (nodes_of ts)
-    go more true i k = absurd (omega (arith, k))
-    go more false i k = ((λ z. absurd (some i z)), more k)

@@ -4,15 +4,16 @@ use Rattle.std.specs.List.{AllByRecursion}
 use Rattle.pfs_store_contract.specs.Calls.{other_than}
 use Rattle.pfs_conf_values.specs.Configs.{Conf}
 use Rattle.pfs_store_contract.specs.Purging.{is_among, node_numbers, state_numbers}
-use Rattle.pfs_store_contract.specs.Quiet.{NodeStays}
+use Rattle.pfs_store_index.specs.Quiet.{NodeStays}
 use Rattle.pfs_store_contract.specs.declared.records.Node.{Node}
 use Rattle.pfs_store_contract.specs.declared.records.State.{State}
 use Rattle.pfs_store_records.specs.Records.{between}
 use Rattle.pfs_store_records.specs.Walks.{IsLeaver, IsNext, IsPassing, IsWalk, StayUntil}
 use Rattle.pfs_store_index.specs.Rounds.{waiting}
-use Rattle.pfs_store_index.specs.Staying.{NodeHolds, NodesHold, StatesHold}
+use Rattle.pfs_store_index.specs.Staying.{NodesHold, StatesHold}
 use Rattle.pfs_store_index.proofs.Retained.{node_number}
 use Rattle.pfs_store_index.proofs.Leavings.{state_number}
+use Rattle.pfs_store_index.proofs.Removals.{all-filter}
 use Rattle.pfs_store_index.proofs.Stretches.{among-append, among-between}
 use Rattle.pfs_store_records.proofs.Rising.{flip_eq}
 use Rattle.pfs_store_index.proofs.RisingWalks.{at_next}
@@ -30,16 +31,8 @@ module _ {X : Type 0} (number : X → ℕ) (Stays : ℕ → X → Type 0) where
   hold-none until [] = tt
   hold-none until (x ∷ xs) = ((λ e. absurd cc), hold-none until xs)
 
-  pub hold-filter : (p : X → Bool) (examined : List ℕ) (until : ℕ) (xs : List X) → Hold examined until xs → Hold examined until (filter p xs)
-  hold-filter p examined until [] h = tt
-  hold-filter p examined until (x ∷ xs) (h, hs) = go (p x) (hold-filter p examined until xs hs)
-    where
-      go : (b : Bool) → Hold examined until (filter p xs) → Hold examined until (if b then x ∷ filter p xs else filter p xs)
-      go true more = (h, more)
-      go false more = more
-
   -- where it has left, there is none of its number
-  pub one-gone : (n until : ℕ) (xs : List X) → HoldOne n until (filter (λ x. not (number x == n)) xs)
+  one-gone : (n until : ℕ) (xs : List X) → HoldOne n until (filter (λ x. not (number x == n)) xs)
   one-gone n until [] = tt
   one-gone n until (x ∷ xs) = go (number x == n) refl (one-gone n until xs)
     where
@@ -48,7 +41,7 @@ module _ {X : Type 0} (number : X → ℕ) (Stays : ℕ → X → Type 0) where
       go true e more = more
       go false e more = ((λ k. let f = flip_eq (number x) n false e in absurd (cc (k, f))), more)
 
-  pub one-among : (n until : ℕ) (xs : List X) → HoldOne n until xs → Hold (n ∷ []) until xs
+  one-among : (n until : ℕ) (xs : List X) → HoldOne n until xs → Hold (n ∷ []) until xs
   one-among n until [] h = tt
   one-among n until (x ∷ xs) (h, hs) = ((λ e. h (go (n == number x) e)), one-among n until xs hs)
     where
@@ -57,61 +50,47 @@ module _ {X : Type 0} (number : X → ℕ) (Stays : ℕ → X → Type 0) where
       go false e = e
 
   -- those that were passed by
-  pub hold-between : (above last until : ℕ) (ns : List ℕ) (xs : List X) → AllByRecursion (λ x. between above last (number x) ≡ true → Stays until x) xs → Hold (filter (between above last) ns) until xs
+  hold-between : (above last until : ℕ) (ns : List ℕ) (xs : List X) → AllByRecursion (λ x. between above last (number x) ≡ true → Stays until x) xs → Hold (filter (between above last) ns) until xs
   hold-between above last until ns [] h = tt
   hold-between above last until ns (x ∷ xs) (h, hs) = ((λ e. h (among-between above last (number x) ns e)), hold-between above last until ns xs hs)
 
-  -- those of two stretches
-  pub hold-both : ((u v : ℕ) (x : X) → v ≤ u → Stays u x → Stays v x) → (a b : List ℕ) (u v : ℕ) (xs : List X) → Hold a u xs → Hold b v xs → Hold (a ++ b) (min u v) xs
-  hold-both lower a b u v [] h k = tt
-  hold-both lower a b u v (x ∷ xs) (h, hs) (k, ks) = ((λ e. go e (is_among a (number x)) refl), hold-both lower a b u v xs hs ks)
-    where
-      go : is_among (a ++ b) (number x) ≡ true → (c : Bool) → is_among a (number x) ≡ c → Stays (min u v) x
-      go e true t = lower u (min u v) x (omega arith) (h t)
-      go e false t =
-          let f : is_among b (number x) ≡ true = sym (among-append a b (number x) ∙ ap (λ c. c || is_among b (number x)) t) ∙ e in
-          lower v (min u v) x (omega arith) (k f)
+  -- where more are examined: those of two stretches, a stretch after another, and one more, which has left
+  module _ (lower : (u v : ℕ) (x : X) → v ≤ u → Stays u x → Stays v x) where
+    hold-both : (a b : List ℕ) (u v : ℕ) (xs : List X) → Hold a u xs → Hold b v xs → Hold (a ++ b) (min u v) xs
+    hold-both a b u v [] h k = tt
+    hold-both a b u v (x ∷ xs) (h, hs) (k, ks) = ((λ e. go e (is_among a (number x)) refl), hold-both a b u v xs hs ks)
+      where
+        go : is_among (a ++ b) (number x) ≡ true → (c : Bool) → is_among a (number x) ≡ c → Stays (min u v) x
+        go e true t = lower u (min u v) x (omega arith) (h t)
+        go e false t =
+            let f : is_among b (number x) ≡ true = sym (among-append a b (number x) ∙ ap (λ c. c || is_among b (number x)) t) ∙ e in
+            lower v (min u v) x (omega arith) (k f)
+
+    pub hold-more : (i j u v : ℕ) (ws zs : List ℕ) (p : X → Bool) (xs xs' : List X) → zs ≡ drop i ws → xs' ≡ filter p xs
+        → Hold (take i ws) u xs → Hold (take j zs) v xs' → Hold (take (i + j) ws) (min u v) xs'
+    hold-more i j u v ws zs p xs xs' d e h k =
+        subst (λ ns. Hold ns (min u v) xs') (sym (take-add i j ws)) (hold-both (take i ws) (take j (drop i ws)) u v xs'
+        (subst (Hold (take i ws) u) (sym e) (all-filter p _ xs h)) (subst (λ ys. Hold (take j ys) v xs') d k))
+
+    pub hold-next : (n u : ℕ) (before after : List ℕ) (xs xs' : List X) → xs' ≡ filter (λ x. not (number x == n)) xs → after ≡ before ++ n ∷ [] → Hold before u xs → Hold after u xs'
+    hold-next n u before after xs xs' e t h =
+        let same : min u u ≡ u = omega arith in
+        subst (λ (q : List ℕ × ℕ × List X). Hold q.0 q.1 q.2) (λ i. (sym t i, same i, sym e i)) (hold-both before (n ∷ []) u u (filter (λ x. not (number x == n)) xs)
+        (all-filter (λ x. not (number x == n)) _ xs h) (one-among n u _ (one-gone n u xs)))
 
 -- ---- states
 
--- those that a walk passed by
-pub hold-passed : (moment : State → ℕ) (above last until : ℕ) (ns : List ℕ) (xs : List State) → StayUntil moment xs above last until
-    → StatesHold moment (filter (between above last) ns) until xs
-hold-passed moment above last until ns [] h = tt
-hold-passed moment above last until ns (x ∷ xs) (h, hs) =
-    ((λ e. h (among-between above last x.number ns e)), hold-passed moment above last until ns xs hs)
+abbrev pub StaysTo : (State → ℕ) → ℕ → State → Type 0
+StaysTo moment until s = until ≤ moment s
 
--- and the one at which it stopped leaves
-pub hold-left : (moment : State → ℕ) (n until : ℕ) (ns : List ℕ) (xs : List State) → StatesHold moment ns until xs
-    → StatesHold moment (ns ++ n ∷ []) until (filter (other_than n) xs)
-hold-left moment n until ns [] h = tt
-hold-left moment n until ns (x ∷ xs) (h, hs) = go (x.number == n) refl (hold-left moment n until ns xs hs)
-  where
-    only : (b : Bool) → (b || false) ≡ true → b ≡ true
-    only true e = e
-    only false e = e
-
-    among : (x.number == n) ≡ false → is_among (ns ++ n ∷ []) x.number ≡ true → (c : Bool) → is_among ns x.number ≡ c → is_among ns x.number ≡ true
-    among t e true u = u
-    among t e false u =
-        let f : (is_among (n ∷ []) x.number) ≡ true = sym (among-append ns (n ∷ []) x.number ∙ ap (λ c. c || is_among (n ∷ []) x.number) u) ∙ e in
-        let g = only (n == x.number) f in
-        let k = flip_eq x.number n false t in
-        absurd (cc (g, k))
-
-    go : (b : Bool) → (x.number == n) ≡ b → StatesHold moment (ns ++ n ∷ []) until (filter (other_than n) xs)
-        → StatesHold moment (ns ++ n ∷ []) until (if not b then x ∷ filter (other_than n) xs else filter (other_than n) xs)
-    go true t more = more
-    go false t more = ((λ e. h (among t e (is_among ns x.number) refl)), more)
-
-less_stays : (moment : State → ℕ) (u v : ℕ) (x : State) → v ≤ u → u ≤ moment x → v ≤ moment x
+pub less_stays : (moment : State → ℕ) (u v : ℕ) (x : State) → v ≤ u → StaysTo moment u x → StaysTo moment v x
 less_stays moment u v x h k = omega (arith, h, k)
 
 -- none of a stretch leaves
 pub hold-stays : (moment : State → ℕ) (leaves : State → Bool) (above most share stayed last until : ℕ) (o : Option State) (xs : List State)
     → IsWalk leaves xs above most share stayed last o → StayUntil moment xs above last until → StatesHold moment (take stayed (waiting above most (state_numbers xs))) until xs
 hold-stays moment leaves above most share stayed last until o xs w u =
-    subst (λ ns. StatesHold moment ns until xs) w.passed (hold-passed moment above last until (state_numbers xs) xs u)
+    subst (λ ns. StatesHold moment ns until xs) w.passed (hold-between state_number (StaysTo moment) above last until (state_numbers xs) xs u)
 
 -- the last one leaves
 pub hold-leaves : (moment : State → ℕ) (leaves : State → Bool) (above most share stayed last until : ℕ) (o : Option State) (s : State) (xs xs' : List State) → o ≡ Some s
@@ -121,23 +100,11 @@ hold-leaves moment leaves above most share stayed last until o s xs xs' q w u e 
     let ws = waiting above most (state_numbers xs) in
     let n : IsNext leaves xs last most stayed share s = subst (IsLeaver leaves xs last most stayed share) q w.leaver in
     let x = at_next stayed s.number ws (waiting last most (state_numbers xs)) w.rest n.next in
-    let h = hold-left moment s.number until (take stayed ws) xs (hold-stays moment leaves above most share stayed last until o xs w u) in
-    subst (λ ns. StatesHold moment ns until xs') (sym x.taken) (subst (λ ys. StatesHold moment (take stayed ws ++ s.number ∷ []) until ys) (sym e) h)
-
--- one stretch after another
-pub hold-more : (moment : State → ℕ) (i j u v r : ℕ) (ws zs : List ℕ) (p : State → Bool) (xs xs' : List State) → zs ≡ drop i ws → xs' ≡ filter p xs → r ≡ min u v
-    → StatesHold moment (take i ws) u xs → StatesHold moment (take j zs) v xs' → StatesHold moment (take (i + j) ws) r xs'
-hold-more moment i j u v r ws zs p xs xs' d e m h k =
-    let h' : StatesHold moment (take i ws) u xs' =
-    subst (λ ys. StatesHold moment (take i ws) u ys) (sym e) (hold-filter state_number (λ n (s : State). n ≤ moment s) p (take i ws) u xs h) in
-    let k' : StatesHold moment (take j (drop i ws)) v xs' = subst (λ ys. StatesHold moment (take j ys) v xs') d k in
-    let b : StatesHold moment (take i ws ++ take j (drop i ws)) (min u v) xs' =
-    hold-both state_number (λ n (s : State). n ≤ moment s) (less_stays moment) (take i ws) (take j (drop i ws)) u v xs' h' k' in
-    subst (λ n. StatesHold moment (take (i + j) ws) n xs') (sym m) (subst (λ ns. StatesHold moment ns (min u v) xs') (sym (take-add i j ws)) b)
+    hold-next state_number (StaysTo moment) (less_stays moment) s.number until (take stayed ws) _ xs xs' e x.taken (hold-stays moment leaves above most share stayed last until o xs w u)
 
 -- ---- nodes
 
-less_kept : (conf : Conf) (states : List State) (u v : ℕ) (x : Node) → v ≤ u → NodeStays conf states u x → NodeStays conf states v x
+pub less_kept : (conf : Conf) (states : List State) (u v : ℕ) (x : Node) → v ≤ u → NodeStays conf states u x → NodeStays conf states v x
 less_kept conf states u v x h k = λ z. let l = k z in omega (arith, h, l)
 
 -- those that a walk passed by
@@ -145,25 +112,3 @@ pub nodes-passed : (conf : Conf) (states : List State) (leaves : Node → Bool) 
     → AllByRecursion (λ (n : Node). between above last n.number ≡ true → NodeStays conf states until n) ns → NodesHold conf states (take stayed (waiting above most (node_numbers ns))) until ns
 nodes-passed conf states leaves above most share stayed last until ns w u =
     subst (λ ks. NodesHold conf states ks until ns) w.passed (hold-between node_number (NodeStays conf states) above last until (node_numbers ns) ns u)
-
--- one node more
-pub node-more : (conf : Conf) (states : List State) (n u v r : ℕ) (before after : List ℕ) (p : Node → Bool) (xs xs' : List Node) → xs' ≡ filter p xs → after ≡ before ++ n ∷ []
-    → r ≡ min u v → NodesHold conf states before u xs → NodeHolds conf states n v xs' → NodesHold conf states after r xs'
-node-more conf states n u v r before after p xs xs' e t m h k =
-    let h' : NodesHold conf states before u xs' =
-    subst (λ ys. NodesHold conf states before u ys) (sym e) (hold-filter node_number (NodeStays conf states) p before u xs h) in
-    let k' : NodesHold conf states (n ∷ []) v xs' = one-among node_number (NodeStays conf states) n v xs' k in
-    let b : NodesHold conf states (before ++ n ∷ []) (min u v) xs' =
-    hold-both node_number (NodeStays conf states) (less_kept conf states) before (n ∷ []) u v xs' h' k' in
-    subst (λ l. NodesHold conf states after l xs') (sym m) (subst (λ ns. NodesHold conf states ns (min u v) xs') (sym t) b)
-
--- one stretch after another
-pub nodes-more : (conf : Conf) (states : List State) (i j u v r : ℕ) (ws zs : List ℕ) (p : Node → Bool) (xs xs' : List Node) → zs ≡ drop i ws → xs' ≡ filter p xs → r ≡ min u v
-    → NodesHold conf states (take i ws) u xs → NodesHold conf states (take j zs) v xs' → NodesHold conf states (take (i + j) ws) r xs'
-nodes-more conf states i j u v r ws zs p xs xs' d e m h k =
-    let h' : NodesHold conf states (take i ws) u xs' =
-    subst (λ ys. NodesHold conf states (take i ws) u ys) (sym e) (hold-filter node_number (NodeStays conf states) p (take i ws) u xs h) in
-    let k' : NodesHold conf states (take j (drop i ws)) v xs' = subst (λ ys. NodesHold conf states (take j ys) v xs') d k in
-    let b : NodesHold conf states (take i ws ++ take j (drop i ws)) (min u v) xs' =
-    hold-both node_number (NodeStays conf states) (less_kept conf states) (take i ws) (take j (drop i ws)) u v xs' h' k' in
-    subst (λ n. NodesHold conf states (take (i + j) ws) n xs') (sym m) (subst (λ ns. NodesHold conf states ns (min u v) xs') (sym (take-add i j ws)) b)

@@ -1,5 +1,6 @@
 pub mod Filed
 pub mod Holdings
+pub mod Quiet
 pub mod Rounds
 pub mod Staying
 pub mod Stored

@@ -3,7 +3,7 @@ use Rattle.std.specs.Prelude.{ℕ, ◌≡◌, ◌≤◌, ◌==◌, true, List}
 use Rattle.std.specs.List.{AllByRecursion}
 use Rattle.pfs_conf_values.specs.Configs.{Conf}
 use Rattle.pfs_store_contract.specs.Purging.{is_among}
-use Rattle.pfs_store_contract.specs.Quiet.{NodeStays}
+use Rattle.pfs_store_index.specs.Quiet.{NodeStays}
 use Rattle.pfs_store_contract.specs.declared.records.Node.{Node}
 use Rattle.pfs_store_contract.specs.declared.records.State.{State}
 
@@ -14,7 +14,3 @@ StatesHold moment examined until states = AllByRecursion (λ (s : State). is_amo
 -- no node whose number is among these leaves before a moment, where these states are held
 abbrev pub NodesHold : Conf → List State → List ℕ → ℕ → List Node → Type 0
 NodesHold conf states examined until nodes = AllByRecursion (λ (n : Node). is_among examined n.number ≡ true → NodeStays conf states until n) nodes
-
--- the same of the node of one number
-abbrev pub NodeHolds : Conf → List State → ℕ → ℕ → List Node → Type 0
-NodeHolds conf states number until nodes = AllByRecursion (λ (n : Node). (number == n.number) ≡ true → NodeStays conf states until n) nodes

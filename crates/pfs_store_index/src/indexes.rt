@@ -13,7 +13,7 @@ ghost use Rattle.pfs_store_contract.specs.Leaving.{is_beside, node_after_leaving
 ghost use Rattle.pfs_store_contract.specs.Calls.{onward_key, other_than, told_at, touch_of, state_number, state_rule};
 ghost use Rattle.pfs_store_contract.specs.Plain.{AreCounts};
 ghost use Rattle.pfs_store_contract.specs.Purging.{is_over, node_numbers, state_numbers};
-ghost use Rattle.pfs_store_contract.specs.Quiet.{NodeStays};
+ghost use Rattle.pfs_store_index.specs.Quiet.{NodeStays};
 ghost use Rattle.pfs_store_contract.specs.Touching.{completes_at, nodes_touched, numbered_state_after};
 ghost use Rattle.pfs_store_contract.specs.Worlds.{IsUpToNow, holds_number, inner_key, lists, state_inside, state_with};
 ghost use Rattle.pfs_store_records.specs.Aside.{rekeyed};
@@ -164,13 +164,6 @@ impl<S: BuildHasher> Indexes<S> {
         ensures { nodes_of result.now ≡ self.now.nodes }
     {
         &self.nodes
-    }
-
-    /// Whether each source node has a state. So none leaves before a state does.
-    pub(crate) fn all_have_states(&self) -> bool
-        ensures { result ≡ true → (until : ℕ) → AllByRecursion (NodeStays self.now.config self.now.states until) self.now.nodes }
-    {
-        self.nodes.stateless() == 0
     }
 
     /// The state that has a key on the wire: one search.

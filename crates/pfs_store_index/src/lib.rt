@@ -10,6 +10,7 @@ mod insides;
 mod killing;
 mod laws;
 mod limits;
+mod passages;
 mod placing;
 mod purging;
 mod rounds;

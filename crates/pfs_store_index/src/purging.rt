@@ -1,27 +1,25 @@
 //! The walks of the purge: a slice of the round of the states, and a slice of that of the nodes.
 
-ghost use Rattle.std.specs.Prelude.{◌≡◌, ◌+◌, ◌-◌, ◌<◌, ◌≤◌, ◌^◌, [], IfSome, drop, filter, length, map, min, take, true};
+ghost use Rattle.std.specs.Prelude.{◌≡◌, ◌+◌, ◌-◌, ◌<◌, ◌≤◌, ◌^◌, IfSome, drop, filter, length, map, min, take, true};
 ghost use Rattle.std.specs.List.{AllByRecursion};
-ghost use Rattle.std.specs.Map.{keys_of};
 ghost use Rattle.pfs_conf_values.specs.Configs.{timeout_of};
 ghost use Rattle.pfs_conf_values.specs.declared.timeouts.TimeoutName.TheVariants as timeout;
 ghost use Rattle.pfs_store_contract.specs.Leaving.{node_after_leaving};
 ghost use Rattle.pfs_store_contract.specs.Plain.{AreCounts};
 ghost use Rattle.pfs_store_contract.specs.Purging.{is_among, is_over, node_numbers, node_stays, share, state_numbers, stays};
-ghost use Rattle.pfs_store_contract.specs.Quiet.{IsTold, StateStays};
-ghost use Rattle.pfs_store_records.specs.Records.{between};
+ghost use Rattle.pfs_store_index.specs.Quiet.{StateStays};
 ghost use Rattle.pfs_store_records.specs.Walks.{IsWalk, StayUntil, looks_of};
 ghost use Rattle.pfs_store_index.specs.Staying.{NodesHold, StatesHold};
-ghost use Rattle.pfs_store_index.specs.Stored.{AreUnread, IsNumbered, due_at, is_due};
+ghost use Rattle.pfs_store_index.specs.Stored.{AreUnread, due_at, is_due};
 ghost use Rattle.pfs_store_index.specs.Rounds.{IsExamined, nodes_survive, states_survive, waiting};
 
 use crate::expiring::Scaled;
 use crate::indexes::Indexes;
-use crate::rounds::is_over as is_round_over;
+use crate::passages::Told;
 use pfs_addr_values::Meter;
 use pfs_conf_values::{Config, TimeoutName};
-use pfs_store_contract::{Slice, Staying, Watched};
-use pfs_store_records::{Places, Round, Walk};
+use pfs_store_contract::Slice;
+use pfs_store_records::{Round, Walk};
 use std::hash::BuildHasher;
 
 /// What a walk did: the round after it, how many it examined, how many of them left, and up to when the others stay.
@@ -33,25 +31,13 @@ pub(crate) struct Steps {
 }
 
 impl Steps {
-    /// What is told of the walk of a round that stood here before it, after which these numbers are held, of so many that were
-    /// made: those that it examined stay. Where it ends a round of all that were made, none of a greater number is held.
-    pub(crate) fn watched(&self, places: &Places, from: Round, made: u64) -> Watched
-        requires order { self.now.round.cursor ≤ self.now.round.mark }
-        requires numbered { IsNumbered made (keys_of places.now.entries) }
-        ensures slice { result.slice ≡ self.now.slice }
-        ensures until { result.staying.until ≡ self.now.until }
-        ensures told { AllByRecursion (λ n. IsTold result.staying n → between from.cursor self.now.round.cursor n ≡ true) (keys_of places.now.entries) }
-        ensures over { result.over ≡ true → waiting self.now.round.cursor self.now.round.mark (keys_of places.now.entries) ≡ [] }
+    /// What is told of it.
+    pub(crate) fn told(&self, over: bool) -> Told
+        ensures { result ≡ record { slice = self.now.slice; until = self.now.until; over = over } }
     {
-        let over = is_round_over(places, self.round);
-        let goes_on = !over || self.round.mark < made;
-        Watched {
+        Told {
             slice: self.slice,
-            staying: Staying {
-                above: (from.cursor > 0).then_some(from.cursor),
-                last: goes_on.then_some(self.round.cursor),
-                until: self.until,
-            },
+            until: self.until,
             over,
         }
     }

@@ -4,7 +4,7 @@ ghost use Rattle.std.specs.Prelude.{◌≡◌, ◌+◌, ◌-◌, ◌<◌, ◌≤
 ghost use Rattle.std.specs.List.{AllByRecursion};
 ghost use Rattle.std.specs.Map.{keys_of};
 ghost use Rattle.pfs_store_contract.specs.Purging.{round};
-ghost use Rattle.pfs_store_contract.specs.Quiet.{round_after_slices};
+ghost use Rattle.pfs_store_index.specs.Quiet.{round_after_slices};
 ghost use Rattle.pfs_store_records.specs.Records.{IsRising, between};
 
 use pfs_store_records::{Places, Round};

@@ -1,26 +1,30 @@
 //! A store by indexes.
 
-ghost use Rattle.std.specs.Prelude.{◌≡◌, ◌+◌, ◌<◌, ◌≤◌, ◌^◌, ◌||◌, [], IfOk, IsOk, IsSome, None, Some, OnErr, OnOk, false, option_map, true};
+ghost use Rattle.std.specs.Prelude.{◌≡◌, ◌+◌, ◌<◌, ◌≤◌, ◌^◌, ◌||◌, ℕ, [], IfOk, IsOk, IsSome, None, Some, OnErr, OnOk, false, length, option_map, true};
 ghost use Rattle.pfs_addr_values.specs.Packets.{run_limit};
 ghost use Rattle.pfs_store_contract.specs.Admission.{leaves_node, world_after_refusal};
-ghost use Rattle.pfs_store_contract.specs.Calls.{told_at, touch_of, world_touched};
+ghost use Rattle.pfs_store_contract.specs.Calls.{node_slice_of, state_slice_of, told_at, touch_of, world_touched};
+ghost use Rattle.pfs_store_contract.specs.Passages.{done_after, done_of, purged_both, purged_in};
+ghost use Rattle.pfs_store_contract.specs.Purging.{node_slice, purge, state_slice};
+ghost use Rattle.pfs_store_contract.specs.Seconds.{seconds};
 ghost use Rattle.pfs_store_contract.specs.Touching.{completes_at};
 ghost use Rattle.pfs_store_contract.specs.Worlds.{IsUpToNow, empty_world, holds_number, state_numbered};
 ghost use Rattle.pfs_store_index.specs.Holdings.{is_reached};
+ghost use Rattle.pfs_store_index.specs.Quiet.{AreNodesKnown, AreStatesKnown, IsPassage, NodeSliceStays, SliceStays, world_after_quiet};
 
 use crate::expiring::counted_rules;
 use crate::flushing::{Flushed, flush};
 use crate::indexes::Indexes;
 use crate::killing::kill_from_to;
 use crate::limits::{limit_met, scope_left};
+use crate::passages::{Known, Passage, Told};
 use crate::purging::{share_of, walk_nodes, walk_states};
-use crate::rounds::{next_between, turned, under_way};
+use crate::rounds::{is_over, next_between, turned, under_way};
 use crate::stepping::new_phase;
 use pfs_addr_values::{Addr, Dir, FlowKey, Meter, NoMemory, Packet};
 use pfs_conf_values::{Config, LimitName, RuleNo, RulesHasher};
 use pfs_store_contract::{
-    Found, FromTo, Limit, Slice, State, StateNo, Staying, Store, Touched, Watched, apart,
-    inner_key, wire_key,
+    Found, FromTo, Limit, Purged, Slice, State, StateNo, Store, Touched, apart, inner_key, wire_key,
 };
 use pfs_store_records::Round;
 use std::alloc::Global;
@@ -29,8 +33,9 @@ use std::marker::Model;
 
 /// A store that finds states by their keys, by their numbers and by their sources, and source nodes by scope and
 /// source. The cost of a call grows with the logarithm of what is held, except for the states of a source that are
-/// flushed, for the slices of the purge, where an administrator takes states out, and for `pass_over`, which grows with what is held:
-/// it walks over the numbers of a round of states and of one of nodes, twice at most. It counts looks.
+/// flushed, for the slices of the purge, where an administrator takes states out, and for `purge_seconds`. Of the seconds after a
+/// whole round that told when the next state or node can leave, it passes over those before that moment: then it walks over the numbers
+/// of a round of states and of one of nodes, twice at most. It counts looks.
 ///
 /// Clauses see an `Indexed`: the configuration that it was made for, its world, and the records of the states.
 #[derive(Drop)]
@@ -280,14 +285,42 @@ impl<S: BuildHasher> Store for IndexStore<S> {
     }
 
     fn purge_states(&mut self, now: u64, meter: &mut Meter) -> Slice {
-        self.watch_states(now, meter).slice
+        self.slice_states(now, meter).slice
     }
 
     fn purge_nodes(&mut self, now: u64, meter: &mut Meter) -> Slice {
-        self.watch_nodes(now, meter).slice
+        self.slice_nodes(now, meter).slice
     }
 
-    fn watch_states(&mut self, now: u64, meter: &mut Meter) -> Watched {
+    fn purge_seconds(&mut self, from: u64, to: u64) -> Purged {
+        let mut at = Passage {
+            second: from,
+            purged: Purged::none(),
+            states: self.states_known(),
+            nodes: self.nodes_known(),
+        };
+        while at.second < to {
+            at = self.go_on(at, to);
+        }
+        at.purged
+    }
+}
+
+// ---- seconds pass
+
+impl<S: BuildHasher> IndexStore<S> {
+    /// The next slice of the states, up to when those stay that it examined, and whether the round is over with it.
+    fn slice_states(&mut self, now: u64, meter: &mut Meter) -> Told
+        requires moment { now ≤ 2 ^ 63 }
+        requires meter { meter.old ≤ 2 ^ 63 }
+        ensures answer { result.slice ≡ state_slice_of self.old.config self.old.world now }
+        ensures world { self.new.world ≡ state_slice self.old.config self.old.world now }
+        ensures until { SliceStays self.old.config self.old.world result.until self.new.world.states }
+        ensures over { result.over ≡ true → self.new.world.pending_states ≡ [] }
+        ensures looks { meter.new ≡ meter.old + result.slice.examined }
+        ensures most { meter.new ≤ meter.old + run_limit }
+        ensures config { self.new.config ≡ self.old.config }
+    {
         self.indexes.state_numbers_rise();
         let read = self.counts.len();
         let counts = self.indexes.rule_counts();
@@ -297,29 +330,121 @@ impl<S: BuildHasher> Store for IndexStore<S> {
         let round = under_way(self.indexes.records().order(), self.states_round, self.made);
         let steps = walk_states(&mut self.indexes, &self.counts, round, share, now, meter);
         self.states_round = steps.round;
-        steps.watched(self.indexes.records().order(), round, self.made)
+        steps.told(is_over(self.indexes.records().order(), steps.round))
     }
 
-    fn watch_nodes(&mut self, now: u64, meter: &mut Meter) -> Watched {
+    /// The next slice of the source nodes, as `slice_states` does it of the states.
+    fn slice_nodes(&mut self, now: u64, meter: &mut Meter) -> Told
+        requires meter { meter.old ≤ 2 ^ 63 }
+        ensures answer { result.slice ≡ node_slice_of self.old.config self.old.world now }
+        ensures world { self.new.world ≡ node_slice self.old.config self.old.world now }
+        ensures until { NodeSliceStays self.old.config self.old.world result.until self.new.world.nodes }
+        ensures over { result.over ≡ true → self.new.world.pending_nodes ≡ [] }
+        ensures looks { meter.new ≡ meter.old + result.slice.examined }
+        ensures most { meter.new ≤ meter.old + run_limit }
+        ensures config { self.new.config ≡ self.old.config }
+    {
         self.indexes.node_numbers_rise();
         let config = self.indexes.config();
         let share = share_of(config, config.limit(LimitName::SrcNodes));
         let round = under_way(self.indexes.nodes().order(), self.nodes_round, self.made);
         let steps = walk_nodes(&mut self.indexes, round, share, now, meter);
         self.nodes_round = steps.round;
-        let told = steps.watched(self.indexes.nodes().order(), round, self.made);
-        let staying = if self.indexes.all_have_states() {
-            Staying {
-                until: u64::MAX,
-                ..Staying::unknown()
-            }
-        } else {
-            told.staying
-        };
-        Watched { staying, ..told }
+        steps.told(is_over(self.indexes.nodes().order(), steps.round))
     }
 
-    fn pass_over(&mut self, seconds: u64) -> u64 {
+    /// What is known of the states where no slice has told anything.
+    fn states_known(&self) -> Known
+        ensures { (most : ℕ) → AreStatesKnown self.now.config self.now.world most result }
+    {
+        Known::before(is_over(self.indexes.records().order(), self.states_round))
+    }
+
+    /// What is known of the source nodes where no slice has told anything.
+    fn nodes_known(&self) -> Known
+        ensures { (most : ℕ) → AreNodesKnown self.now.config self.now.world most result }
+    {
+        Known::before(is_over(self.indexes.nodes().order(), self.nodes_round))
+    }
+
+    /// What is known of the source nodes behind a slice with which so many states left: one that lost its last may leave at once.
+    fn nodes_behind(&self, known: Known, left: u64) -> Known
+        ensures same { left ≡ 0 → result ≡ known }
+        ensures anew { 0 < left → (most : ℕ) → AreNodesKnown self.now.config self.now.world most result }
+    {
+        if left == 0 { known } else { self.nodes_known() }
+    }
+
+    /// Does the purge of the next second; or passes over all that are known to be quiet.
+    fn go_on(&mut self, at: Passage, to: u64) -> Passage
+        requires order { at.second < to }
+        requires moment { to < 2 ^ 32 }
+        requires passage { IsPassage self.old.config self.old.world at }
+        ensures order { (at.second < result.second) × (result.second ≤ to) }
+        ensures left { done_after true self.old.config (done_of self.new.world result.purged) (seconds result.second to)
+            ≡ done_after true self.old.config (done_of self.old.world at.purged) (seconds at.second to) }
+        ensures passage { IsPassage self.old.config self.new.world result }
+        ensures config { self.new.config ≡ self.old.config }
+    {
+        let quiet = at.quiet_seconds(to);
+        if quiet == 0 {
+            self.purge_second(at)
+        } else {
+            self.pass_over(at, quiet)
+        }
+    }
+
+    /// The purge of the next second.
+    fn purge_second(&mut self, at: Passage) -> Passage
+        requires moment { at.second < 2 ^ 32 }
+        requires passage { IsPassage self.old.config self.old.world at }
+        ensures second { result.second ≡ at.second + 1 }
+        ensures world { self.new.world ≡ purge self.old.config self.old.world (at.second + 1) }
+        ensures purged { result.purged ≡ purged_both at.purged (purged_in true self.old.config self.old.world (at.second + 1)) }
+        ensures passage { IsPassage self.old.config self.new.world result }
+        ensures config { self.new.config ≡ self.old.config }
+    {
+        let second = at.second + 1;
+        let mut looks = Meter::new();
+        let states = self.slice_states(second, &mut looks);
+        let known = self.nodes_behind(at.nodes, states.slice.removed);
+        let mut node_looks = Meter::new();
+        let nodes = self.slice_nodes(second, &mut node_looks);
+        let done = Purged::of_slices(states.slice, looks.count(), nodes.slice, node_looks.count());
+        Passage {
+            second,
+            purged: at.purged.greatest(done),
+            states: at.states.after(&states),
+            nodes: known.after(&nodes),
+        }
+    }
+
+    /// Passes over so many seconds in which nothing leaves: both rounds go on by so many slices. It looks at no record.
+    fn pass_over(&mut self, at: Passage, quiet: u64) -> Passage
+        requires moment { at.second + quiet < 2 ^ 32 }
+        ensures second { result.second ≡ at.second + quiet }
+        ensures world { self.new.world ≡ world_after_quiet self.old.config quiet self.old.world }
+        ensures purged { result.purged ≡ at.purged }
+        ensures fits { (length self.old.world.pending_states ≤ length self.old.world.states) × (length self.old.world.pending_nodes ≤ length self.old.world.nodes) }
+        ensures states { (most : ℕ) → AreStatesKnown self.old.config self.new.world most result.states }
+        ensures nodes { (most : ℕ) → AreNodesKnown self.old.config self.new.world most result.nodes }
+        ensures config { self.new.config ≡ self.old.config }
+    {
+        self.turn(quiet);
+        Passage {
+            second: at.second + quiet,
+            purged: at.purged,
+            states: self.states_known(),
+            nodes: self.nodes_known(),
+        }
+    }
+
+    /// Both rounds go on by so many slices, as if each had been done and nothing had left.
+    fn turn(&mut self, slices: u64)
+        ensures world { self.new.world ≡ world_after_quiet self.old.config slices self.old.world }
+        ensures fits { (length self.old.world.pending_states ≤ length self.old.world.states) × (length self.old.world.pending_nodes ≤ length self.old.world.nodes) }
+        ensures config { self.new.config ≡ self.old.config }
+    {
         let config = self.indexes.config();
         let share = share_of(config, config.limit(LimitName::States));
         let node_share = share_of(config, config.limit(LimitName::SrcNodes));
@@ -328,15 +453,14 @@ impl<S: BuildHasher> Store for IndexStore<S> {
             self.states_round,
             share,
             self.made,
-            seconds,
+            slices,
         );
         self.nodes_round = turned(
             self.indexes.nodes().order(),
             self.nodes_round,
             node_share,
             self.made,
-            seconds,
+            slices,
         );
-        seconds
     }
 }

@@ -9,6 +9,5 @@ mod Retentions
 mod Reversed
 pub mod Rising
 pub mod Searches
-mod Stateless
 pub mod TallyLaws
 pub mod Walking

@@ -13,7 +13,7 @@ use Rattle.pfs_store_contract.specs.declared.records.NodeScope.{NodeScope}
 use Rattle.pfs_store_contract.specs.declared.records.NodeScope.TheVariants as node_scope
 use Rattle.pfs_store_contract.specs.declared.records.State.{State}
 use Rattle.pfs_store_records.specs.Records.{Placed, placed_at, states_of}
-use Rattle.pfs_store_records.specs.Tallies.{count_of, nodes_of, stateless}
+use Rattle.pfs_store_records.specs.Tallies.{count_of, nodes_of}
 use Rattle.pfs_store_records.specs.declared.nodes.Tally.{Tally}
 
 -- the values at the places of these entries
@@ -81,11 +81,6 @@ pub record IsNoted (table : NodeScope × Addr → Option ℕ) (at : ℕ → Opti
   pub kept : AreInPlace number_of_node (NodeIsAt table) at es
   pub found : (source : NodeScope × Addr) (place : ℕ) → table source ≡ Some place → IsFoundAt at es source place
   pub counted : (scope : NodeScope) → count_of rules global scope ≡ scope_nodes scope (nodes_of (values_at at es))
-
--- and so many of them have no state
-pub record AreNoted (table : NodeScope × Addr → Option ℕ) (at : ℕ → Option Tally) (es : List (ℕ × ℕ)) (rules : List ℕ) (global count : ℕ) : Type 0 where
-  pub noted : IsNoted table at es rules global
-  pub unused : count ≡ stateless (values_at at es)
 
 -- ---- counts of scopes
 

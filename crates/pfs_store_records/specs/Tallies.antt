@@ -32,10 +32,6 @@ pub record IsOrderly (tallies : List Tally) : Type 0 where
   pub rising : IsRising (node_numbers (nodes_of tallies))
   pub distinct : IsDistinct same_node tallies
 
--- how many of the nodes have no state
-abbrev pub stateless : List Tally → ℕ
-stateless tallies = length (filter (λ (t : Tally). t.states == 0) tallies)
-
 -- ---- changes
 
 -- there is a tally of this one's scope, source and number

@@ -8,10 +8,10 @@ ghost use Rattle.slab.specs.Slab.{ContainsKey};
 ghost use Rattle.pfs_store_contract.specs.Counts.{scope_nodes};
 ghost use Rattle.pfs_store_contract.specs.Purging.{node_numbers};
 ghost use Rattle.pfs_store_records.specs.Changes.{CanChange, at_node, changed_by};
-ghost use Rattle.pfs_store_records.specs.Keeping.{Anywhere, AreInPlace, number_of_node, one_if, tally_in, values_at};
+ghost use Rattle.pfs_store_records.specs.Keeping.{Anywhere, AreInPlace, number_of_node, tally_in, values_at};
 ghost use Rattle.pfs_store_records.specs.Records.{IsAbove, IsRising, between};
 ghost use Rattle.pfs_store_records.specs.Retaining.{IsKeptUntil, is_past};
-ghost use Rattle.pfs_store_records.specs.Tallies.{IsOrderly, has_node_number, is_tally, nodes_of, other_node, stateless};
+ghost use Rattle.pfs_store_records.specs.Tallies.{IsOrderly, has_node_number, is_tally, nodes_of, other_node};
 ghost use Rattle.pfs_store_records.specs.declared.nodes.Tally.{Tally};
 ghost use Rattle.pfs_store_records.specs.Walks.{IsPassing, StopsWalkAt, looks_of};
 
@@ -62,20 +62,19 @@ pub struct Nodes<S: BuildHasher> {
     order: Places,
     table: IndexMap<Tracked, u32, S>,
     counts: ScopeCounts,
-    stateless: u64,
 }
 
 impl<S: BuildHasher> Model for Nodes<S> {
     ghost use Rattle.std.specs.Prelude.{List};
     ghost use Rattle.indexmap.specs.IndexMap.{get};
     ghost use Rattle.pfs_store_records.specs.declared.nodes.Tally.{Tally};
-    ghost use Rattle.pfs_store_records.specs.Keeping.{AreNoted, same_source, tally_in, values_at};
+    ghost use Rattle.pfs_store_records.specs.Keeping.{IsNoted, same_source, tally_in, values_at};
 
     ghost Value = { List Tally };
 
     ghost view = { λ n. values_at (tally_in n.slab) n.order.entries };
 
-    ghost invariant = { λ n. AreNoted (get same_source n.table) (tally_in n.slab) n.order.entries n.counts.rules.items n.counts.global n.stateless };
+    ghost invariant = { λ n. IsNoted (get same_source n.table) (tally_in n.slab) n.order.entries n.counts.rules.items n.counts.global };
 }
 
 impl<S: BuildHasher> Nodes<S> {
@@ -89,7 +88,6 @@ impl<S: BuildHasher> Nodes<S> {
             order: Places::new(alloc),
             table: IndexMap::with_hasher(alloc, hasher),
             counts: ScopeCounts::new(alloc),
-            stateless: 0,
         }
     }
 
@@ -98,13 +96,6 @@ impl<S: BuildHasher> Nodes<S> {
         ensures { result ≡ length self.now }
     {
         self.order.len() as u64
-    }
-
-    /// How many of the nodes have no state. It takes no memory.
-    pub fn stateless(&self) -> u64
-        ensures { result ≡ stateless self.now }
-    {
-        self.stateless
     }
 
     /// The numbers of the nodes rise, and no two are of one scope and source: a fact for proofs, which computes nothing.
@@ -176,7 +167,6 @@ impl<S: BuildHasher> Nodes<S> {
             Ok(_) => {
                 self.slab.insert_reserved(tally);
                 self.counts.add(tally.node.scope);
-                self.stateless = counted(self.stateless, &tally);
                 Ok(())
             }
             Err(_) => unreachable!(),
@@ -191,15 +181,12 @@ impl<S: BuildHasher> Nodes<S> {
         ensures tally { result ≡ option_map (changed_by change) (find (is_tally scope source) self.old) }
         ensures absent { result ≡ None → (self.new ≡ self.old) × (find (is_tally scope source) self.old ≡ None) }
     {
-        // As in `push`: no count is near the greatest number.
-        let _count = self.order.len();
         match self.table.get(&Tracked { scope, source }) {
             Some(place) => {
                 let place = *place as usize;
                 let before = self.slab[place];
                 let tally = changed(before, change);
                 self.slab[place] = tally;
-                self.stateless = counted(uncounted(self.stateless, &before), &tally);
                 Some(tally)
             }
             None => None,
@@ -220,34 +207,9 @@ impl<S: BuildHasher> Nodes<S> {
                     source: tally.node.source,
                 });
                 self.counts.take(tally.node.scope);
-                self.stateless = uncounted(self.stateless, &tally);
             }
             None => unreachable!(),
         }
-    }
-}
-
-/// How many have no state, where this one is counted with so many others.
-fn counted(stateless: u64, tally: &Tally) -> u64
-    requires { stateless < 2 ^ 64 - 1 }
-    ensures { result ≡ stateless + one_if (tally.now.states == 0) }
-{
-    if tally.states == 0 {
-        stateless + 1
-    } else {
-        stateless
-    }
-}
-
-/// How many have no state, where this one was counted and is so no more.
-fn uncounted(stateless: u64, tally: &Tally) -> u64
-    requires { one_if (tally.now.states == 0) ≤ stateless }
-    ensures { result + one_if (tally.now.states == 0) ≡ stateless }
-{
-    if tally.states == 0 {
-        stateless - 1
-    } else {
-        stateless
     }
 }
 

@@ -23,7 +23,7 @@ from pfplan.common.outputs import check_folder, part_file, whole_folder
 from pfplan.common.repository import DIFFERENCES, check_program
 from pfplan.pages.agreement_texts import page_of, text_of
 from pfplan.pages.differences import differences_beside
-from pfplan.pages.report_page import PAGE
+from pfplan.pages.frames import PAGE
 from pfplan.pf.conversion import Ruleset, write_ruleset
 from pfplan.replays.runs import replay_into
 from pfplan.traces.captures import Seen, make_trace

@@ -20,10 +20,10 @@ from pfplan.common.inputs import check_readable
 from pfplan.common.outputs import check_folder, whole_folder
 from pfplan.common.repository import check_program
 from pfplan.pages.doubt_texts import doubt_lines
+from pfplan.pages.frames import PAGE
 from pfplan.pages.play_folder import files_of, names_of, write_plays
 from pfplan.pages.play_texts import headline_of, users_of
 from pfplan.pages.record_texts import letters
-from pfplan.pages.report_page import PAGE
 from pfplan.plays.expecting import MOST, check_expected
 from pfplan.plays.model import Scenario
 from pfplan.plays.reading import read_scenario

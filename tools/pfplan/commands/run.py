@@ -24,7 +24,8 @@ from pfplan.common.inputs import Kind, check_readable, kind_of, name_of, regular
 from pfplan.common.outputs import check_folder, part_file, whole_folder
 from pfplan.common.repository import DIFFERENCES, check_program
 from pfplan.pages.doubt_texts import doubt_lines
-from pfplan.pages.report_page import PAGE, Subject, write_answer
+from pfplan.pages.frames import PAGE
+from pfplan.pages.report_page import Subject, write_answer
 from pfplan.pages.rule_notes import frame_lines, way_lines
 from pfplan.pages.timeline_pictures import FILES
 from pfplan.pf.conversion import Ruleset, machine_of, write_ruleset

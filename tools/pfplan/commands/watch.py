@@ -29,7 +29,8 @@ from pfplan.common.networks import Network
 from pfplan.common.outputs import check_folder, make_folder, part_file, whole_folder
 from pfplan.common.repository import check_program
 from pfplan.pages.doubt_texts import doubt_lines
-from pfplan.pages.report_page import PAGE, Subject, write_answer
+from pfplan.pages.frames import PAGE
+from pfplan.pages.report_page import Subject, write_answer
 from pfplan.pages.rule_notes import way_lines
 from pfplan.pages.screens import Screen, forgotten_text
 from pfplan.pf.conversion import Ruleset, machine_of, write_ruleset

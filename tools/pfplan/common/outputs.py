@@ -22,6 +22,8 @@ from pfplan.common.listings import NAME, Listing, checksum_of, listing_of
 
 _OPEN_FILE = re.compile(r"/dev/(?:fd/([0-9]{1,9})|stdin|stdout|stderr)")
 _OPEN_NAMES = {"/dev/stdin": 0, "/dev/stdout": 1, "/dev/stderr": 2}
+# Bytes that go to a file at a time.
+_AT_A_TIME = 1 << 20
 
 
 def is_file_place(path: Path | None) -> bool:
@@ -150,7 +152,7 @@ def part_file(path: Path) -> Iterator[TextIO]:
 
 
 def _opened(path: Path) -> TextIO:
-    return open(path, "w", encoding="utf-8", errors="surrogateescape", newline="\n")
+    return open(path, "w", _AT_A_TIME, encoding="utf-8", errors="surrogateescape", newline="\n")
 
 
 @contextlib.contextmanager

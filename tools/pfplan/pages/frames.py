@@ -8,6 +8,8 @@ from collections.abc import Iterable, Sequence
 from pfplan.pages.markup import Child, Markup, join, tag
 from pfplan.pages.pictures import Role
 
+# the file of a page in an answer's folder
+PAGE = "report.html"
 # letters of a word that is never broken: an IPv6 prefix has 43
 LONGEST = 43
 # the page may load nothing and run nothing, whatever stands in it
@@ -187,3 +189,12 @@ def figure(caption: Iterable[Child], picture: Markup) -> Markup:
 def gallery(figures: Sequence[Markup]) -> Markup:
     """Figures side by side, as many in a row as the page is wide enough for."""
     return tag("div", *figures, class_="pictures few" if len(figures) in (1, 2, 4) else "pictures")
+
+
+def more_of(differences: str) -> Markup:
+    """Where more is said of what a replay can't know."""
+    return paragraph(
+        "How an answer can differ from a running pf's, and which way: ",
+        tag("a", "docs/DIFFERENCES.md", href=differences),
+        " of pfsrc.",
+    )

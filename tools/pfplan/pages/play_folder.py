@@ -10,12 +10,11 @@ from pfplan.common.outputs import part_file
 from pfplan.common.repository import DIFFERENCES
 from pfplan.pages.differences import differences_beside
 from pfplan.pages.doubt_texts import doubt_lines
-from pfplan.pages.frames import PICTURE_STYLE
+from pfplan.pages.frames import PAGE, PICTURE_STYLE
 from pfplan.pages.pictures import standalone
 from pfplan.pages.play_pages import drawn_of, page_of
 from pfplan.pages.play_texts import text_of
 from pfplan.pages.record_texts import letters
-from pfplan.pages.report_page import PAGE
 from pfplan.pages.timeline_pictures import FILES
 
 

@@ -12,12 +12,11 @@ from pfplan.common.figures import counted
 from pfplan.common.limits import ADVICE
 from pfplan.common.visible import visible
 from pfplan.pages.doubt_texts import doubt_parts
-from pfplan.pages.frames import answer, bullets, code, document, figure, gallery, key, section, soft, table
+from pfplan.pages.frames import answer, bullets, code, document, figure, gallery, key, more_of, section, soft, table
 from pfplan.pages.markup import Child, Markup, join, tag
 from pfplan.pages.pictures import Role, draw
 from pfplan.pages.play_texts import advised, all_are_served, headline_of, rows_of, shut_out, subject_of, users_of, when
 from pfplan.pages.record_texts import WHY
-from pfplan.pages.report_page import more_of
 from pfplan.pages.timeline_pictures import MAKERS, most_of
 from pfplan.plays.model import Scenario
 from pfplan.plays.playing import Played

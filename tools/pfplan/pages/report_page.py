@@ -22,7 +22,20 @@ from pfplan.common.limits import ADVICE, BY_WORD
 from pfplan.common.outputs import part_file
 from pfplan.pages.differences import differences_beside
 from pfplan.pages.doubt_texts import doubt_parts
-from pfplan.pages.frames import PICTURE_STYLE, answer, bullets, code, document, gallery, paragraph, section, soft, table
+from pfplan.pages.frames import (
+    PAGE,
+    PICTURE_STYLE,
+    answer,
+    bullets,
+    code,
+    document,
+    gallery,
+    more_of,
+    paragraph,
+    section,
+    soft,
+    table,
+)
 from pfplan.pages.margin_texts import table_of as margins_table
 from pfplan.pages.margin_texts import verdict
 from pfplan.pages.markup import Child, Markup, join, tag
@@ -41,7 +54,6 @@ from pfplan.pages.rule_notes import (
 from pfplan.pages.summary_texts import text_of
 from pfplan.pages.timeline_pictures import FILES, Drawn, drawn_kinds
 
-PAGE = "report.html"
 LIMITS_OF_A_REPLAY = (
     "Nobody in a trace reacts: a client that is refused does not try again, and its other packets come all the same.",
     "pf lets states that have expired or were killed go later, by up to some interval seconds, so near a limit it "
@@ -190,15 +202,6 @@ def page_of(summary: Summary, subject: Subject, figures: Sequence[Markup], diffe
     parts.append(section("What a replay can't know", bullets(unknown), more_of(differences)))
     parts.append(tag("footer", FOOTER))
     return document(title, parts)
-
-
-def more_of(differences: str) -> Markup:
-    """Where more is said of what a replay can't know."""
-    return paragraph(
-        "How an answer can differ from a running pf's, and which way: ",
-        tag("a", "docs/DIFFERENCES.md", href=differences),
-        " of pfsrc.",
-    )
 
 
 def span_of(summary: Summary) -> str:

@@ -119,14 +119,15 @@ class Pfsrc:
         return found
 
     def _write(self, records: bytes) -> None:
-        if self._kept.trace:
-            self._kept.trace.write(records)
+        """Sends records, and keeps them while the program works on them."""
         try:
             sent = os.write(self._in, records)
             while sent < len(records):
                 sent += os.write(self._in, memoryview(records)[sent:])
         except BrokenPipeError:
             raise self._trouble() from None
+        if self._kept.trace:
+            self._kept.trace.write(records)
 
     def _read(self, count: int) -> list[str]:
         """So many lines.

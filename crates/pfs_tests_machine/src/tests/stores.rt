@@ -6,7 +6,7 @@ use super::tried::Tried;
 use pfs_addr_values::{Addr, Dir, FlowKey, Packet};
 use pfs_conf::{Config, RuleNo};
 use pfs_store::IndexStore;
-use pfs_store_contract::{Limit, StateNo, Staying, Store, Touched};
+use pfs_store_contract::{Limit, StateNo, Store, Touched};
 use pfs_store_plain::PlainStore;
 use pfs_tests_cases::{A1, A2, ACK, SYN, SYN_ACK, Sent, UNSCALED, configured, hosts, packet, same};
 use pfs_track::Score;
@@ -44,12 +44,8 @@ pub enum Step {
     States(u64, u64),
     /// So does one of the source nodes.
     Nodes(u64, u64),
-    /// A slice of the states examines so many, reports which of them stay up to when, and whether the round is over.
-    WatchStates(u64, Told, bool),
-    /// So does one of the source nodes.
-    WatchNodes(u64, Told, bool),
-    /// So many seconds are passed over.
-    PassOver(u64),
+    /// The seconds pass up to this moment: at most so many states, and so many source nodes, are examined in one.
+    PassTo(u64, u64, u64),
     /// So many states and source nodes are held, and so many numbers were ever used.
     Held(u64, u64, u64),
     /// So many states are half open.
@@ -57,9 +53,6 @@ pub enum Step {
     /// The first source's ACK from this port brings a SYN cookie, and is admitted at a rule.
     Cookie(u16, u32, Result<u64, Limit>),
 }
-
-/// Those above a number and up to another stay up to a moment.
-type Told = (Option<u64>, Option<u64>, u64);
 
 /// When it is done, and what.
 pub type Row = (u64, Step);
@@ -182,22 +175,10 @@ fn leave<S: Store>(rt: &impl Abort, tried: &mut Tried<S>, step: &Step) -> Result
     Ok(())
 }
 
-fn range(staying: &Staying) -> Told {
-    (staying.above, staying.last, staying.until)
-}
-
-fn watch<S: Store>(rt: &impl Abort, tried: &mut Tried<S>, step: &Step) {
-    match *step {
-        Step::WatchStates(examined, staying, over) => {
-            let told = tried.watch_states();
-            same!(rt; (told.slice.examined, range(&told.staying), told.over), (examined, staying, over));
-        }
-        Step::WatchNodes(examined, staying, over) => {
-            let told = tried.watch_nodes();
-            same!(rt; (told.slice.examined, range(&told.staying), told.over), (examined, staying, over));
-        }
-        Step::PassOver(seconds) => same!(rt; tried.pass_over(seconds), seconds),
-        _ => {}
+fn pass<S: Store>(rt: &impl Abort, tried: &mut Tried<S>, step: &Step) {
+    if let Step::PassTo(now, most_states, most_nodes) = *step {
+        let purged = tried.pass_to(rt, now);
+        same!(rt; (purged.most_states, purged.most_nodes), (most_states, most_nodes));
     }
 }
 
@@ -223,7 +204,7 @@ fn follow<S: Store>(rt: &impl Abort, tried: &mut Tried<S>, rows: &[Row]) -> Resu
         tried.go_to(rt, row.0);
         come(rt, tried, row)?;
         leave(rt, tried, &row.1)?;
-        watch(rt, tried, &row.1);
+        pass(rt, tried, &row.1);
         look(rt, tried, &row.1)?;
     }
     Ok(())
@@ -510,45 +491,44 @@ const PASSED: &[Row] = &[
     (5, Step::Admit(A1, 3, 0, Ok(3))),
     (5, Step::Admit(A2, 4, 0, Ok(4))),
     (5, Step::Admit(A1, 5, 0, Ok(5))),
-    (6, Step::WatchStates(2, (None, Some(2), 10), false)),
-    (6, Step::WatchNodes(1, (None, None, u64::MAX), false)),
-    (7, Step::WatchStates(2, (Some(2), Some(4), 10), false)),
-    (7, Step::WatchNodes(1, (None, None, u64::MAX), true)),
-    (8, Step::WatchStates(1, (Some(4), None, 10), true)),
-    (8, Step::PassOver(4)),
-    (13, Step::States(2, 2)),
-    (14, Step::States(1, 1)),
-    (15, Step::WatchStates(2, (None, None, u64::MAX), true)),
-    (15, Step::WatchNodes(1, (None, Some(1), 35), false)),
-    (16, Step::WatchNodes(1, (Some(1), None, 33), true)),
-    (16, Step::PassOver(3)),
-    (33, Step::Nodes(1, 1)),
-    (35, Step::Nodes(1, 1)),
-    (35, Step::Held(0, 0, 5)),
+    (5, Step::PassTo(9, 2, 1)),
+    (9, Step::Held(5, 2, 5)),
+    (9, Step::PassTo(12, 2, 1)),
+    (12, Step::Held(0, 2, 5)),
+    (12, Step::PassTo(30, 0, 1)),
+    (30, Step::Held(0, 2, 5)),
+    (30, Step::PassTo(31, 0, 1)),
+    (31, Step::Held(0, 1, 5)),
+    (31, Step::PassTo(32, 0, 1)),
+    (32, Step::Held(0, 0, 5)),
+    (32, Step::PassTo(4294967295, 0, 0)),
+    (4294967295, Step::Held(0, 0, 5)),
 ];
 
-/// Of four seconds three are a whole round of the states, and two rounds of the nodes. The states expire at moment 10; the source
-/// of the fourth has none from moment 13 on, and the other one from 15
+/// Three seconds are a whole round of the states, two one of the nodes. The states expire at moment 10, and have left at 12; the source
+/// of the fourth may leave from moment 30 on, and is examined at 31; the other one may from 32 on
 #[test]
 fn seconds_are_passed_over_by_rounds(rt: HostRuntime) -> Result<(), Fail> {
-    let config = configured(rt.alloc(), UNSCALED, SLICES)?;
-    tell_indexed(&rt, &config, PASSED)
+    tell(&rt, SLICES, PASSED)
 }
 
 const JOINED: &[Row] = &[
     (5, Step::Admit(A1, 1, 0, Ok(1))),
     (5, Step::Admit(A1, 2, 0, Ok(2))),
     (5, Step::Admit(A1, 3, 0, Ok(3))),
-    (6, Step::WatchStates(2, (None, Some(2), 10), false)),
+    (5, Step::PassTo(6, 2, 1)),
     (6, Step::Admit(A1, 4, 0, Ok(4))),
-    (7, Step::WatchStates(1, (Some(2), Some(3), 10), true)),
-    (8, Step::WatchStates(2, (None, Some(2), 10), false)),
-    (9, Step::WatchStates(2, (Some(2), None, 10), true)),
+    (6, Step::PassTo(9, 2, 1)),
+    (9, Step::Held(4, 1, 4)),
+    (9, Step::PassTo(10, 2, 1)),
+    (10, Step::Held(2, 1, 4)),
+    (10, Step::PassTo(11, 2, 1)),
+    (11, Step::Held(0, 1, 4)),
 ];
 
-/// The fourth state comes while a round is under way: the end of that round says nothing of it, the end of the next one does
+/// The fourth state comes while a round is under way: the end of that round says nothing of it, the end of the next one does; it leaves at
+/// its own moment
 #[test]
 fn a_slice_says_nothing_of_a_state_that_it_did_not_examine(rt: HostRuntime) -> Result<(), Fail> {
-    let config = configured(rt.alloc(), UNSCALED, SLICES)?;
-    tell_indexed(&rt, &config, JOINED)
+    tell(&rt, SLICES, JOINED)
 }

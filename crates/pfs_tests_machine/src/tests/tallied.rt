@@ -4,7 +4,7 @@ ghost use Rattle.std.specs.Prelude.{◌≡◌};
 
 use pfs_addr_values::{Addr, Dir, FlowKey, Meter, NoMemory, Packet};
 use pfs_conf::RuleNo;
-use pfs_store_contract::{Found, FromTo, Limit, Slice, StateNo, Store, Touched};
+use pfs_store_contract::{Found, FromTo, Limit, Purged, Slice, StateNo, Store, Touched};
 
 /// Any store, with a count of the calls that change it.
 #[derive(Drop)]
@@ -135,5 +135,10 @@ impl<S: Store> Store for Tallied<S> {
     fn purge_nodes(&mut self, now: u64, meter: &mut Meter) -> Slice {
         self.tick();
         self.inner.purge_nodes(now, meter)
+    }
+
+    fn purge_seconds(&mut self, from: u64, to: u64) -> Purged {
+        self.tick();
+        self.inner.purge_seconds(from, to)
     }
 }

@@ -6,7 +6,7 @@ ghost use Rattle.pfs_store_contract.specs.Worlds.{empty_world, holds_number};
 use pfs_addr_values::{Addr, Dir, FlowKey, Meter, Packet, RUN_LIMIT};
 use pfs_conf::{Config, RuleNo};
 use pfs_store_contract::{
-    Found, FromTo, Limit, Slice, StateNo, Store, Touched, Watched, inner_key, wire_key,
+    Found, FromTo, Limit, Purged, Slice, StateNo, Store, Touched, inner_key, wire_key,
 };
 use std::marker::Model;
 use std::process::Abort;
@@ -138,20 +138,16 @@ impl<'a, S: Store> Tried<'a, S> {
         self.store.purge_nodes(self.now, &mut meter)
     }
 
-    /// A slice of the states that returns up to when they stay.
-    pub fn watch_states(&mut self) -> Watched {
-        let mut meter = Meter::new();
-        self.store.watch_states(self.now, &mut meter)
+    /// Goes on to a moment as `go_to` does, and does the purges of all seconds up to it.
+    pub fn pass_to(&mut self, rt: &impl Abort, now: u64) -> Purged {
+        let from = self.now;
+        self.go_to(rt, now);
+        self.purge_since(rt, from)
     }
 
-    /// A slice of the source nodes that returns up to when they stay.
-    pub fn watch_nodes(&mut self) -> Watched {
-        let mut meter = Meter::new();
-        self.store.watch_nodes(self.now, &mut meter)
-    }
-
-    /// So many seconds are passed over: how many were.
-    pub fn pass_over(&mut self, seconds: u64) -> u64 {
-        self.store.pass_over(seconds)
+    /// The purges of all seconds after a moment that is not past.
+    fn purge_since(&mut self, rt: &impl Abort, from: u64) -> Purged {
+        assert!(rt; from <= self.now && self.now <= 4294967295);
+        self.store.purge_seconds(from, self.now)
     }
 }

@@ -5,17 +5,16 @@ use Rattle.std.proofs.lemmas.Bool.Decides.{nat_tests}
 use Rattle.pfs_conf_values.specs.Configs.{Conf}
 use Rattle.pfs_store_contract.specs.Counts.{node_states}
 use Rattle.pfs_store_contract.specs.Purging.{is_over, node_numbers}
-use Rattle.pfs_store_contract.specs.Quiet.{NodeStays}
+use Rattle.pfs_store_index.specs.Quiet.{NodeStays}
 use Rattle.pfs_store_contract.specs.declared.records.Node.{Node}
 use Rattle.pfs_store_contract.specs.declared.records.State.{State}
 use Rattle.pfs_store_records.specs.Walks.{IsStop, StopsWalkAt}
 use Rattle.pfs_store_records.specs.declared.nodes.Tally.{Tally}
 use Rattle.pfs_store_index.specs.Rounds.{waiting}
-use Rattle.pfs_store_index.specs.Staying.{NodeHolds}
 use Rattle.pfs_store_index.proofs.Retained.{node_number}
 use Rattle.pfs_store_index.proofs.RisingWalks.{all-in}
 use Rattle.pfs_store_index.proofs.Stretches.{passing-examined, passing-stays, stop-examined, stop-stays, stop-taken}
-use Rattle.pfs_store_index.proofs.Untils.{node-more, nodes-passed, one-gone}
+use Rattle.pfs_store_index.proofs.Untils.{hold-next, less_kept, nodes-passed}
 use Rattle.pfs_store_index.proofs.purging.examine_nodes.Goals as goal
 
 -- the node at which the walk stopped
@@ -64,15 +63,13 @@ returns-in-Some-clause-until g c =
     let conf = c.args.indexes.now.config in
     let xs = c.args.indexes.now.states in
     let ns = c.args.indexes.now.nodes in
-    let n = c.in-Some.tally.node.number in
     let ws = waiting c.args.round.cursor c.args.round.mark (node_numbers ns) in
     let taken = stop-taken node_number (is_over c.args.indexes.now.config c.args.indexes.now.states c.args.now) c.args.round.cursor c.args.round.mark c.args.share c.pass_nodes-passed.result.stayed c.pass_nodes-passed.result.last c.args.indexes.now.nodes c.pass_nodes-passed.ensures.passing
     c.in-Some.tally.node c.drop_node.new.self.nodes
     (stop (is_over c.args.indexes.now.config c.args.indexes.now.states c.args.now) c.args.indexes.now.nodes c.pass_nodes-passed.result.last c.args.round.mark c.pass_nodes-passed.result.stayed c.args.share c.pass_nodes-passed.result.leaver c.in-Some.tally c.in-Some.is c.pass_nodes-passed.ensures.leaver)
     c.node_numbers_rise.ensures c.drop_node.ensures.nodes in
-    node-more conf xs n k.until k.until k.until (take k.stayed ws) (take (k.stayed + 1) ws) _ ns c.drop_node.new.self.nodes c.drop_node.ensures.nodes taken (omega arith)
+    hold-next node_number (NodeStays conf xs) (less_kept conf xs) c.in-Some.tally.node.number k.until (take k.stayed ws) _ ns c.drop_node.new.self.nodes c.drop_node.ensures.nodes taken
     (nodes-passed conf xs _ _ _ _ _ _ _ _ c.pass_nodes-passed.ensures.passing c.pass_nodes-passed.ensures.until)
-    (subst (λ (ys : List Node). NodeHolds conf xs n k.until ys) (sym c.drop_node.ensures.nodes) (one-gone node_number (NodeStays conf xs) n k.until ns))
 
 pub returns-in-None-clause-nodes : goal.returns-in-None-clause-nodes
 returns-in-None-clause-nodes g c = passing-stays node_number _ _ _ _ _ _ _ c.pass_nodes-passed.ensures.passing

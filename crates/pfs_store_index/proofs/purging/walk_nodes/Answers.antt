@@ -2,14 +2,14 @@
 use Rattle.std.proofs.Common.{◌≡◌, ◌∙◌, List, refl, ap, subst, filter, length, take, arith}
 use Rattle.pfs_conf_values.specs.Configs.{Conf}
 use Rattle.pfs_store_contract.specs.Purging.{is_over, node_numbers, node_stays}
-use Rattle.pfs_store_contract.specs.Quiet.{NodeStays}
+use Rattle.pfs_store_index.specs.Quiet.{NodeStays}
 use Rattle.pfs_store_contract.specs.declared.records.State.{State}
 use Rattle.pfs_store_index.specs.Rounds.{nodes_survive, waiting}
 use Rattle.pfs_store_index.specs.Staying.{NodesHold}
 use Rattle.pfs_store_index.proofs.Retained.{node_number}
 use Rattle.pfs_store_index.proofs.RisingWalks.{examined-dropped, examined-taken, stays-none}
 use Rattle.pfs_store_index.proofs.Stretches.{examined-more, examined-none, stretch-more}
-use Rattle.pfs_store_index.proofs.Untils.{hold-none, nodes-more}
+use Rattle.pfs_store_index.proofs.Untils.{hold-more, hold-none, less_kept}
 use Rattle.pfs_store_index.proofs.purging.walk_nodes.Goals as goal
 
 pub loop-done-init : goal.loop-done-init
@@ -46,7 +46,7 @@ loop-done-preserved g c =
       examined = examined-more c.args.share done.examined more.examined done.left more.left ws zs (waiting more.cursor c.args.round.mark (node_numbers ns')) c.loop-done-test.true i.examined f.examined;
       nodes = stretch-more node_number leaves done.examined more.examined ws zs c.args.indexes.now.nodes c.loop-done.indexes.nodes ns' i.nodes i.examined.rest e;
       until =
-          nodes-more conf xs done.examined more.examined done.until more.until _ ws zs _ c.loop-done.indexes.nodes ns' i.examined.rest e refl i.until
+          hold-more node_number (NodeStays conf xs) (less_kept conf xs) done.examined more.examined done.until more.until ws zs _ c.loop-done.indexes.nodes ns' i.examined.rest e i.until
           (subst (λ (ys : List State). NodesHold conf ys (take more.examined zs) more.until ns') i.kept
           (subst (λ (k : Conf). NodesHold k c.loop-done.indexes.states (take more.examined zs) more.until ns') i.config f.until));
       looks = omega (arith, f.looks, i.looks);

@@ -10,13 +10,10 @@ use Rattle.pfs_store_contract.specs.declared.records.State.{State}
 use Rattle.pfs_store_index.proofs.Retained.{retained-same, step-nodes}
 use Rattle.pfs_store_index.proofs.Leavings.{state_number}
 use Rattle.pfs_store_index.proofs.Storing.{due-hold, due-stays}
-use Rattle.pfs_store_index.proofs.Untils.{hold-more, hold-none}
+use Rattle.pfs_store_index.proofs.Untils.{StaysTo, hold-more, hold-none, less_stays}
 use Rattle.pfs_store_index.proofs.Stretches.{examined-more, examined-none, stretch-more}
 use Rattle.pfs_store_index.proofs.RisingWalks.{examined-dropped, examined-taken, stays-none, stays_by}
 use Rattle.pfs_store_index.proofs.purging.walk_states.Goals as goal
-
-abbrev IsStaying : Conf → List ℕ → ℕ → ℕ → State → Type 0
-IsStaying conf counts held until s = until ≤ due_at conf counts held s
 
 pub loop-done-init : goal.loop-done-init
 loop-done-init g c = rw c.none-done.ensures (record {
@@ -26,7 +23,7 @@ loop-done-init g c = rw c.none-done.ensures (record {
   examined = examined-none c.args.share (waiting c.args.round.cursor c.args.round.mark (state_numbers c.args.indexes.now.states));
   states = stays-none state_number (is_due c.args.indexes.now.config c.args.counts.now (length c.args.indexes.now.states) c.args.now) c.args.indexes.now.states;
   nodes = retained-same c.args.indexes.now.config c.args.indexes.now.states c.args.now c.args.indexes.now.nodes;
-  until = hold-none state_number (IsStaying c.args.indexes.now.config c.args.counts.now (length c.args.indexes.now.states)) _ c.args.indexes.now.states;
+  until = hold-none state_number (StaysTo (due_at c.args.indexes.now.config c.args.counts.now (length c.args.indexes.now.states))) _ c.args.indexes.now.states;
   looks = omega arith;
 })
 
@@ -55,7 +52,8 @@ loop-done-preserved g c =
       nodes = step-nodes conf (stays_by state_number leaves (take done.examined ws)) (states_survive leaves (take more.examined zs)) c.args.now c.args.indexes.now.states c.loop-done.indexes.states xs' c.args.indexes.now.nodes c.loop-done.indexes.nodes _ i.states e i.nodes m;
       until =
           let k = subst (λ (k : Conf). StatesHold (due_at k c.args.counts.now c.state_count-held.result) (take more.examined zs) more.until xs') i.config f.until in
-          hold-more (due_at conf c.args.counts.now held) done.examined more.examined done.until more.until _ ws zs _ c.loop-done.indexes.states xs' i.examined.rest e refl i.until
+          hold-more state_number (StaysTo (due_at conf c.args.counts.now held)) (less_stays (due_at conf c.args.counts.now held)) done.examined more.examined done.until more.until ws zs _
+          c.loop-done.indexes.states xs' i.examined.rest e i.until
           (subst (λ n. StatesHold (due_at conf c.args.counts.now n) (take more.examined zs) more.until xs') i.held k);
       looks = omega (arith, f.looks, i.looks);
     })

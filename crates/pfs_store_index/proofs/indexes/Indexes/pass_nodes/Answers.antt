@@ -2,7 +2,7 @@
 use Rattle.std.proofs.Common.{◌≡◌, option_map, true, subst}
 use Rattle.std.specs.List.{AllByRecursion}
 use Rattle.pfs_store_contract.specs.Purging.{is_over}
-use Rattle.pfs_store_contract.specs.Quiet.{NodeStays}
+use Rattle.pfs_store_index.specs.Quiet.{NodeStays}
 use Rattle.pfs_store_contract.specs.declared.records.Node.{Node}
 use Rattle.pfs_store_index.specs.Holdings.{Holding}
 use Rattle.pfs_store_records.specs.Records.{between, states_of}

@@ -7,4 +7,4 @@ use Rattle.pfs_store_records.proofs.nodes.Nodes.are_orderly.Goals as goal
 
 pub returns : goal.returns
 returns g c =
-    rw (sym c.self.view_is) (orderly (get same_source c.self.inside.table) (tally_in c.self.inside.slab) c.self.inside.order.entries c.self.invariant.noted.kept)
+    rw (sym c.self.view_is) (orderly (get same_source c.self.inside.table) (tally_in c.self.inside.slab) c.self.inside.order.entries c.self.invariant.kept)

@@ -7,12 +7,11 @@ use Rattle.slab.proofs.SlabLemmas.{Updates-with_value}
 use Rattle.pfs_addr_values.specs.declared.addresses.Addr.{Addr}
 use Rattle.pfs_store_contract.specs.declared.records.NodeScope.{NodeScope}
 use Rattle.pfs_store_records.specs.Changes.{at_node, changed_by}
-use Rattle.pfs_store_records.specs.Keeping.{NodeIsAt, one_if, same_source, source_of_node, tally_in, values_at}
-use Rattle.pfs_store_records.specs.Tallies.{IsOrderly, IsTallied, is_tally, put_tally, stateless}
+use Rattle.pfs_store_records.specs.Keeping.{same_source, source_of_node, tally_in, values_at}
+use Rattle.pfs_store_records.specs.Tallies.{IsOrderly, IsTallied, is_tally, put_tally}
 use Rattle.pfs_store_records.specs.declared.nodes.Tally.{Tally}
 use Rattle.pfs_store_records.proofs.NodeLaws.{at_tally, get-absent, get-found, has_key, noted-written, orderly, updated-slab, view-tally}
 use Rattle.pfs_store_records.proofs.OneNode.{IsFaithful, none-at, put-at, tallied-at}
-use Rattle.pfs_store_records.proofs.Stateless.{few-stateless, stateless-changed, stateless-found}
 use Rattle.pfs_store_records.proofs.TallyLaws.{changed-faithful, rising-tallies}
 use Rattle.pfs_store_records.proofs.nodes.Nodes.change.Goals as goal
 
@@ -22,82 +21,63 @@ source-kept f k v t u source o e h g s =
     let q : t ≡ u = cc (h, g) in
     ap source_of_node e ∙ (λ i. (k.scope t i, k.source t i)) ∙ ap source_of_node q ∙ s
 
-found : (g : _) (c : goal.After-before-in-Some-1 g) → find (is_tally c.args.scope c.args.source) c.args.self.now ≡ Some c.index.result.now
+found : (g : _) (c : goal.After-before-1 g) → find (is_tally c.args.scope c.args.source) c.args.self.now ≡ Some c.index-before.result.now
 found g c =
     rw (sym c.self.view_is)
-    (sym (get-found (get same_source c.self.inside.table) (tally_in c.self.inside.slab) c.self.inside.order.entries c.self.inside.counts.rules.items c.self.inside.counts.global c.self.invariant.noted c.args.scope c.args.source c.in-Some.place.now (sym c.in-Some.ensures.value))
-    ∙ c.index.ensures)
+    (sym (get-found (get same_source c.self.inside.table) (tally_in c.self.inside.slab) c.self.inside.order.entries c.self.inside.counts.rules.items c.self.inside.counts.global c.self.invariant c.args.scope c.args.source c.in-Some.place.now (sym c.in-Some.ensures.value))
+    ∙ c.index-before.ensures)
 
-tallied : (g : _) (c : goal.After-self-in-Some-1 g) → IsTallied c.changed-tally.result c.args.self.now
+tallied : (g : _) (c : goal.After-self-1 g) → IsTallied c.changed-tally.result c.args.self.now
 tallied g c =
     let k = changed-faithful c.args.change in
-    let t = c.index.result.now in
+    let t = c.index-before.result.now in
     let e = c.changed-tally.ensures in
     tallied-at c.args.scope c.args.source c.changed-tally.result t c.args.self.now (found g c.before.before.before.before)
     (ap (λ (u : Tally). u.node.scope) e ∙ k.scope t) (ap (λ (u : Tally). u.node.source) e ∙ k.source t) (ap (λ (u : Tally). u.node.number) e ∙ k.number t)
 
 -- the table leads from the changed tally to its place
-placed : (g : _) (c : goal.After-self-in-Some-1 g) → get same_source c.self.inside.table (source_of_node c.changed-tally.result) ≡ Some c.in-Some.place.now
+placed : (g : _) (c : goal.After-self-1 g) → get same_source c.self.inside.table (source_of_node c.changed-tally.result) ≡ Some c.in-Some.place.now
 placed g c =
     let a = sym c.in-Some.ensures.value in
-    let f = c.self.invariant.noted.found (c.args.scope, c.args.source) c.in-Some.place.now a in
-    ap (get same_source c.self.inside.table) (source-kept (changed_by c.args.change) (changed-faithful c.args.change) c.changed-tally.result c.index.result.now f.0 (c.args.scope, c.args.source) (tally_in c.self.inside.slab c.in-Some.place.now) c.changed-tally.ensures c.index.ensures f.1 f.2) ∙ a
+    let f = c.self.invariant.found (c.args.scope, c.args.source) c.in-Some.place.now a in
+    ap (get same_source c.self.inside.table) (source-kept (changed_by c.args.change) (changed-faithful c.args.change) c.changed-tally.result c.index-before.result.now f.0 (c.args.scope, c.args.source) (tally_in c.self.inside.slab c.in-Some.place.now) c.changed-tally.ensures c.index-before.ensures f.1 f.2) ∙ a
 
-pub index-requires : goal.index-requires
-index-requires g c =
-    let f = c.self.invariant.noted.found (c.args.scope, c.args.source) c.in-Some.place.now (sym c.in-Some.ensures.value) in
+pub index-before-requires : goal.index-before-requires
+index-before-requires g c =
+    let f = c.self.invariant.found (c.args.scope, c.args.source) c.in-Some.place.now (sym c.in-Some.ensures.value) in
     has_key c.self.inside.slab c.in-Some.place.now f.0 f.1
 
 pub changed-tally-requires : goal.changed-tally-requires
 changed-tally-requires g c =
-    c.requires.can c.index.result.now (rw (sym c.self.view_is)
-    (sym (get-found (get same_source c.self.inside.table) (tally_in c.self.inside.slab) c.self.inside.order.entries c.self.inside.counts.rules.items c.self.inside.counts.global c.self.invariant.noted c.args.scope c.args.source c.in-Some.place.now (sym c.in-Some.ensures.value))
-    ∙ c.index.ensures))
-
-pub counted-self-inside-requires : goal.counted-self-inside-requires
-counted-self-inside-requires g c =
-    let few = few-stateless (NodeIsAt (get same_source c.self.inside.table)) (tally_in c.self.inside.slab) c.self.inside.order.entries c.self.inside.stateless c.self.invariant.noted.kept.placed c.self.invariant.unused in
-    omega (arith, few, c.uncounted.ensures, c.len-count.ensures.len, c.len-count.ensures.small)
-
-pub uncounted-requires : goal.uncounted-requires
-uncounted-requires g c =
-    omega (arith, stateless-found c.args.scope c.args.source c.index.result.now c.args.self.now (found g c), ap stateless c.self.view_is, c.self.invariant.unused)
+    c.requires.can c.index-before.result.now (rw (sym c.self.view_is)
+    (sym (get-found (get same_source c.self.inside.table) (tally_in c.self.inside.slab) c.self.inside.order.entries c.self.inside.counts.rules.items c.self.inside.counts.global c.self.invariant c.args.scope c.args.source c.in-Some.place.now (sym c.in-Some.ensures.value))
+    ∙ c.index-before.ensures))
 
 -- the tallies after it
-listed : (g : _) (c : goal.After-self-in-Some-1 g) → values_at (tally_in (with_value c.self.inside.slab c.in-Some.place.now c.changed-tally.result)) c.self.inside.order.entries
+listed : (g : _) (c : goal.After-self-1 g) → values_at (tally_in (with_value c.self.inside.slab c.in-Some.place.now c.changed-tally.result)) c.self.inside.order.entries
     ≡ map (at_node (Some c.args.scope) c.args.source (changed_by c.args.change)) c.args.self.now
 listed g c =
     let v = c.changed-tally.result in
-    let t = c.index.result.now in
+    let t = c.index-before.result.now in
     let k = changed-faithful c.args.change in
     let e = c.changed-tally.ensures in
     let a = placed g c in
-    let f = c.self.invariant.noted.found (source_of_node v) c.in-Some.place.now a in
+    let f = c.self.invariant.found (source_of_node v) c.in-Some.place.now a in
     let u = updated-slab c.self.inside.slab (with_value c.self.inside.slab c.in-Some.place.now v) c.in-Some.place.now _ (Updates-with_value c.self.inside.slab c.in-Some.place.now v (has_key c.self.inside.slab c.in-Some.place.now f.0 f.1)) in
-    let l = at_tally (get same_source c.self.inside.table) (tally_in c.self.inside.slab) v c.self.inside.order.entries c.self.invariant.noted.kept (rw c.self.view_is (tallied g c)) c.in-Some.place.now a in
-    let o : IsOrderly c.args.self.now = rw (sym c.self.view_is) (orderly (get same_source c.self.inside.table) (tally_in c.self.inside.slab) c.self.inside.order.entries c.self.invariant.noted.kept) in
-    view-tally (get same_source c.self.inside.table) (tally_in c.self.inside.slab) (tally_in (with_value c.self.inside.slab c.in-Some.place.now v)) v c.in-Some.place.now c.self.inside.order.entries l u c.self.invariant.noted.kept
+    let l = at_tally (get same_source c.self.inside.table) (tally_in c.self.inside.slab) v c.self.inside.order.entries c.self.invariant.kept (rw c.self.view_is (tallied g c)) c.in-Some.place.now a in
+    let o : IsOrderly c.args.self.now = rw (sym c.self.view_is) (orderly (get same_source c.self.inside.table) (tally_in c.self.inside.slab) c.self.inside.order.entries c.self.invariant.kept) in
+    view-tally (get same_source c.self.inside.table) (tally_in c.self.inside.slab) (tally_in (with_value c.self.inside.slab c.in-Some.place.now v)) v c.in-Some.place.now c.self.inside.order.entries l u c.self.invariant.kept
     ∙ ap (map (put_tally v)) c.self.view_is
     ∙ put-at c.args.scope c.args.source v t (changed_by c.args.change) c.args.self.now (rising-tallies c.args.self.now o.rising) o.distinct (found g c.before.before.before.before) (ap (λ (x : Tally). x.node.number) e ∙ k.number t) (sym e)
-
-recount : (g : _) (c : goal.After-before-in-Some-1 g) → stateless (map (at_node (Some c.args.scope) c.args.source (changed_by c.args.change)) c.args.self.now) + one_if (c.index.result.now.states == 0)
-    ≡ stateless c.args.self.now + one_if ((changed_by c.args.change c.index.result.now).states == 0)
-recount g c =
-    let o : IsOrderly c.args.self.now = rw (sym c.self.view_is) (orderly (get same_source c.self.inside.table) (tally_in c.self.inside.slab) c.self.inside.order.entries c.self.invariant.noted.kept) in
-    stateless-changed c.args.scope c.args.source (changed_by c.args.change) c.index.result.now c.args.self.now o.distinct (found g c)
 
 pub invariant_of-self : goal.invariant_of-self
 invariant_of-self g c =
     let v = c.changed-tally.result in
     let a = placed g c in
-    let f = c.self.invariant.noted.found (source_of_node v) c.in-Some.place.now a in
+    let f = c.self.invariant.found (source_of_node v) c.in-Some.place.now a in
     let u = updated-slab c.self.inside.slab (with_value c.self.inside.slab c.in-Some.place.now v) c.in-Some.place.now _ (Updates-with_value c.self.inside.slab c.in-Some.place.now v (has_key c.self.inside.slab c.in-Some.place.now f.0 f.1)) in
-    let l = at_tally (get same_source c.self.inside.table) (tally_in c.self.inside.slab) v c.self.inside.order.entries c.self.invariant.noted.kept (rw c.self.view_is (tallied g c)) c.in-Some.place.now a in
-    let same = ap (λ (x : Tally). one_if (x.states == 0)) c.changed-tally.ensures in
-    record {
-      noted = noted-written (get same_source c.self.inside.table) (tally_in c.self.inside.slab) (tally_in (with_value c.self.inside.slab c.in-Some.place.now v)) v c.in-Some.place.now c.self.inside.order.entries c.self.inside.counts.rules.items c.self.inside.counts.global a l u c.self.invariant.noted;
-      unused = omega (arith, c.counted-self-inside.ensures, c.uncounted.ensures, c.self.invariant.unused, ap stateless c.self.view_is, ap stateless (listed g c), recount g c.before.before.before.before, same);
-    }
+    let l = at_tally (get same_source c.self.inside.table) (tally_in c.self.inside.slab) v c.self.inside.order.entries c.self.invariant.kept (rw c.self.view_is (tallied g c)) c.in-Some.place.now a in
+    noted-written (get same_source c.self.inside.table) (tally_in c.self.inside.slab) (tally_in (with_value c.self.inside.slab c.in-Some.place.now v)) v c.in-Some.place.now c.self.inside.order.entries c.self.inside.counts.rules.items c.self.inside.counts.global a l u c.self.invariant
 
 pub returns-in-Some-clause-nodes : goal.returns-in-Some-clause-nodes
 returns-in-Some-clause-nodes g c = listed g c
@@ -109,7 +89,7 @@ pub returns-in-None-clause-absent : goal.returns-in-None-clause-absent
 returns-in-None-clause-absent g c = λ e. (
   refl,
   rw (sym c.self.view_is)
-      (get-absent (get same_source c.self.inside.table) (tally_in c.self.inside.slab) c.self.inside.order.entries c.self.inside.counts.rules.items c.self.inside.counts.global c.self.invariant.noted c.args.scope c.args.source (sym c.in-None.ensures.value)),
+      (get-absent (get same_source c.self.inside.table) (tally_in c.self.inside.slab) c.self.inside.order.entries c.self.inside.counts.rules.items c.self.inside.counts.global c.self.invariant c.args.scope c.args.source (sym c.in-None.ensures.value)),
 )
 
 pub returns-in-None-clause-nodes : goal.returns-in-None-clause-nodes

@@ -7,4 +7,4 @@ use Rattle.pfs_store_records.proofs.nodes.Nodes.len.Goals as goal
 
 pub returns : goal.returns
 returns g c =
-    c.len.ensures.len ∙ sym (length-held number_of_node (NodeIsAt (get same_source c.self.inside.table)) (tally_in c.self.inside.slab) c.self.inside.order.entries c.self.invariant.noted.kept.placed) ∙ ap length c.self.view_is
+    c.len.ensures.len ∙ sym (length-held number_of_node (NodeIsAt (get same_source c.self.inside.table)) (tally_in c.self.inside.slab) c.self.inside.order.entries c.self.invariant.kept.placed) ∙ ap length c.self.view_is

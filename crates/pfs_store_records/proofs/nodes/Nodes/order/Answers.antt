@@ -12,4 +12,4 @@ use Rattle.pfs_store_records.proofs.nodes.Nodes.order.Goals as goal
 pub returns-clause-numbers : goal.returns-clause-numbers
 returns-clause-numbers g c =
     sym (ap (λ (ts : List Tally). node_numbers (nodes_of ts)) (sym c.self.view_is) ∙ numbers-nodes _
-    ∙ numbers-held number_of_node (NodeIsAt (get same_source c.self.inside.table)) (tally_in c.self.inside.slab) c.self.inside.order.entries c.self.invariant.noted.kept.placed)
+    ∙ numbers-held number_of_node (NodeIsAt (get same_source c.self.inside.table)) (tally_in c.self.inside.slab) c.self.inside.order.entries c.self.invariant.kept.placed)

@@ -7,7 +7,7 @@ use Rattle.pfs_store_records.proofs.nodes.Nodes.walk.Goals as goal
 
 pub walk_range-requires-clause-kept : goal.walk_range-requires-clause-kept
 walk_range-requires-clause-kept g c =
-    kept-anywhere (get same_source c.self.inside.table) (tally_in c.self.inside.slab) c.self.inside.order.entries c.self.invariant.noted.kept
+    kept-anywhere (get same_source c.self.inside.table) (tally_in c.self.inside.slab) c.self.inside.order.entries c.self.invariant.kept
 
 pub returns-clause-passing : goal.returns-clause-passing
 returns-clause-passing g c = rw (sym c.self.view_is) c.walk_range.ensures.passing
