@@ -7,7 +7,7 @@ from typing import List, Optional
 
 from reader.configurations import Configuration, Entry, Rule, Translation
 from reader.cookies import Guard
-from reader.held import Held, State
+from reader.states_and_nodes import State, StatesAndNodes
 from reader.phases import (
     ESTABLISHED, FIN_WAIT_2, PROXY_DST, PROXY_SRC, first_phase, step_full, step_other, step_sloppy, tcp_timeout,
 )
@@ -34,7 +34,7 @@ class Machine:
 
     def __init__(self, said: Configuration) -> None:
         self.said = said
-        self.held = Held(said)
+        self.held = StatesAndNodes(said)
         self.guard = Guard(said)
         self.first_moment = 0
         self.now: Optional[int] = None

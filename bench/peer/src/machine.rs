@@ -1,5 +1,5 @@
 //! What is held: states, source nodes and tables, and what each event does with them.
-use crate::book::Book;
+use crate::ruleset::CompiledRuleset;
 use crate::packet::{Key, Packet, Source};
 use crate::phase::Phase;
 use crate::rules::{Action, Config, Flush, Prefix, Scope, ADAPTIVE_END, ADAPTIVE_START, INTERVAL};
@@ -49,7 +49,7 @@ pub enum Outcome {
 
 pub struct Machine<'a> {
     config: &'a Config,
-    book: Book,
+    ruleset: CompiledRuleset,
     pub tables: Tables,
     states: Slab<State>,
     by_key: HashMap<Key, usize>,
@@ -71,7 +71,7 @@ impl<'a> Machine<'a> {
     pub fn new(config: &'a Config) -> Self {
         Machine {
             config,
-            book: Book::new(config),
+            ruleset: CompiledRuleset::new(config),
             tables: Tables::new(config),
             states: Slab::new(),
             by_key: HashMap::new(),
@@ -228,7 +228,7 @@ impl<'a> Machine<'a> {
         if let Some(place) = self.by_key.get(&key) {
             return self.touch(*place, packet);
         }
-        match self.book.decide(packet, &self.tables) {
+        match self.ruleset.decide(packet, &self.tables) {
             None => Outcome::Pass(None),
             Some(rule) => match &self.config.items[rule].action {
                 Action::Block => Outcome::Block(rule),

@@ -4,7 +4,7 @@
 //! pfsrc accepts, and writes the same report. At a fault of the trace it says the same; of the kinds of faults of a
 //! rules text it tells some as `Syntax`.
 mod addresses;
-mod book;
+mod ruleset;
 mod machine;
 mod packet;
 mod phase;

@@ -29,7 +29,7 @@ pub enum Event<'a> {
     Skip,
     Packet(Packet<'a>),
     Expire { table: &'a str, age: u32 },
-    Held,
+    HeldQuery,
     Kill { from: Prefix, to: Option<Prefix> },
     Add { table: &'a str, entry: (Prefix, bool) },
     Delete { table: &'a str, entry: (Prefix, bool) },
@@ -176,7 +176,7 @@ pub fn read(record: &ByteRecord) -> Result<(u32, Event<'_>), Fault> {
         b"kill" => hosts(record)?,
         b"held" => {
             empty(record, 3..=9)?;
-            Event::Held
+            Event::HeldQuery
         }
         b"add" => {
             let (table, entry) = table_and_entry(record)?;

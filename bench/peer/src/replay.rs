@@ -110,7 +110,7 @@ fn write_row(out: &mut impl Write, row: u64, machine: &mut Machine, event: Event
     match event {
         Event::Skip => writeln!(out, "{row} skip -")?,
         Event::Packet(packet) => write_outcome(out, row, &machine.packet(&packet))?,
-        Event::Held => {
+        Event::HeldQuery => {
             write!(out, "{row} held -")?;
             write_counts(out, machine)?;
         }

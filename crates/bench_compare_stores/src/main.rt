@@ -20,11 +20,11 @@ use std::fs::File;
 use std::io::{self, BufWriter, Read, Write};
 use std::process::ExitCode;
 
-type Indexed = IndexStore;
+type IndexedEngine = IndexStore;
 
 /// Why a comparison stops.
 #[derive(Clone, Copy, Debug)]
-enum Stop {
+enum CompareStop {
     /// A file could not be read, or the report could not be written.
     File,
     /// Memory was refused.
@@ -38,7 +38,7 @@ enum Stop {
     /// At this row what came of the record differs: that over lists, and that over indexes.
     Ways(u64, Way, Way),
     /// At this row what is held differs: states, source nodes, entries and packets over lists, and those over indexes.
-    Held(u64, (u64, u64, u64, u64), (u64, u64, u64, u64)),
+    Amounts(u64, (u64, u64, u64, u64), (u64, u64, u64, u64)),
 }
 
 fn main(rt: HostRuntime) -> ExitCode {
@@ -51,13 +51,13 @@ fn main(rt: HostRuntime) -> ExitCode {
     }
 }
 
-fn run(rt: &HostRuntime) -> Result<(), Stop> {
+fn run(rt: &HostRuntime) -> Result<(), CompareStop> {
     let Ok(words) = words(rt) else {
-        return Err(Stop::Memory);
+        return Err(CompareStop::Memory);
     };
     match (words.get(1), words.get(2)) {
         (Some(rules), Some(trace)) => replay(rt, rules.as_str(), trace.as_str()),
-        _ => Err(Stop::File),
+        _ => Err(CompareStop::File),
     }
 }
 
@@ -67,7 +67,7 @@ fn words(rt: &HostRuntime) -> io::Result<Vec<String>> {
 }
 
 /// The trace of one file under the rules of another.
-fn replay(rt: &HostRuntime, rules: &str, trace: &str) -> Result<(), Stop> {
+fn replay(rt: &HostRuntime, rules: &str, trace: &str) -> Result<(), CompareStop> {
     let text = read_file(rt, rules)?;
     let mut plain = plain_engine(rt.alloc(), &text)?;
     replay_beside(rt, &text, trace, &mut plain)
@@ -78,7 +78,7 @@ fn replay_beside<S: Store>(
     text: &[u8],
     trace: &str,
     plain: &mut Engine<S>,
-) -> Result<(), Stop> {
+) -> Result<(), CompareStop> {
     let mut indexed = indexed_engine(rt.alloc(), text)?;
     replay_both(rt, trace, plain, &mut indexed)
 }
@@ -88,47 +88,47 @@ fn replay_both<S: Store, T: Store>(
     trace: &str,
     plain: &mut Engine<S>,
     indexed: &mut Engine<T>,
-) -> Result<(), Stop> {
+) -> Result<(), CompareStop> {
     let trace = open(rt, trace)?;
     let Ok(mut out) = BufWriter::new(rt.alloc(), io::writer(rt)) else {
-        return Err(Stop::Memory);
+        return Err(CompareStop::Memory);
     };
     let answer = compare(rt.alloc(), trace, plain, indexed, &mut out);
     match out.flush() {
         Ok(()) => answer,
-        Err(_) => Err(Stop::File),
+        Err(_) => Err(CompareStop::File),
     }
 }
 
-fn open(rt: &HostRuntime, name: &str) -> Result<File, Stop> {
-    File::open(rt, name).map_err(|_| Stop::File)
+fn open(rt: &HostRuntime, name: &str) -> Result<File, CompareStop> {
+    File::open(rt, name).map_err(|_| CompareStop::File)
 }
 
-fn read_file(rt: &HostRuntime, name: &str) -> Result<Vec<u8>, Stop> {
+fn read_file(rt: &HostRuntime, name: &str) -> Result<Vec<u8>, CompareStop> {
     let mut file = open(rt, name)?;
     let mut text = Vec::new(rt.alloc());
-    file.read_to_end(&mut text).map_err(|_| Stop::File)?;
+    file.read_to_end(&mut text).map_err(|_| CompareStop::File)?;
     Ok(text)
 }
 
-fn plain_engine(alloc: Global, text: &[u8]) -> Result<Engine<PlainStore>, Stop> {
+fn plain_engine(alloc: Global, text: &[u8]) -> Result<Engine<PlainStore>, CompareStop> {
     let config = read_rules(alloc, text)?;
     let Ok(store) = PlainStore::new(alloc, &config) else {
-        return Err(Stop::Memory);
+        return Err(CompareStop::Memory);
     };
-    Engine::new(alloc, config, store).map_err(|_| Stop::Memory)
+    Engine::new(alloc, config, store).map_err(|_| CompareStop::Memory)
 }
 
-fn indexed_engine(alloc: Global, text: &[u8]) -> Result<Engine<Indexed>, Stop> {
+fn indexed_engine(alloc: Global, text: &[u8]) -> Result<Engine<IndexedEngine>, CompareStop> {
     let config = read_rules(alloc, text)?;
     let Ok(store) = IndexStore::new(alloc, &config) else {
-        return Err(Stop::Memory);
+        return Err(CompareStop::Memory);
     };
-    Engine::new(alloc, config, store).map_err(|_| Stop::Memory)
+    Engine::new(alloc, config, store).map_err(|_| CompareStop::Memory)
 }
 
-fn read_rules(alloc: Global, text: &[u8]) -> Result<Config, Stop> {
-    load(alloc, text).map_err(|fault| Stop::Rules(fault))
+fn read_rules(alloc: Global, text: &[u8]) -> Result<Config, CompareStop> {
+    load(alloc, text).map_err(|fault| CompareStop::Rules(fault))
 }
 
 /// Both engines go through the trace.
@@ -138,7 +138,7 @@ fn compare<R: Read + Drop, S: Store, T: Store, W: Write>(
     plain: &mut Engine<S>,
     indexed: &mut Engine<T>,
     out: &mut W,
-) -> Result<(), Stop> {
+) -> Result<(), CompareStop> {
     let mut reader = ReaderBuilder::new()
         .has_headers(false)
         .flexible(true)
@@ -153,30 +153,32 @@ fn go_through<R: Read, S: Store, T: Store, W: Write>(
     plain: &mut Engine<S>,
     indexed: &mut Engine<T>,
     out: &mut W,
-) -> Result<(), Stop> {
+) -> Result<(), CompareStop> {
     let mut fields = ByteRecord::new(alloc);
     let mut line = Vec::new(alloc);
     if !next(reader, &mut fields)? || !has_columns(&fields) {
-        return Err(Stop::Trace(TraceFault::Columns(0)));
+        return Err(CompareStop::Trace(TraceFault::Columns(0)));
     }
     for rows in 0..ROW_LIMIT {
         line.clear();
         if !next(reader, &mut fields)? {
-            push_end(&mut line, &end_line(rows, plain)).map_err(|_| Stop::Memory)?;
-            return out.write_all(&line).map_err(|_| Stop::File);
+            push_end(&mut line, &end_line(rows, plain)).map_err(|_| CompareStop::Memory)?;
+            return out.write_all(&line).map_err(|_| CompareStop::File);
         }
         let event = read_event(rows + 1, plain.last(), plain.config(), &fields).map_err(
-            |fault| Stop::Trace(fault),
+            |fault| CompareStop::Trace(fault),
         )?;
         let way = take_both(rows + 1, &event, plain, indexed)?;
-        push_way(&mut line, rows + 1, &way).map_err(|_| Stop::Memory)?;
-        out.write_all(&line).map_err(|_| Stop::File)?;
+        push_way(&mut line, rows + 1, &way).map_err(|_| CompareStop::Memory)?;
+        out.write_all(&line).map_err(|_| CompareStop::File)?;
     }
-    Err(Stop::Trace(TraceFault::TooManyRows))
+    Err(CompareStop::Trace(TraceFault::TooManyRows))
 }
 
-fn next<R: Read>(reader: &mut Reader<R>, fields: &mut ByteRecord) -> Result<bool, Stop> {
-    reader.read_byte_record(fields).map_err(|_| Stop::File)
+fn next<R: Read>(reader: &mut Reader<R>, fields: &mut ByteRecord) -> Result<bool, CompareStop> {
+    reader
+        .read_byte_record(fields)
+        .map_err(|_| CompareStop::File)
 }
 
 /// Both engines take the record, and answer and hold the same.
@@ -185,26 +187,26 @@ fn take_both<S: Store, T: Store>(
     event: &Event,
     plain: &mut Engine<S>,
     indexed: &mut Engine<T>,
-) -> Result<Way, Stop> {
+) -> Result<Way, CompareStop> {
     let listed = take(plain, event)?;
     let found = take(indexed, event)?;
     if found != listed {
-        return Err(Stop::Ways(row, listed, found));
+        return Err(CompareStop::Ways(row, listed, found));
     }
     if held(indexed) != held(plain) {
-        return Err(Stop::Held(row, held(plain), held(indexed)));
+        return Err(CompareStop::Amounts(row, held(plain), held(indexed)));
     }
     Ok(listed)
 }
 
-fn take<S: Store>(engine: &mut Engine<S>, event: &Event) -> Result<Way, Stop> {
+fn take<S: Store>(engine: &mut Engine<S>, event: &Event) -> Result<Way, CompareStop> {
     if !is_in_time(engine.last(), event.time) || engine.taken() >= RUN_LIMIT - 1 {
-        return Err(Stop::Event);
+        return Err(CompareStop::Event);
     }
     if !may_come(engine.config(), &event.what) {
-        return Err(Stop::Event);
+        return Err(CompareStop::Event);
     }
-    engine.way(event).map_err(|_| Stop::Memory)
+    engine.way(event).map_err(|_| CompareStop::Memory)
 }
 
 /// How many states, source nodes and entries are held, and how many packets were taken.

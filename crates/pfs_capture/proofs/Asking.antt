@@ -2,27 +2,27 @@
 use Rattle.std.proofs.Common.{◌≡◌, ◌<◌, ◌-◌, ◌∙◌, ℕ, suc, true, false, List, [], ◌∷◌, Option, Some, None, Ok, Err, refl, sym, ap, arith}
 use Rattle.std.specs.Prelude.{Result}
 use Rattle.pfs_capture_files.specs.Faults.{is_outside}
-use Rattle.pfs_capture_files.specs.Forms.{Begins, ReadsItem, Turn, start_of, turn_of}
+use Rattle.pfs_capture_files.specs.Forms.{Begins, ReadsItem, ReadTurn, start_of, turn_of}
 use Rattle.pfs_capture_files.specs.declared.faults.FileFault.{FileFault}
 use Rattle.pfs_capture_files.specs.declared.forms.Form.{Form}
 use Rattle.pfs_capture_files.specs.declared.frames.Frame.{Frame}
-use Rattle.pfs_capture_files.specs.declared.frames.Item.TheVariants as item
+use Rattle.pfs_capture_files.specs.declared.frames.FileItem.TheVariants as item
 use Rattle.pfs_capture.specs.Aheads.{is_asked, rest_ahead, rest_from, with_next}
-use Rattle.pfs_capture.specs.Captures.{Frames, Seen, at_turn, frames_from, seen_of}
+use Rattle.pfs_capture.specs.Captures.{Frames, SeenFrame, at_turn, frames_from, seen_of}
 use Rattle.pfs_capture.specs.Instants.{instant_after}
 use Rattle.pfs_capture.specs.Points.{Point}
 use Rattle.pfs_capture.specs.Runs.{Run, frame_then, at_instant, judged_at, judged_frames, judged_from}
-use Rattle.pfs_capture.specs.declared.captures.Next.{Next}
-use Rattle.pfs_capture.specs.declared.captures.Next.TheVariants as next
+use Rattle.pfs_capture.specs.declared.captures.NextKnown.{NextKnown}
+use Rattle.pfs_capture.specs.declared.captures.NextKnown.TheVariants as next
 use Rattle.pfs_capture.specs.declared.faults.TraceStop.{TraceStop}
 use Rattle.pfs_capture.specs.declared.faults.TraceStop.TheVariants as stop
 use Rattle.pfs_capture.specs.declared.instants.Instant.{Instant}
 
 -- ---- one turn of the definitions
 
-frames_from-turn : (n : ℕ) (form : Form) (xs : List ℕ) (turn : Result Turn FileFault) → turn_of form xs ≡ turn → frames_from (suc n) form xs ≡ at_turn turn (frames_from n)
+frames_from-turn : (n : ℕ) (form : Form) (xs : List ℕ) (turn : Result ReadTurn FileFault) → turn_of form xs ≡ turn → frames_from (suc n) form xs ≡ at_turn turn (frames_from n)
 unfolding frames_from
-frames_from-turn n form xs turn e = ap (λ (t : Result Turn FileFault). at_turn t (frames_from n)) e
+frames_from-turn n form xs turn e = ap (λ (t : Result ReadTurn FileFault). at_turn t (frames_from n)) e
 
 frames_from-none : (form : Form) (xs : List ℕ) → frames_from 0 form xs ≡ ([], Some stop.TooMany)
 unfolding frames_from
@@ -32,7 +32,7 @@ judged-none : (points : List Point) (last : Instant) (end : Option TraceStop) �
 unfolding judged_from
 judged-none points last end = refl
 
-judged-more : (points : List Point) (last : Instant) (f : Seen) (fs : List Seen) (end : Option TraceStop) (r : Result Instant TraceStop) → instant_after last f.moment ≡ r
+judged-more : (points : List Point) (last : Instant) (f : SeenFrame) (fs : List SeenFrame) (end : Option TraceStop) (r : Result Instant TraceStop) → instant_after last f.moment ≡ r
     → judged_from points last (f ∷ fs) end ≡ at_instant r (λ i. judged_at points f i) (λ i. judged_from points i fs end)
 unfolding judged_from
 judged-more points last f fs end r e = ap (λ (x : Result Instant TraceStop). at_instant x (λ i. judged_at points f i) (λ i. judged_from points i fs end)) e
@@ -44,12 +44,12 @@ abbrev pub Lies : {S : Type 0} → (S → Option (List ℕ)) → S → Run → (
 Lies remaining reader run more = (left : List ℕ) × (remaining reader ≡ Some left) × (run ≡ more left)
 
 -- it is that of the rest, where the next frame was not asked for
-unasked : (points : List Point) (held : List ℕ) (last : Instant) (items : ℕ) (known : Next) (form : Option Form) (left : List ℕ) → known ≡ next.Unasked
+unasked : (points : List Point) (held : List ℕ) (last : Instant) (items : ℕ) (known : NextKnown) (form : Option Form) (left : List ℕ) → known ≡ next.Unasked
     → with_next points held last known (rest_ahead points last items form left) ≡ rest_ahead points last items form left
-unasked points held last items known form left e = ap (λ (n : Next). with_next points held last n (rest_ahead points last items form left)) e
+unasked points held last items known form left e = ap (λ (n : NextKnown). with_next points held last n (rest_ahead points last items form left)) e
 
 -- the beginning is read
-pub ahead-begun : {S : Type 0} (remaining : S → Option (List ℕ)) (points : List Point) (last : Instant) (items : ℕ) (held held2 : List ℕ) (known : Next) (before : Option Form) (form : Form) (a b : S) (run : Run)
+pub ahead-begun : {S : Type 0} (remaining : S → Option (List ℕ)) (points : List Point) (last : Instant) (items : ℕ) (held held2 : List ℕ) (known : NextKnown) (before : Option Form) (form : Form) (a b : S) (run : Run)
     → known ≡ next.Unasked → before ≡ None
     → ((xs : List ℕ) → remaining a ≡ Some xs → Begins (start_of xs) (Ok form) (remaining b))
     → Lies remaining a run (λ left. with_next points held last known (rest_ahead points last items before left))
@@ -63,7 +63,7 @@ ahead-begun remaining points last items held held2 known before form a b run e n
     )
 
 -- or it is not
-pub stops-start : {S : Type 0} (remaining : S → Option (List ℕ)) (points : List Point) (last : Instant) (items : ℕ) (held : List ℕ) (known : Next) (before : Option Form) (f : FileFault) (a b : S) (run : Run)
+pub stops-start : {S : Type 0} (remaining : S → Option (List ℕ)) (points : List Point) (last : Instant) (items : ℕ) (held : List ℕ) (known : NextKnown) (before : Option Form) (f : FileFault) (a b : S) (run : Run)
     → known ≡ next.Unasked → before ≡ None
     → ((xs : List ℕ) → remaining a ≡ Some xs → Begins (start_of xs) (Err f) (remaining b))
     → Lies remaining a run (λ left. with_next points held last known (rest_ahead points last items before left))
@@ -73,7 +73,7 @@ stops-start remaining points last items held known before f a b run e none start
     ∙ ap (λ (r : Result (Form × List ℕ) FileFault). rest_from points last items r) (starts left source inside)))
 
 -- what lies ahead before an item is read
-before-item : (points : List Point) (held : List ℕ) (last : Instant) (items : ℕ) (known : Next) (before : Option Form) (form : Form) (left : List ℕ) (run : Run) (turn : Result Turn FileFault)
+before-item : (points : List Point) (held : List ℕ) (last : Instant) (items : ℕ) (known : NextKnown) (before : Option Form) (form : Form) (left : List ℕ) (run : Run) (turn : Result ReadTurn FileFault)
     → known ≡ next.Unasked → before ≡ Some form → 0 < items → turn_of form left ≡ turn
     → run ≡ with_next points held last known (rest_ahead points last items before left)
     → run ≡ judged_frames points last (at_turn turn (frames_from (items - 1)))
@@ -83,7 +83,7 @@ before-item points held last items known before form left run turn e some few fo
     ∙ ap (λ (fs : Frames). judged_frames points last fs) (ap (λ n. frames_from n form left) more ∙ frames_from-turn (items - 1) form left turn found)))
 
 -- no more items are read
-pub stops-many : {S : Type 0} (remaining : S → Option (List ℕ)) (points : List Point) (last : Instant) (items : ℕ) (held : List ℕ) (known : Next) (before : Option Form) (form : Form) (a : S) (run : Run)
+pub stops-many : {S : Type 0} (remaining : S → Option (List ℕ)) (points : List Point) (last : Instant) (items : ℕ) (held : List ℕ) (known : NextKnown) (before : Option Form) (form : Form) (a : S) (run : Run)
     → known ≡ next.Unasked → before ≡ Some form → items ≡ 0
     → Lies remaining a run (λ left. with_next points held last known (rest_ahead points last items before left))
     → run ≡ ([], Some stop.TooMany)
@@ -92,7 +92,7 @@ stops-many remaining points last items held known before form a run e some none 
     ∙ (ap (λ (fs : Frames). judged_frames points last fs) (ap (λ n. frames_from n form left) none ∙ frames_from-none form left) ∙ judged-none points last (Some stop.TooMany))))
 
 -- the end is read
-pub ahead-end : {S : Type 0} (remaining : S → Option (List ℕ)) (points : List Point) (last : Instant) (items : ℕ) (held held2 : List ℕ) (known : Next) (before : Option Form) (form form2 : Form) (a b : S) (run : Run)
+pub ahead-end : {S : Type 0} (remaining : S → Option (List ℕ)) (points : List Point) (last : Instant) (items : ℕ) (held held2 : List ℕ) (known : NextKnown) (before : Option Form) (form form2 : Form) (a b : S) (run : Run)
     → known ≡ next.Unasked → before ≡ Some form → 0 < items
     → ((xs : List ℕ) → remaining a ≡ Some xs → ReadsItem (turn_of form xs) (Ok item.End) form2 held2 (remaining b))
     → Lies remaining a run (λ left. with_next points held last known (rest_ahead points last items before left))
@@ -102,7 +102,7 @@ ahead-end remaining points last items held held2 known before form form2 a b run
     (ys, behind, before-item points held last items known before form left run _ e some few found is ∙ judged-none points last None)
 
 -- a block without a frame
-pub ahead-other : {S : Type 0} (remaining : S → Option (List ℕ)) (points : List Point) (last : Instant) (items : ℕ) (held held2 : List ℕ) (known : Next) (before : Option Form) (form form2 : Form) (a b : S) (run : Run)
+pub ahead-other : {S : Type 0} (remaining : S → Option (List ℕ)) (points : List Point) (last : Instant) (items : ℕ) (held held2 : List ℕ) (known : NextKnown) (before : Option Form) (form form2 : Form) (a b : S) (run : Run)
     → known ≡ next.Unasked → before ≡ Some form → 0 < items
     → ((xs : List ℕ) → remaining a ≡ Some xs → ReadsItem (turn_of form xs) (Ok item.Other) form2 held2 (remaining b))
     → Lies remaining a run (λ left. with_next points held last known (rest_ahead points last items before left))
@@ -112,7 +112,7 @@ ahead-other remaining points last items held held2 known before form form2 a b r
     (ys, behind, before-item points held last items known before form left run _ e some few found is ∙ sym (unasked points held2 last (items - 1) known (Some form2) ys e))
 
 -- a frame
-pub ahead-waits : {S : Type 0} (remaining : S → Option (List ℕ)) (points : List Point) (last instant : Instant) (items : ℕ) (held held2 : List ℕ) (known : Next) (before : Option Form) (form form2 : Form) (frame : Frame) (a b : S) (run : Run)
+pub ahead-waits : {S : Type 0} (remaining : S → Option (List ℕ)) (points : List Point) (last instant : Instant) (items : ℕ) (held held2 : List ℕ) (known : NextKnown) (before : Option Form) (form form2 : Form) (frame : Frame) (a b : S) (run : Run)
     → known ≡ next.Unasked → before ≡ Some form → 0 < items
     → ((xs : List ℕ) → remaining a ≡ Some xs → ReadsItem (turn_of form xs) (Ok (item.Frame frame)) form2 held2 (remaining b))
     → instant_after last frame.moment ≡ Ok instant
@@ -124,7 +124,7 @@ ahead-waits remaining points last instant items held held2 known before form for
     (ys, behind, before-item points held last items known before form left run _ e some few found is ∙ judged-more points last (seen_of frame held2) more.0 more.1 (Ok instant) told)
 
 -- a frame whose moment is none of a trace
-pub stops-moment : {S : Type 0} (remaining : S → Option (List ℕ)) (points : List Point) (last : Instant) (items : ℕ) (held held2 : List ℕ) (known : Next) (before : Option Form) (form form2 : Form) (frame : Frame) (a b : S) (run : Run) (f : TraceStop)
+pub stops-moment : {S : Type 0} (remaining : S → Option (List ℕ)) (points : List Point) (last : Instant) (items : ℕ) (held held2 : List ℕ) (known : NextKnown) (before : Option Form) (form form2 : Form) (frame : Frame) (a b : S) (run : Run) (f : TraceStop)
     → known ≡ next.Unasked → before ≡ Some form → 0 < items
     → ((xs : List ℕ) → remaining a ≡ Some xs → ReadsItem (turn_of form xs) (Ok (item.Frame frame)) form2 held2 (remaining b))
     → instant_after last frame.moment ≡ Err f
@@ -136,7 +136,7 @@ stops-moment remaining points last items held held2 known before form form2 fram
     before-item points held last items known before form left run _ e some few found is ∙ judged-more points last (seen_of frame held2) more.0 more.1 (Err f) told
 
 -- an item that is not read
-pub stops-item : {S : Type 0} (remaining : S → Option (List ℕ)) (points : List Point) (last : Instant) (items : ℕ) (held held2 : List ℕ) (known : Next) (before : Option Form) (form form2 : Form) (a b : S) (run : Run) (f : FileFault)
+pub stops-item : {S : Type 0} (remaining : S → Option (List ℕ)) (points : List Point) (last : Instant) (items : ℕ) (held held2 : List ℕ) (known : NextKnown) (before : Option Form) (form form2 : Form) (a b : S) (run : Run) (f : FileFault)
     → known ≡ next.Unasked → before ≡ Some form → 0 < items
     → ((xs : List ℕ) → remaining a ≡ Some xs → ReadsItem (turn_of form xs) (Err f) form2 held2 (remaining b))
     → Lies remaining a run (λ left. with_next points held last known (rest_ahead points last items before left))
@@ -145,7 +145,7 @@ stops-item remaining points last items held held2 known before form form2 a b ru
     before-item points held last items known before form left run _ e some few (reads left source inside) is ∙ judged-none points last (Some (stop.File f))
 
 -- what is known of a next frame was asked for
-pub asked : (known : Next) → (known ≡ next.Unasked → ⊥) → is_asked known ≡ true
+pub asked : (known : NextKnown) → (known ≡ next.Unasked → ⊥) → is_asked known ≡ true
 asked next.Unasked unlike = absurd (unlike refl)
 asked next.Ended unlike = refl
 asked (next.Waits frame) unlike = refl

@@ -13,7 +13,7 @@ use Rattle.pfs_capture.specs.declared.directions.Directions.{Directions}
 use Rattle.pfs_capture.specs.declared.instants.Instant.{Instant}
 use Rattle.pfs_capture.specs.declared.sorting.Evidence.{Evidence}
 use Rattle.pfs_capture.specs.declared.sorting.Evidence.TheVariants as evidence
-use Rattle.pfs_capture.specs.declared.sorting.Found.{Found}
+use Rattle.pfs_capture.specs.declared.sorting.DirectedPacket.{DirectedPacket}
 
 -- one frame more counts as one or as none
 count-more : (p : Judged → Bool) (js : List Judged) (j : Judged) (n : ℕ) → ◌≡◌ {A = ℕ} (cond (p j) 1 0) n → count_by p js + n ≡ count_by p (js ++ j ∷ [])
@@ -65,30 +65,30 @@ by_more d evidence.Cooked n = same_directions _ _ _ _ _ _ (none-more d.log) refl
 by_more d evidence.Mac n = same_directions _ _ _ _ _ _ (none-more d.log) (none-more d.cooked) refl (none-more d.networks) refl
 by_more d evidence.Networks n = same_directions _ _ _ _ _ _ (none-more d.log) (none-more d.cooked) (none-more d.mac) refl refl
 
-found-more : (e : Evidence) (js : List Judged) (j : Judged) (found : Found) → j.outcome ≡ Ok found → found_by e js + cond (same_evidence e found.way.heading.by) 1 0 ≡ found_by e (js ++ j ∷ [])
-found-more e js j found is = count-more (λ x. is_found_by e x.outcome) js j (cond (same_evidence e found.way.heading.by) 1 0) (ap (λ (o : Result Found Reason). cond (is_found_by e o) 1 0) is)
+found-more : (e : Evidence) (js : List Judged) (j : Judged) (found : DirectedPacket) → j.outcome ≡ Ok found → found_by e js + cond (same_evidence e found.way.heading.by) 1 0 ≡ found_by e (js ++ j ∷ [])
+found-more e js j found is = count-more (λ x. is_found_by e x.outcome) js j (cond (same_evidence e found.way.heading.by) 1 0) (ap (λ (o : Result DirectedPacket Reason). cond (is_found_by e o) 1 0) is)
 
 found-same : (e : Evidence) (js : List Judged) (j : Judged) (r : Reason) → j.outcome ≡ Err r → found_by e js ≡ found_by e (js ++ j ∷ [])
-found-same e js j r is = count-same (λ x. is_found_by e x.outcome) js j (ap (λ (o : Result Found Reason). cond (is_found_by e o) 1 0) is)
+found-same e js j r is = count-same (λ x. is_found_by e x.outcome) js j (ap (λ (o : Result DirectedPacket Reason). cond (is_found_by e o) 1 0) is)
 
 -- the directions of one record more
-directions-more : (js : List Judged) (j : Judged) (found : Found) → j.outcome ≡ Ok found → directions_with (directions_of js) found.way.heading ≡ directions_of (js ++ j ∷ [])
+directions-more : (js : List Judged) (j : Judged) (found : DirectedPacket) → j.outcome ≡ Ok found → directions_with (directions_of js) found.way.heading ≡ directions_of (js ++ j ∷ [])
 directions-more js j found is =
     let h = found.way.heading in
     by_more (directions_of js) h.by (count_by (λ x. is_contradicted x.outcome) js + cond h.is_contradicted 1 0)
     ∙ same_directions _ _ _ _ _ (directions_of (js ++ j ∷ [])) (found-more evidence.Log js j found is) (found-more evidence.Cooked js j found is) (found-more evidence.Mac js j found is)
     (found-more evidence.Networks js j found is)
-    (count-more (λ x. is_contradicted x.outcome) js j (cond h.is_contradicted 1 0) (ap (λ (o : Result Found Reason). cond (is_contradicted o) 1 0) is))
+    (count-more (λ x. is_contradicted x.outcome) js j (cond h.is_contradicted 1 0) (ap (λ (o : Result DirectedPacket Reason). cond (is_contradicted o) 1 0) is))
 
 -- what is no record has none
 directions-same : (js : List Judged) (j : Judged) (r : Reason) → j.outcome ≡ Err r → directions_of js ≡ directions_of (js ++ j ∷ [])
 directions-same js j r is =
     same_directions _ _ _ _ _ (directions_of (js ++ j ∷ [])) (found-same evidence.Log js j r is) (found-same evidence.Cooked js j r is) (found-same evidence.Mac js j r is)
     (found-same evidence.Networks js j r is)
-    (count-same (λ x. is_contradicted x.outcome) js j (ap (λ (o : Result Found Reason). cond (is_contradicted o) 1 0) is))
+    (count-same (λ x. is_contradicted x.outcome) js j (ap (λ (o : Result DirectedPacket Reason). cond (is_contradicted o) 1 0) is))
 
 -- the account of one frame more is its frame counted
-pub account-more : (js : List Judged) (instant : Instant) (is_late : Bool) (outcome : Result Found Reason)
+pub account-more : (js : List Judged) (instant : Instant) (is_late : Bool) (outcome : Result DirectedPacket Reason)
     → frame_counted (account_of js) is_late outcome ≡ account_of (js ++ record { instant = instant; is_late = is_late; outcome = outcome } ∷ [])
 account-more js instant is_late (Ok found) =
     let j : Judged = record { instant = instant; is_late = is_late; outcome = Ok found } in
@@ -131,7 +131,7 @@ unfoldable pub records_after : ℕ → List Judged → ℕ
 records_after n [] = n
 records_after n (j ∷ js) = records_after (records_with n j.outcome) js
 
-with_one : (n : ℕ) (outcome : Result Found Reason) → records_with n outcome ≡ n + cond (is_record outcome) 1 0
+with_one : (n : ℕ) (outcome : Result DirectedPacket Reason) → records_with n outcome ≡ n + cond (is_record outcome) 1 0
 with_one n (Ok found) = refl
 with_one n (Err r) = omega arith
 

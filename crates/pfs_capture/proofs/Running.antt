@@ -17,7 +17,7 @@ use Rattle.pfs_capture.specs.Merging.{Coming, Comes, Stops, Ends, Given, at_comi
 use Rattle.pfs_capture.specs.Readers.{lefts_of}
 use Rattle.pfs_capture.specs.Runs.{Judged, Run}
 use Rattle.pfs_capture.specs.Traces.{AreWithin, BeginsText, Outgrows, TellsAll, TellsCaptures, TellsFirst, TellsFront, TellsRun, account_of, answer_text, answers_text, trace_text}
-use Rattle.pfs_capture.specs.Turns.{IsFront, Overflows, Sends, Taken, TakesFrame, frame_taken}
+use Rattle.pfs_capture.specs.FrameTurns.{IsFront, Overflows, Sends, Taken, TakesFrame, frame_taken}
 use Rattle.pfs_capture.specs.declared.accounts.Account.{Account}
 use Rattle.pfs_capture.specs.declared.captures.Capture.{Capture}
 use Rattle.pfs_capture.specs.declared.faults.TraceStop.{TraceStop}

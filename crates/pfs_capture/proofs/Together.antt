@@ -16,11 +16,11 @@ use Rattle.pfs_capture.specs.Readers.{AreGiven, IsGiven, SomeFailed, failures_of
 use Rattle.pfs_capture.specs.Runs.{Judged, Run, frame_then, judged_at, judged_frames}
 use Rattle.pfs_capture.specs.Traces.{AreWithinStarts}
 use Rattle.pfs_capture.specs.declared.captures.Capture.{Capture}
-use Rattle.pfs_capture.specs.declared.captures.Next.{Next}
-use Rattle.pfs_capture.specs.declared.captures.Next.TheVariants as next
+use Rattle.pfs_capture.specs.declared.captures.NextKnown.{NextKnown}
+use Rattle.pfs_capture.specs.declared.captures.NextKnown.TheVariants as next
 use Rattle.pfs_capture.specs.declared.faults.TraceStop.{TraceStop}
 use Rattle.pfs_capture.specs.declared.instants.Instant.{Instant}
-use Rattle.pfs_capture.specs.declared.merging.Place.{Place}
+use Rattle.pfs_capture.specs.declared.merging.NextFrame.{NextFrame}
 
 -- ---- one capture is asked
 
@@ -62,7 +62,7 @@ then-few a b c e (inl failed) = inl failed
 then-few a b c e (inr same) = inr (same ∙ e)
 
 -- a fault behind a capture whose next frame is known is what comes next
-stops-behind : (points : List Point) (held : List ℕ) (last : Instant) (known : Next) (rest r : Run) (rs : List Run) (f : TraceStop) → is_asked known ≡ true
+stops-behind : (points : List Point) (held : List ℕ) (last : Instant) (known : NextKnown) (rest r : Run) (rs : List Run) (f : TraceStop) → is_asked known ≡ true
     → r ≡ with_next points held last known rest → behind_run r (Stops f) rs ≡ Stops f
 stops-behind points held last next.Unasked rest r rs f was e = absurd (cc was)
 stops-behind points held last next.Ended rest r rs f was e = ap (λ (x : Run). behind_run x (Stops f) rs) e
@@ -83,7 +83,7 @@ stops-at remaining (x ∷ xs) (r ∷ rs) (suc i) c o f e lt known stops h =
 -- ---- the earliest comes next
 
 -- nothing waits: nothing comes
-ended-behind : (points : List Point) (held : List ℕ) (last : Instant) (known : Next) (rest r : Run) (rs : List Run) (k : ℕ) (behind : Option Place) → is_asked known ≡ true
+ended-behind : (points : List Point) (held : List ℕ) (last : Instant) (known : NextKnown) (rest r : Run) (rs : List Run) (k : ℕ) (behind : Option NextFrame) → is_asked known ≡ true
     → nearer (waiting_at k last known) behind ≡ None → r ≡ with_next points held last known rest → (behind ≡ None) × (behind_run r Ends rs ≡ Ends)
 ended-behind points held last next.Unasked rest r rs k behind was none e = absurd (cc was)
 ended-behind points held last next.Ended rest r rs k behind was none e = (none, ap (λ (x : Run). behind_run x Ends rs) e)
@@ -105,7 +105,7 @@ none-comes remaining (x ∷ xs) (r ∷ rs) k known none h =
     ap (λ (z : Coming). behind_run r z rs) (none-comes remaining xs rs (k + 1) known.1 ended.0 h.1) ∙ ended.1
 
 -- the frame in this place comes next, and is then not asked for any more
-pub record IsChosen {R : Type 0} (remaining : FeedView R → Option (List ℕ)) (cs : List (Capture R)) (rs : List Run) (k : ℕ) (p : Place) : Type 0 where
+pub record IsChosen {R : Type 0} (remaining : FeedView R → Option (List ℕ)) (cs : List (Capture R)) (rs : List Run) (k : ℕ) (p : NextFrame) : Type 0 where
   pub nth : ℕ
   pub capture : Capture R
   pub rest : List Run
@@ -117,7 +117,7 @@ pub record IsChosen {R : Type 0} (remaining : FeedView R → Option (List ℕ)) 
   pub left : Aheads remaining (set cs nth (record capture { next = next.Unasked })) rest
 
 -- it is behind the capture in front
-chosen-behind : {R : Type 0} (remaining : FeedView R → Option (List ℕ)) (x : Capture R) (xs : List (Capture R)) (r : Run) (rs : List Run) (k : ℕ) (p : Place)
+chosen-behind : {R : Type 0} (remaining : FeedView R → Option (List ℕ)) (x : Capture R) (xs : List (Capture R)) (r : Run) (rs : List Run) (k : ℕ) (p : NextFrame)
     → Ahead remaining x r → (h : IsChosen remaining xs rs (k + 1) p)
     → behind_run r (Comes (judged_at h.capture.points.items (seen_of p.frame h.capture.held.items) h.capture.last) h.rest) rs
     ≡ Comes (judged_at h.capture.points.items (seen_of p.frame h.capture.held.items) h.capture.last) (r ∷ h.rest)
@@ -135,11 +135,11 @@ chosen-behind remaining x xs r rs k p front h comes = record {
 }
 
 -- it is that of the capture in front
-chosen-front : {R : Type 0} (remaining : FeedView R → Option (List ℕ)) (x : Capture R) (xs : List (Capture R)) (rs : List Run) (r : Run) (k : ℕ) (frame : Frame) (left : List ℕ) (p : Place)
+chosen-front : {R : Type 0} (remaining : FeedView R → Option (List ℕ)) (x : Capture R) (xs : List (Capture R)) (rs : List Run) (r : Run) (k : ℕ) (frame : Frame) (left : List ℕ) (p : NextFrame)
     → record { index = k; instant = x.last; frame = frame } ≡ p → remaining x.reader ≡ Some left → Aheads remaining xs rs
     → behind_run r (coming_of rs) rs ≡ Comes (judged_at x.points.items (seen_of frame x.held.items) x.last) (rest_ahead x.points.items x.last x.items x.form left ∷ rs)
     → IsChosen remaining (x ∷ xs) (r ∷ rs) k p
-chosen-front remaining x xs rs r k frame left p e source behind comes = subst (λ (q : Place). IsChosen remaining (x ∷ xs) (r ∷ rs) k q) e (record {
+chosen-front remaining x xs rs r k frame left p e source behind comes = subst (λ (q : NextFrame). IsChosen remaining (x ∷ xs) (r ∷ rs) k q) e (record {
   nth = 0;
   capture = x;
   rest = rest_ahead x.points.items x.last x.items x.form left ∷ rs;
@@ -151,7 +151,7 @@ chosen-front remaining x xs rs r k frame left p e source behind comes = subst (�
   left = ((left, source, refl), behind);
 })
 
-pub chosen : {R : Type 0} (remaining : FeedView R → Option (List ℕ)) (cs : List (Capture R)) (rs : List Run) (k : ℕ) (p : Place) → AreAsked (length cs) cs
+pub chosen : {R : Type 0} (remaining : FeedView R → Option (List ℕ)) (cs : List (Capture R)) (rs : List Run) (k : ℕ) (p : NextFrame) → AreAsked (length cs) cs
     → earliest k cs ≡ Some p → Aheads remaining cs rs → IsChosen remaining cs rs k p
 chosen remaining [] rs k p known e h = absurd (cc e)
 chosen remaining (x ∷ xs) [] k p known e h = absurd h
@@ -165,9 +165,9 @@ chosen {R} remaining (x ∷ xs) (r ∷ rs) k p known e h =
     first : Frame → Judged
     first frame = judged_at x.points.items (seen_of frame x.held.items) x.last
 
-    waits : (frame : Frame) (left : List ℕ) → remaining x.reader ≡ Some left → r ≡ frame_then (first frame) (rest left) → (behind : Option Place) → earliest (k + 1) xs ≡ behind
+    waits : (frame : Frame) (left : List ℕ) → remaining x.reader ≡ Some left → r ≡ frame_then (first frame) (rest left) → (behind : Option NextFrame) → earliest (k + 1) xs ≡ behind
         → nearer (Some (record { index = k; instant = x.last; frame = frame })) behind ≡ Some p
-        → ((q : Place) → earliest (k + 1) xs ≡ Some q → Aheads remaining xs rs → IsChosen remaining xs rs (k + 1) q)
+        → ((q : NextFrame) → earliest (k + 1) xs ≡ Some q → Aheads remaining xs rs → IsChosen remaining xs rs (k + 1) q)
         → (earliest (k + 1) xs ≡ None → Aheads remaining xs rs → coming_of rs ≡ Ends)
         → IsChosen remaining (x ∷ xs) (r ∷ rs) k p
     waits frame left source is None t f more none =
@@ -183,7 +183,7 @@ chosen {R} remaining (x ∷ xs) (r ∷ rs) k p known e h =
             let own : is_earlier behind.capture.last x.last ≡ true = ap (λ (z : Instant). is_earlier z x.last) (sym behind.instant) ∙ earlier in
             let j : Judged = judged_at behind.capture.points.items (seen_of q.frame behind.capture.held.items) behind.capture.last in
             let same : q ≡ p = cc g in
-            subst (λ (z : Place). IsChosen remaining (x ∷ xs) (r ∷ rs) k z) same
+            subst (λ (z : NextFrame). IsChosen remaining (x ∷ xs) (r ∷ rs) k z) same
             (chosen-behind remaining x xs r rs k q h.0 behind
             (ap (λ (z : Run). behind_run z (Comes j behind.rest) rs) is
             ∙ (ap (λ (b : Bool). if b then Comes j (frame_then (first frame) (rest left) ∷ behind.rest) else Comes (first frame) (rest left ∷ rs)) own
@@ -196,9 +196,9 @@ chosen {R} remaining (x ∷ xs) (r ∷ rs) k p known e h =
             ∙ (ap (λ (z : Coming). behind_frame (first frame) (rest left) z rs) behind.comes
             ∙ ap (λ (b : Bool). if b then Comes j (frame_then (first frame) (rest left) ∷ behind.rest) else Comes (first frame) (rest left ∷ rs)) own))
 
-    by : (known : Next) (left : List ℕ) → is_asked known ≡ true → remaining x.reader ≡ Some left → r ≡ with_next x.points.items x.held.items x.last known (rest left)
+    by : (known : NextKnown) (left : List ℕ) → is_asked known ≡ true → remaining x.reader ≡ Some left → r ≡ with_next x.points.items x.held.items x.last known (rest left)
         → nearer (waiting_at k x.last known) (earliest (k + 1) xs) ≡ Some p
-        → ((q : Place) → earliest (k + 1) xs ≡ Some q → Aheads remaining xs rs → IsChosen remaining xs rs (k + 1) q)
+        → ((q : NextFrame) → earliest (k + 1) xs ≡ Some q → Aheads remaining xs rs → IsChosen remaining xs rs (k + 1) q)
         → (earliest (k + 1) xs ≡ None → Aheads remaining xs rs → coming_of rs ≡ Ends)
         → IsChosen remaining (x ∷ xs) (r ∷ rs) k p
     by next.Unasked left was source is f more none = absurd (cc was)
@@ -209,7 +209,7 @@ chosen {R} remaining (x ∷ xs) (r ∷ rs) k p known e h =
     by (next.Waits frame) left was source is f more none = waits frame left source is (earliest (k + 1) xs) refl f more none
 
 -- its index among all captures is that of its place
-pub chosen-here : {R : Type 0} (remaining : FeedView R → Option (List ℕ)) (cs : List (Capture R)) (rs : List Run) (p : Place) → (h : IsChosen remaining cs rs 0 p)
+pub chosen-here : {R : Type 0} (remaining : FeedView R → Option (List ℕ)) (cs : List (Capture R)) (rs : List Run) (p : NextFrame) → (h : IsChosen remaining cs rs 0 p)
     → (slice_get cs p.index ≡ Some h.capture) × Aheads remaining (set cs p.index (record (h.capture) { next = next.Unasked })) h.rest
 chosen-here remaining cs rs p h =
     let same : h.nth ≡ p.index = omega (arith, h.place) in
@@ -227,7 +227,7 @@ begun-step remaining (x ∷ xs) (g ∷ gs) zero c d o e lt begins h = (begins g 
 begun-step remaining (x ∷ xs) (g ∷ gs) (suc i) c d o e lt begins h = (h.0, begun-step remaining xs gs i c d o e (omega (arith, lt)) begins h.1)
 
 -- all frames lie ahead of a capture that has begun
-begun-run : (points points2 : List Point) (held : List ℕ) (last : Instant) (items : ℕ) (known : Next) (after : Option Form) (form : Form) (left octets : List ℕ)
+begun-run : (points points2 : List Point) (held : List ℕ) (last : Instant) (items : ℕ) (known : NextKnown) (after : Option Form) (form : Form) (left octets : List ℕ)
     → start_of octets ≡ Ok (form, left) → after ≡ Some form → points ≡ points2 → known ≡ next.Unasked → last ≡ start_instant → items ≡ most_items
     → begun_run points2 (start_of octets) ≡ with_next points held last known (rest_ahead points last items after left)
 begun-run points points2 held last items known after form left octets starts is same unasked first all =
@@ -236,7 +236,7 @@ begun-run points points2 held last items known after form left octets starts is 
     ∙ (ap (λ (i : Instant). judged_frames points2 i (frames_from items form left)) (sym first)
     ∙ (ap (λ (ps : List Point). judged_frames ps last (frames_from items form left)) (sym same)
     ∙ (ap (λ (o : Option Form). rest_ahead points last items o left) (sym is)
-    ∙ ap (λ (n : Next). with_next points held last n (rest_ahead points last items after left)) (sym unasked)))))
+    ∙ ap (λ (n : NextKnown). with_next points held last n (rest_ahead points last items after left)) (sym unasked)))))
 
 pub all-begun : {R : Type 0} (remaining : FeedView R → Option (List ℕ)) (cs : List (Capture R)) (gs : List Given) (n : ℕ) → n ≡ length cs → HaveBegun remaining n cs gs
     → Aheads remaining cs (map capture_run gs) × (first_fault gs ≡ None)
@@ -281,7 +281,7 @@ broken-off remaining (x ∷ xs) (g ∷ gs) (suc i) c d o f e lt breaks h =
 
 -- ---- where the earliest is
 
-near-within : (n : ℕ) (first behind : Option Place) → IfSome first (λ p. p.index < n) → IfSome behind (λ p. p.index < n) → IfSome (nearer first behind) (λ p. p.index < n)
+near-within : (n : ℕ) (first behind : Option NextFrame) → IfSome first (λ p. p.index < n) → IfSome behind (λ p. p.index < n) → IfSome (nearer first behind) (λ p. p.index < n)
 near-within n None behind h k = k
 near-within n (Some p) None h k = h
 near-within n (Some p) (Some q) h k = by (is_earlier q.instant p.instant)
@@ -290,7 +290,7 @@ near-within n (Some p) (Some q) h k = by (is_earlier q.instant p.instant)
     by true = k
     by false = h
 
-place-within : (n index : ℕ) (instant : Instant) (known : Next) → index < n → IfSome (waiting_at index instant known) (λ p. p.index < n)
+place-within : (n index : ℕ) (instant : Instant) (known : NextKnown) → index < n → IfSome (waiting_at index instant known) (λ p. p.index < n)
 place-within n index instant next.Unasked h = tt
 place-within n index instant next.Ended h = tt
 place-within n index instant (next.Waits frame) h = h
@@ -300,5 +300,5 @@ earliest-below n k [] h = tt
 earliest-below n k (x ∷ xs) h =
     near-within n (waiting_at k x.last x.next) (earliest (k + 1) xs) (place-within n k x.last x.next (omega (arith, h))) (earliest-below n (k + 1) xs (omega (arith, h)))
 
-pub earliest-within : {R : Type 0} (cs : List (Capture R)) (found : Option Place) → found ≡ earliest 0 cs → IfSome found (λ p. p.index < length cs)
-earliest-within cs found e = subst (λ (o : Option Place). IfSome o (λ p. p.index < length cs)) (sym e) (earliest-below (length cs) 0 cs (omega arith))
+pub earliest-within : {R : Type 0} (cs : List (Capture R)) (found : Option NextFrame) → found ≡ earliest 0 cs → IfSome found (λ p. p.index < length cs)
+earliest-within cs found e = subst (λ (o : Option NextFrame). IfSome o (λ p. p.index < length cs)) (sym e) (earliest-below (length cs) 0 cs (omega arith))

@@ -7,7 +7,7 @@ use Rattle.pfs_capture.specs.declared.accounts.Account.{Account}
 use Rattle.pfs_capture.specs.declared.directions.Directions.{Directions}
 use Rattle.pfs_capture.specs.declared.sorting.Evidence.{Evidence}
 use Rattle.pfs_capture.specs.declared.sorting.Evidence.TheVariants as evidence
-use Rattle.pfs_capture.specs.declared.sorting.Found.{Found}
+use Rattle.pfs_capture.specs.declared.sorting.DirectedPacket.{DirectedPacket}
 use Rattle.pfs_capture.specs.declared.sorting.Heading.{Heading}
 
 -- how many records have a direction
@@ -63,7 +63,7 @@ reason_counted a reason.TooShort = record a { frames = a.frames + 1; too_short =
 reason_counted a reason.NeitherWay = record a { frames = a.frames + 1; neither_way = a.neither_way + 1 }
 
 -- one frame more, which is a record, or is none for a reason
-abbrev pub frame_counted : Account → Bool → Result Found Reason → Account
+abbrev pub frame_counted : Account → Bool → Result DirectedPacket Reason → Account
 frame_counted a is_late (Ok found) = record_counted a is_late found.way.heading
 frame_counted a is_late (Err r) = reason_counted a r
 

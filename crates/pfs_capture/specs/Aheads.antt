@@ -13,12 +13,12 @@ use Rattle.pfs_capture.specs.Readers.{AreGiven, lefts_of}
 use Rattle.pfs_capture.specs.Runs.{Run, frame_then, judged_at, judged_frames}
 use Rattle.pfs_capture.specs.Traces.{AreWithinStarts, EndsAtStart}
 use Rattle.pfs_capture.specs.declared.captures.Capture.{Capture}
-use Rattle.pfs_capture.specs.declared.captures.Next.{Next}
-use Rattle.pfs_capture.specs.declared.captures.Next.TheVariants as next
+use Rattle.pfs_capture.specs.declared.captures.NextKnown.{NextKnown}
+use Rattle.pfs_capture.specs.declared.captures.NextKnown.TheVariants as next
 use Rattle.pfs_capture.specs.declared.faults.TraceStop.{TraceStop}
 use Rattle.pfs_capture.specs.declared.faults.TraceStop.TheVariants as stop
 use Rattle.pfs_capture.specs.declared.instants.Instant.{Instant}
-use Rattle.pfs_capture.specs.declared.merging.Place.{Place}
+use Rattle.pfs_capture.specs.declared.merging.NextFrame.{NextFrame}
 
 -- the frames of a capture that were not asked for: so many items at most, from where it begins or goes on
 abbrev pub rest_from : List Point → Instant → ℕ → Result (Form × List ℕ) FileFault → Run
@@ -30,7 +30,7 @@ rest_ahead points last items None left = rest_from points last items (start_of l
 rest_ahead points last items (Some form) left = rest_from points last items (Ok (form, left))
 
 -- with the one that was, in this moment
-abbrev pub with_next : List Point → List ℕ → Instant → Next → Run → Run
+abbrev pub with_next : List Point → List ℕ → Instant → NextKnown → Run → Run
 with_next points held last next.Unasked run = run
 with_next points held last next.Ended run = ([], None)
 with_next points held last (next.Waits frame) run = frame_then (judged_at points (seen_of frame held) last) run
@@ -48,7 +48,7 @@ Aheads remaining (c ∷ cs) (r ∷ rs) = Ahead remaining c r × Aheads remaining
 Aheads remaining cs rs = ⊥
 
 -- whether the next frame of a capture was asked for
-abbrev pub is_asked : Next → Bool
+abbrev pub is_asked : NextKnown → Bool
 is_asked next.Unasked = false
 is_asked next.Ended = true
 is_asked (next.Waits frame) = true
@@ -121,18 +121,18 @@ AllBegin remaining (Err f) cs gs = EndsAtStart (first_fault gs) (Err f) × AreWi
 -- ---- the earliest
 
 -- the place of the next frame of a capture among captures
-abbrev pub waiting_at : ℕ → Instant → Next → Option Place
+abbrev pub waiting_at : ℕ → Instant → NextKnown → Option NextFrame
 waiting_at index instant (next.Waits frame) = Some (record { index = index; instant = instant; frame = frame })
 waiting_at index instant next.Ended = None
 waiting_at index instant next.Unasked = None
 
 -- the earlier of two places, the first of those of one moment
-abbrev pub nearer : Option Place → Option Place → Option Place
+abbrev pub nearer : Option NextFrame → Option NextFrame → Option NextFrame
 nearer None behind = behind
 nearer (Some p) None = Some p
 nearer (Some p) (Some q) = if is_earlier q.instant p.instant then Some q else Some p
 
 -- the place of the earliest of the next frames, from this index on
-abbrev pub earliest : {R : Type 0} → ℕ → List (Capture R) → Option Place
+abbrev pub earliest : {R : Type 0} → ℕ → List (Capture R) → Option NextFrame
 earliest index [] = None
 earliest index (c ∷ cs) = nearer (waiting_at index c.last c.next) (earliest (index + 1) cs)

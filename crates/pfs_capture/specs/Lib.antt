@@ -2,6 +2,7 @@ pub mod Accounts
 pub mod Aheads
 pub mod Captures
 pub mod Faults
+pub mod FrameTurns
 pub mod Instants
 pub mod Merging
 pub mod Points
@@ -9,4 +10,3 @@ pub mod Readers
 pub mod Runs
 pub mod Sorting
 pub mod Traces
-pub mod Turns

@@ -5,22 +5,22 @@ use Rattle.std.specs.Str.{bytes_eq}
 use Rattle.pfs_addr_values.specs.Prefixes.{Network, covers}
 use Rattle.pfs_addr_values.specs.declared.addresses.Addr.{Addr}
 use Rattle.pfs_capture_packets.specs.declared.ways.Mac.{Mac}
-use Rattle.pfs_capture.specs.declared.points.Side.{Side}
-use Rattle.pfs_capture.specs.declared.points.Side.TheVariants.{Behind, InFront}
+use Rattle.pfs_capture.specs.declared.points.InterfaceSide.{InterfaceSide}
+use Rattle.pfs_capture.specs.declared.points.InterfaceSide.TheVariants.{Behind, InFront}
 
 -- an interface by its name, its addresses on its link, and the networks on one side of it
 pub record Point : Type 0 where
   pub ifname : List ℕ
   pub macs : List Mac
   pub networks : List Network
-  pub side : Side
+  pub side : InterfaceSide
 
 -- one of the networks covers an address
 abbrev pub is_in_networks : List Network → Addr → Bool
 is_in_networks networks addr = list_any (λ p. covers p addr) networks
 
 -- on this side of the networks, whether what is in them is behind the interface
-abbrev pub is_on_side : Side → Bool → Bool
+abbrev pub is_on_side : InterfaceSide → Bool → Bool
 is_on_side Behind is_in = is_in
 is_on_side InFront is_in = not is_in
 

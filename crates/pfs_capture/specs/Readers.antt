@@ -5,7 +5,7 @@ use Rattle.pfs_capture.specs.Captures.{most_items}
 use Rattle.pfs_capture.specs.Instants.{start_instant}
 use Rattle.pfs_capture.specs.Merging.{Given}
 use Rattle.pfs_capture.specs.declared.captures.Capture.{Capture}
-use Rattle.pfs_capture.specs.declared.captures.Next.TheVariants as next
+use Rattle.pfs_capture.specs.declared.captures.NextKnown.TheVariants as next
 
 -- a capture of which nothing was read
 abbrev pub IsUnread : {R : Type 0} → Capture R → Type 0

@@ -1,22 +1,22 @@
 -- The frames of a capture in their moments, each a record, or none for a reason. (own)
 use Rattle.std.specs.Prelude.{Bool, List, [], ◌∷◌, Option, Some, Result, Ok, Err}
 use Rattle.pfs_capture_packets.specs.declared.packets.Reason.{Reason}
-use Rattle.pfs_capture.specs.Captures.{Frames, Seen}
+use Rattle.pfs_capture.specs.Captures.{Frames, SeenFrame}
 use Rattle.pfs_capture.specs.Instants.{instant_after, is_before}
 use Rattle.pfs_capture.specs.Points.{Point}
 use Rattle.pfs_capture.specs.Sorting.{found_in_frame}
 use Rattle.pfs_capture.specs.declared.faults.TraceStop.{TraceStop}
 use Rattle.pfs_capture.specs.declared.instants.Instant.{Instant}
-use Rattle.pfs_capture.specs.declared.sorting.Found.{Found}
+use Rattle.pfs_capture.specs.declared.sorting.DirectedPacket.{DirectedPacket}
 
 -- a frame in its moment, whether it was seen in an earlier second, and whether it is a record or why it is none
 pub record Judged : Type 0 where
   pub instant : Instant
   pub is_late : Bool
-  pub outcome : Result Found Reason
+  pub outcome : Result DirectedPacket Reason
 
 -- a frame of a capture that was taken at these interfaces, in this moment
-abbrev pub judged_at : List Point → Seen → Instant → Judged
+abbrev pub judged_at : List Point → SeenFrame → Instant → Judged
 judged_at points f instant = record { instant = instant; is_late = is_before f.moment instant.second; outcome = found_in_frame points f.name f.link f.octets }
 
 -- frames in their moments, and what stops them before the end of the capture, if anything does
@@ -33,7 +33,7 @@ at_instant (Ok instant) judged more = frame_then (judged instant) (more instant)
 at_instant (Err f) judged more = ([], Some f)
 
 -- these frames after one of this moment
-unfoldable pub judged_from : List Point → Instant → List Seen → Option TraceStop → Run
+unfoldable pub judged_from : List Point → Instant → List SeenFrame → Option TraceStop → Run
 judged_from points last [] end = ([], end)
 judged_from points last (f ∷ fs) end =
     at_instant (instant_after last f.moment) (λ instant. judged_at points f instant) (λ instant. judged_from points instant fs end)

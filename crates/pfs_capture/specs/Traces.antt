@@ -22,21 +22,21 @@ use Rattle.pfs_capture.specs.declared.faults.TraceStop.{TraceStop}
 use Rattle.pfs_capture.specs.declared.faults.TraceStop.TheVariants as stop
 use Rattle.pfs_capture.specs.declared.sorting.Evidence.{Evidence}
 use Rattle.pfs_capture.specs.declared.sorting.Evidence.TheVariants as evidence
-use Rattle.pfs_capture.specs.declared.sorting.Found.{Found}
+use Rattle.pfs_capture.specs.declared.sorting.DirectedPacket.{DirectedPacket}
 
 -- ---- the texts
 
 -- the row of a packet that was found
-abbrev pub row_from : ℕ → Found → Row
+abbrev pub row_from : ℕ → DirectedPacket → Row
 row_from second found = record { second = second; packet = on_way found.way.heading.dir found.way.ifname found.packet }
 
 -- a frame's row, or nothing
-abbrev pub frame_text : ℕ → Result Found Reason → List ℕ
+abbrev pub frame_text : ℕ → Result DirectedPacket Reason → List ℕ
 frame_text second (Ok found) = packet_row (row_from second found)
 frame_text second (Err r) = []
 
 -- what pf answered for the record of this number, or nothing
-abbrev pub answer_text : ℕ → Result Found Reason → List ℕ
+abbrev pub answer_text : ℕ → Result DirectedPacket Reason → List ℕ
 answer_text number (Ok found) = option_map_or (λ answer. answer_row number answer) found.answer []
 answer_text number (Err r) = []
 
@@ -45,7 +45,7 @@ abbrev pub trace_text : List Judged → List ℕ
 trace_text frames = header_text ++ flat_map (λ j. frame_text j.instant.second j.outcome) frames
 
 -- how many records there are with one frame more
-abbrev pub records_with : ℕ → Result Found Reason → ℕ
+abbrev pub records_with : ℕ → Result DirectedPacket Reason → ℕ
 records_with records (Ok found) = records + 1
 records_with records (Err r) = records
 
@@ -61,7 +61,7 @@ answers_text frames = codes "row,action,rule,anchor,subrule,reason,rewritten\n" 
 -- ---- the account
 
 -- whether a frame is a record
-abbrev pub is_record : Result Found Reason → Bool
+abbrev pub is_record : Result DirectedPacket Reason → Bool
 is_record (Ok found) = true
 is_record (Err r) = false
 
@@ -80,7 +80,7 @@ same_reason reason.NeitherWay reason.NeitherWay = true
 same_reason r s = false
 
 -- whether a frame is no record for this reason
-abbrev pub is_none_for : Reason → Result Found Reason → Bool
+abbrev pub is_none_for : Reason → Result DirectedPacket Reason → Bool
 is_none_for r (Ok found) = false
 is_none_for r (Err s) = same_reason r s
 
@@ -97,12 +97,12 @@ same_evidence evidence.Networks evidence.Networks = true
 same_evidence e f = false
 
 -- whether a frame is a record whose direction was found so
-abbrev pub is_found_by : Evidence → Result Found Reason → Bool
+abbrev pub is_found_by : Evidence → Result DirectedPacket Reason → Bool
 is_found_by e (Ok found) = same_evidence e found.way.heading.by
 is_found_by e (Err r) = false
 
 -- whether a frame is a record of which the networks say the other way
-abbrev pub is_contradicted : Result Found Reason → Bool
+abbrev pub is_contradicted : Result DirectedPacket Reason → Bool
 is_contradicted (Ok found) = found.way.heading.is_contradicted
 is_contradicted (Err r) = false
 

@@ -4,7 +4,7 @@ ghost use Rattle.std.specs.Prelude.{◌≡◌, ◌<◌, ◌^◌, Some};
 ghost use Rattle.pfs_capture.specs.Accounts.{AddsUp, account_text, frame_counted, no_frames, reason_counted, record_counted};
 
 use crate::directions::Directions;
-use crate::sorting::{Found, Heading};
+use crate::sorting::{DirectedPacket, Heading};
 use pfs_capture_packets::Reason;
 use std::fmt;
 
@@ -55,7 +55,7 @@ impl Account {
     }
 
     /// Counts one frame more, which is a record, or is none for a reason; and whether it was seen before the frame in front.
-    pub fn count(&mut self, outcome: &Result<Found, Reason>, is_late: bool)
+    pub fn count(&mut self, outcome: &Result<DirectedPacket, Reason>, is_late: bool)
         requires few { self.old.frames < 2 ^ 63 }
         requires sum { AddsUp self.old }
         ensures is { self.new ≡ frame_counted self.old is_late outcome.now }

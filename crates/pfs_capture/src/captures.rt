@@ -11,7 +11,7 @@ ghost use Rattle.pfs_capture.specs.Runs.{Run};
 use crate::faults::TraceStop;
 use crate::instants::Instant;
 use crate::points::CapturePoint;
-use pfs_capture_files::{Form, Frame, Item, read_item, read_start};
+use pfs_capture_files::{FileItem, Form, Frame, read_item, read_start};
 use pfs_streams::Feed;
 use std::alloc::Global;
 use std::io::Read;
@@ -21,7 +21,7 @@ pub const MOST_ITEMS: u64 = 1_099_511_627_776;
 
 /// What is known of the next frame of a capture.
 #[derive(Clone, Copy)]
-pub enum Next {
+pub enum NextKnown {
     /// It was not asked for.
     Unasked,
     /// There is none: the capture has ended.
@@ -37,7 +37,7 @@ pub struct Capture<R> {
     pub reader: Feed<R>,
     pub held: Vec<u8>,
     pub form: Option<Form>,
-    pub next: Next,
+    pub next: NextKnown,
     pub last: Instant,
     pub items: u64,
 }
@@ -55,7 +55,7 @@ impl<R> Capture<R> {
             reader,
             held: Vec::new(alloc),
             form: None,
-            next: Next::Unasked,
+            next: NextKnown::Unasked,
             last: Instant::start(),
             items: MOST_ITEMS,
         }
@@ -66,7 +66,7 @@ impl<R: Read> Capture<R> {
     /// Reads how it begins.
     pub fn begin(&mut self, alloc: Global) -> Result<(), TraceStop>
         ensures begins { (g : Given) → IsGiven (unread R.remaining) self.old g → BeginsAs (unread R.remaining) result self.new g }
-        ensures ahead { (run : Run) → self.old.next ≡ Next.Unasked → self.old.form ≡ None → Ahead (unread R.remaining) self.old run → StaysAhead (unread R.remaining) result self.new run }
+        ensures ahead { (run : Run) → self.old.next ≡ NextKnown.Unasked → self.old.form ≡ None → Ahead (unread R.remaining) self.old run → StaysAhead (unread R.remaining) result self.new run }
         ensures fewer { self.old.form ≡ None → OnOk result (turns_left self.new.items self.new.form < turns_left self.old.items self.old.form) }
         ensures reads { IfErr result (λ f. is_of_reading f ≡ true) }
         ensures read { result ≡ Err (TraceStop.File fault.Read) → HasFailed self.new.reader }
@@ -89,7 +89,7 @@ impl<R: Read> Capture<R> {
         ensures read { result ≡ Err (TraceStop.File fault.Read) → HasFailed self.new.reader }
         ensures sound { (result ≡ Err (TraceStop.File fault.Read)) ⊎ (read_failures self.new.reader ≡ read_failures self.old.reader) }
     {
-        while let Next::Unasked = self.next {
+        while let NextKnown::Unasked = self.next {
             self.read_on(alloc)?;
         }
         Ok(())
@@ -97,7 +97,7 @@ impl<R: Read> Capture<R> {
 
     /// Reads one item, or how the capture begins.
     fn read_on(&mut self, alloc: Global) -> Result<(), TraceStop>
-        requires { self.old.next ≡ Next.Unasked }
+        requires { self.old.next ≡ NextKnown.Unasked }
         ensures ahead { (run : Run) → Ahead (unread R.remaining) self.old run → StaysAhead (unread R.remaining) result self.new run }
         ensures fewer { OnOk result (turns_left self.new.items self.new.form < turns_left self.old.items self.old.form) }
         ensures reads { IfErr result (λ f. is_of_reading f ≡ true) }
@@ -112,11 +112,11 @@ impl<R: Read> Capture<R> {
         }
         self.items -= 1;
         match read_item(&mut self.reader, &mut self.held, form) {
-            Ok(Item::End) => self.next = Next::Ended,
-            Ok(Item::Other) => {}
-            Ok(Item::Frame(frame)) => {
+            Ok(FileItem::End) => self.next = NextKnown::Ended,
+            Ok(FileItem::Other) => {}
+            Ok(FileItem::Frame(frame)) => {
                 self.last = self.last.after(frame.moment)?;
-                self.next = Next::Waits(frame);
+                self.next = NextKnown::Waits(frame);
             }
             Err(fault) => return Err(TraceStop::File(fault)),
         }

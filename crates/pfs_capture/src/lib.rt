@@ -19,5 +19,5 @@ pub use faults::{TraceStop, status};
 pub use pfs_capture_files::FileFault;
 pub use pfs_capture_packets::{Mac, parse_mac};
 pub use pfs_streams::{Feed, sink_of};
-pub use points::{CapturePoint, Side};
+pub use points::{CapturePoint, InterfaceSide};
 pub use traces::write_trace;

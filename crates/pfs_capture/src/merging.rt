@@ -8,7 +8,7 @@ ghost use Rattle.pfs_capture.specs.Merging.{Given};
 ghost use Rattle.pfs_capture.specs.Readers.{AreGiven, SomeFailed, failures_of};
 ghost use Rattle.pfs_capture.specs.Runs.{Run};
 
-use crate::captures::{Capture, Next};
+use crate::captures::{Capture, NextKnown};
 use crate::faults::TraceStop;
 use crate::instants::Instant;
 use pfs_capture_files::Frame;
@@ -17,7 +17,7 @@ use std::io::Read;
 
 /// A next frame, which of the captures it is of, and its moment.
 #[derive(Clone, Copy)]
-pub struct Place {
+pub struct NextFrame {
     pub index: usize,
     pub instant: Instant,
     pub frame: Frame,
@@ -51,7 +51,7 @@ pub fn ask_all<R: Read>(captures: &mut [Capture<R>], alloc: Global) -> Result<()
 }
 
 /// The earliest of the next frames, the first of those of one moment.
-pub fn earliest<R>(captures: &[Capture<R>]) -> Option<Place>
+pub fn earliest<R>(captures: &[Capture<R>]) -> Option<NextFrame>
     ensures is { result ≡ earliest 0 captures.now }
     ensures within { IfSome result (λ p. p.index < length captures.now) }
 {
@@ -59,7 +59,7 @@ pub fn earliest<R>(captures: &[Capture<R>]) -> Option<Place>
 }
 
 /// The same, found from the last capture to the first.
-fn earliest_from_last<R>(captures: &[Capture<R>]) -> Option<Place>
+fn earliest_from_last<R>(captures: &[Capture<R>]) -> Option<NextFrame>
     ensures { result ≡ earliest 0 captures.now }
 {
     let mut place = None;
@@ -70,21 +70,21 @@ fn earliest_from_last<R>(captures: &[Capture<R>]) -> Option<Place>
 }
 
 /// The place of the next frame of the capture of this index, if it waits.
-fn waiting_at<R>(capture: &Capture<R>, index: usize) -> Option<Place>
+fn waiting_at<R>(capture: &Capture<R>, index: usize) -> Option<NextFrame>
     ensures { result ≡ waiting_at index capture.now.last capture.now.next }
 {
     match capture.next {
-        Next::Waits(frame) => Some(Place {
+        NextKnown::Waits(frame) => Some(NextFrame {
             index,
             instant: capture.last,
             frame,
         }),
-        Next::Ended | Next::Unasked => None,
+        NextKnown::Ended | NextKnown::Unasked => None,
     }
 }
 
 /// The earlier of two, the first of those of one moment.
-fn nearer(first: Option<Place>, second: Option<Place>) -> Option<Place>
+fn nearer(first: Option<NextFrame>, second: Option<NextFrame>) -> Option<NextFrame>
     ensures { result ≡ nearer first second }
 {
     if is_behind(&first, &second) {
@@ -95,7 +95,7 @@ fn nearer(first: Option<Place>, second: Option<Place>) -> Option<Place>
 }
 
 /// Whether the second comes first.
-fn is_behind(first: &Option<Place>, second: &Option<Place>) -> bool
+fn is_behind(first: &Option<NextFrame>, second: &Option<NextFrame>) -> bool
     ensures { nearer first.now second.now ≡ (if result then second.now else first.now) }
 {
     match (first, second) {

@@ -10,7 +10,7 @@ use std::marker::Model;
 
 /// On which side of an interface networks are.
 #[derive(Clone, Copy)]
-pub enum Side {
+pub enum InterfaceSide {
     /// Behind it: the firewall's own addresses, and what is behind the firewall.
     Behind,
     /// In front of it, as a local network is of an inner interface.
@@ -24,7 +24,7 @@ pub struct CapturePoint {
     ifname: IfName,
     macs: Vec<Mac>,
     networks: Vec<Prefix>,
-    side: Side,
+    side: InterfaceSide,
 }
 
 impl Model for CapturePoint {
@@ -42,7 +42,12 @@ impl Model for CapturePoint {
 impl CapturePoint {
     /// The interface of this name, with its addresses on its link, and the networks on one side of it. Without addresses and
     /// networks only logs of pflog(4) and Linux cooked captures tell their directions.
-    pub fn new(ifname: IfName, macs: Vec<Mac>, networks: Vec<Prefix>, side: Side) -> CapturePoint
+    pub fn new(
+        ifname: IfName,
+        macs: Vec<Mac>,
+        networks: Vec<Prefix>,
+        side: InterfaceSide,
+    ) -> CapturePoint
         requires { is_name 15 ifname ≡ true }
         ensures { result ≡ record { ifname = ifname; macs = macs.items; networks = networks.items; side = side } }
     {
@@ -75,8 +80,8 @@ impl CapturePoint {
     {
         let is_in = is_in_networks(&self.networks, addr);
         match self.side {
-            Side::Behind => is_in,
-            Side::InFront => !is_in,
+            InterfaceSide::Behind => is_in,
+            InterfaceSide::InFront => !is_in,
         }
     }
 }

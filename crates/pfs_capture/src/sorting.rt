@@ -7,8 +7,8 @@ ghost use Rattle.pfs_capture.specs.Sorting.{IsFound, by_link, by_mac, by_own_mac
 use crate::points::{CapturePoint, point_of};
 use pfs_addr_values::{Dir, IfName};
 use pfs_capture_packets::{
-    Answer, IpPacket, Link, Mac, Reason, is_log, read_answer, read_cooked_dir, read_ethernet_dir,
-    read_log, read_packet,
+    IpPacket, Link, LoggedAnswer, Mac, Reason, is_log, read_answer, read_cooked_dir,
+    read_ethernet_dir, read_log, read_packet,
 };
 
 /// By what a packet's direction was found.
@@ -48,7 +48,7 @@ pub enum LinkWay {
 
 /// The way of a packet: its direction, and the name of its interface.
 #[derive(Clone, Copy)]
-pub struct Way {
+pub struct PacketWay {
     /// Its direction.
     pub heading: Heading,
     /// The name of its interface.
@@ -57,13 +57,13 @@ pub struct Way {
 
 /// The packet of a frame, which way it goes, and on which interface.
 #[derive(Clone, Copy)]
-pub struct Found {
+pub struct DirectedPacket {
     /// Whether it comes in or goes out, and the name of its interface.
-    pub way: Way,
+    pub way: PacketWay,
     /// The packet.
     pub packet: IpPacket,
     /// What pf answered, where the frame is of a log.
-    pub answer: Option<Answer>,
+    pub answer: Option<LoggedAnswer>,
 }
 
 /// The packet of a frame of this link type with its way, or the one reason for which it is no record. A log of packets has the
@@ -76,7 +76,7 @@ pub fn sort(
     name: Option<IfName>,
     link_type: u16,
     frame: &[u8],
-) -> Result<Found, Reason>
+) -> Result<DirectedPacket, Reason>
     ensures is { result ≡ found_in_frame points.now name link_type frame.now }
     ensures row { IfOk result IsFound }
 {
@@ -91,13 +91,13 @@ fn sort_on_link(
     name: Option<IfName>,
     link: Link,
     frame: &[u8],
-) -> Result<Found, Reason>
+) -> Result<DirectedPacket, Reason>
     ensures is { result ≡ found_on_link points.now name link frame.now }
     ensures row { IfOk result IsFound }
 {
     let packet = read_packet(link, frame)?;
     let way = way_of(points, name, link, frame, &packet).ok_or(Reason::NeitherWay)?;
-    Ok(Found {
+    Ok(DirectedPacket {
         way,
         packet,
         answer: read_answer(link, frame),
@@ -110,7 +110,7 @@ fn way_of(
     link: Link,
     frame: &[u8],
     packet: &IpPacket,
-) -> Option<Way>
+) -> Option<PacketWay>
     ensures is { result ≡ way_of points.now name link frame.now packet.now }
     ensures name { IfSome result (λ w. is_name 15 w.ifname ≡ true) }
 {
@@ -121,24 +121,24 @@ fn way_of(
 }
 
 /// The way of a packet at an interface.
-fn way_at(point: &CapturePoint, link: Link, frame: &[u8], packet: &IpPacket) -> Option<Way>
+fn way_at(point: &CapturePoint, link: Link, frame: &[u8], packet: &IpPacket) -> Option<PacketWay>
     ensures is { result ≡ way_at point.now link frame.now packet.now }
     ensures name { IfSome result (λ w. is_name 15 w.ifname ≡ true) }
 {
     let heading = heading_from(by_link(point, link, frame), networks_dir(point, packet))?;
-    Some(Way {
+    Some(PacketWay {
         heading,
         ifname: point.ifname(),
     })
 }
 
 /// The way that a log of packets has itself.
-fn logged_way(frame: &[u8]) -> Option<Way>
+fn logged_way(frame: &[u8]) -> Option<PacketWay>
     ensures is { result ≡ logged_way frame.now }
     ensures name { IfSome result (λ w. is_name 15 w.ifname ≡ true) }
 {
     let logged = read_log(frame)?;
-    Some(Way {
+    Some(PacketWay {
         heading: Heading {
             dir: logged.dir,
             by: Evidence::Log,

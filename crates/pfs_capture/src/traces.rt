@@ -14,15 +14,15 @@ ghost use Rattle.pfs_capture.specs.Runs.{judged_at};
 ghost use Rattle.pfs_capture.specs.Sorting.{IsFound, found_in_frame};
 ghost use Rattle.pfs_capture.specs.Traces.{TellsCaptures, answer_text, frame_text};
 ghost use Rattle.pfs_capture.specs.declared.captures.Capture.{Capture};
-ghost use Rattle.pfs_capture.specs.Turns.{Overflows, Sends, TakesFrame, frame_taken};
+ghost use Rattle.pfs_capture.specs.FrameTurns.{Overflows, Sends, TakesFrame, frame_taken};
 
 use crate::accounts::Account;
-use crate::captures::{Capture, MOST_ITEMS, Next};
+use crate::captures::{Capture, MOST_ITEMS, NextKnown};
 use crate::faults::TraceStop;
 use crate::instants::is_before;
-use crate::merging::{Place, ask_all, begin_all, earliest};
+use crate::merging::{NextFrame, ask_all, begin_all, earliest};
 use crate::points::CapturePoint;
-use crate::sorting::{Found, sort};
+use crate::sorting::{DirectedPacket, sort};
 use pfs_capture_answers::{ANSWER_HEADER, push_answer};
 use pfs_capture_files::Frame;
 use pfs_capture_packets::Reason;
@@ -33,7 +33,7 @@ use std::io::{Read, Write};
 
 /// The texts of one frame: its row in the trace, and what pf answered. Each is empty where there is none.
 #[derive(Drop)]
-pub struct Lines {
+pub struct FrameTexts {
     pub row: Vec<u8>,
     pub answer: Vec<u8>,
 }
@@ -80,7 +80,7 @@ pub fn write_trace<R: Read, W: Write, T: Write>(
     ensures answers_at_once { NotFlushed answers.old answers.new }
 {
     *account = Account::new();
-    let mut lines = Lines::new(alloc);
+    let mut lines = FrameTexts::new(alloc);
     begin_all(captures, alloc)?;
     send(out, answers, HEADER, ANSWER_HEADER)?;
     for _turn in 0..MOST_ITEMS {
@@ -95,9 +95,9 @@ pub fn write_trace<R: Read, W: Write, T: Write>(
     Err(TraceStop::TooMany)
 }
 
-impl Lines {
-    fn new(alloc: Global) -> Lines {
-        Lines {
+impl FrameTexts {
+    fn new(alloc: Global) -> FrameTexts {
+        FrameTexts {
             row: Vec::new(alloc),
             answer: Vec::new(alloc),
         }
@@ -134,9 +134,9 @@ fn send<W: Write, T: Write>(
 /// Counts the frame in this place. Its capture is then asked for another, and its texts are in the lines.
 fn take_next<R>(
     captures: &mut [Capture<R>],
-    place: Place,
+    place: NextFrame,
     account: &mut Account,
-    lines: &mut Lines,
+    lines: &mut FrameTexts,
 ) -> Result<(), TraceStop>
     requires few { account.old.frames < 2 ^ 63 }
     requires sum { AddsUp account.old }
@@ -147,7 +147,7 @@ fn take_next<R>(
         OnErr result (Overflows (frame_taken account.old (judged_at c.points.items (seen_of place.frame c.held.items) c.last)) (vec_capacity lines.old.row) (vec_capacity lines.old.answer)) }
     ensures capacity { (vec_capacity lines.old.row ≤ vec_capacity lines.new.row) × (vec_capacity lines.old.answer ≤ vec_capacity lines.new.answer) }
     ensures asks { (c : Capture R) → slice_get captures.old place.index ≡ Some c →
-        captures.new ≡ slice_set captures.old place.index (record c { next = Next.Unasked }) }
+        captures.new ≡ slice_set captures.old place.index (record c { next = NextKnown.Unasked }) }
     ensures same { failures_of captures.new ≡ failures_of captures.old }
     ensures sum { AddsUp account.new }
     ensures one { OnOk result (account.new.frames ≡ account.old.frames + 1) }
@@ -155,7 +155,7 @@ fn take_next<R>(
     ensures fails { IfErr result (λ f. f ≡ TraceStop.Memory) }
 {
     let capture = &mut captures[place.index];
-    capture.next = Next::Unasked;
+    capture.next = NextKnown::Unasked;
     take_frame(capture, place.frame, account, lines)
 }
 
@@ -164,7 +164,7 @@ fn take_frame<R>(
     capture: &Capture<R>,
     frame: Frame,
     account: &mut Account,
-    lines: &mut Lines,
+    lines: &mut FrameTexts,
 ) -> Result<(), TraceStop>
     requires few { account.old.frames < 2 ^ 63 }
     requires sum { AddsUp account.old }
@@ -191,7 +191,7 @@ fn take_frame<R>(
 
 /// Writes the row of a frame's packet into the line, if it has one.
 fn write_row(
-    outcome: &Result<Found, Reason>,
+    outcome: &Result<DirectedPacket, Reason>,
     second: u64,
     line: &mut Vec<u8>,
 ) -> Result<(), TraceStop>
@@ -218,7 +218,7 @@ fn write_row(
 
 /// Writes what pf answered for the record of this number into the line, if it is of a log.
 fn write_answer(
-    outcome: &Result<Found, Reason>,
+    outcome: &Result<DirectedPacket, Reason>,
     number: u64,
     line: &mut Vec<u8>,
 ) -> Result<(), TraceStop>
@@ -240,14 +240,14 @@ fn write_answer(
 }
 
 /// The packet of a frame in what was read, with its way, or why it is no record.
-fn outcome_of<R>(capture: &Capture<R>, frame: Frame) -> Result<Found, Reason>
+fn outcome_of<R>(capture: &Capture<R>, frame: Frame) -> Result<DirectedPacket, Reason>
     ensures is { result ≡ found_in_frame capture.now.points.items frame.name frame.link (frame_bytes frame capture.now.held.items) }
     ensures row { IfOk result IsFound }
 {
     outcome_in(&capture.points, frame, &capture.held)
 }
 
-fn outcome_in(points: &[CapturePoint], frame: Frame, held: &[u8]) -> Result<Found, Reason>
+fn outcome_in(points: &[CapturePoint], frame: Frame, held: &[u8]) -> Result<DirectedPacket, Reason>
     ensures is { result ≡ found_in_frame points.now frame.name frame.link (frame_bytes frame held.now) }
     ensures row { IfOk result IsFound }
 {

@@ -3,7 +3,7 @@ use Rattle.std.specs.Prelude.{ℕ, ◌+◌, ◌/◌, ◌%◌, ◌==◌, ◌||◌
 use Rattle.std.specs.Fmt.{decimal}
 use Rattle.pfs_addr_values.specs.Names.{is_name_byte}
 use Rattle.pfs_capture_packets.specs.Logs.{anchor_name}
-use Rattle.pfs_capture_packets.specs.declared.logs.Answer.{Answer}
+use Rattle.pfs_capture_packets.specs.declared.logs.LoggedAnswer.{LoggedAnswer}
 
 -- what pf did, by the numbers of OpenBSD's net/pfvar.h: PF_PASS is 0, PF_DROP 1, PF_MATCH 12; any other in decimal
 abbrev pub action_word : ℕ → List ℕ
@@ -66,11 +66,11 @@ rewritten_word (Some false) = codes "no"
 rewritten_word None = []
 
 -- the columns behind the rule, up to the end of the line
-abbrev pub why_columns : Answer → List ℕ
+abbrev pub why_columns : LoggedAnswer → List ℕ
 why_columns answer = reason_column answer.reason ++ (codes "," ++ (rewritten_word answer.rewritten ++ codes "\n"))
 
 -- the row of an answer, which belongs to the row of this number in the trace, up to the end of its line
-abbrev pub answer_row : ℕ → Answer → List ℕ
+abbrev pub answer_row : ℕ → LoggedAnswer → List ℕ
 answer_row number answer =
     answer_start number answer.action
     ++ ((rule_column answer.rule ++ codes ",")

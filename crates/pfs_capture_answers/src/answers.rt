@@ -5,7 +5,7 @@ ghost use Rattle.std.specs.Vec.{vec_capacity};
 ghost use Rattle.pfs_capture_answers.specs.Answers.{action_word, anchor_byte, anchor_column, answer_row, answer_start, hex_digit, reason_column, reason_name, rewritten_word, rule_column, why_columns};
 
 use pfs_addr_values::NoMemory;
-use pfs_capture_packets::Answer;
+use pfs_capture_packets::LoggedAnswer;
 use pfs_numbers::push_number;
 
 /// The first row of a file of answers, which names its columns.
@@ -14,7 +14,7 @@ pub const ANSWER_HEADER: &[u8] = b"row,action,rule,anchor,subrule,reason,rewritt
 /// Appends the row of what pf answered for the packet in the row of this number in a trace, from 1.
 ///
 /// `NoMemory` where the vector had no room for the row and more memory was refused; a part of it may have been appended then.
-pub fn push_answer(out: &mut Vec<u8>, number: u64, answer: &Answer) -> Result<(), NoMemory>
+pub fn push_answer(out: &mut Vec<u8>, number: u64, answer: &LoggedAnswer) -> Result<(), NoMemory>
     ensures text { OnOk result (out.new.items ≡ out.old.items ++ answer_row number answer.now) }
     ensures refused { OnErr result (vec_capacity out.old < vec_len out.old + length (answer_row number answer.now)) }
     ensures capacity { vec_capacity out.old ≤ vec_capacity out.new }
@@ -68,7 +68,7 @@ fn push_rule(out: &mut Vec<u8>, number: u32, end: &[u8]) -> Result<(), NoMemory>
 }
 
 /// Appends the columns behind the rule: why, and whether the packet was translated.
-fn push_why(out: &mut Vec<u8>, answer: &Answer) -> Result<(), NoMemory>
+fn push_why(out: &mut Vec<u8>, answer: &LoggedAnswer) -> Result<(), NoMemory>
     ensures text { OnOk result (out.new.items ≡ out.old.items ++ why_columns answer.now) }
     ensures refused { OnErr result (vec_capacity out.old < vec_len out.old + length (why_columns answer.now)) }
     ensures capacity { vec_capacity out.old ≤ vec_capacity out.new }

@@ -4,7 +4,7 @@ use Rattle.std.specs.Prelude.{Err, Ok, Result}
 use Rattle.std.proofs.lemmas.List.Elements.{All-drop, All-take}
 use Rattle.pfs_capture_files.specs.Blocks.{block_head}
 use Rattle.pfs_capture_files.specs.Classic.{record_frame}
-use Rattle.pfs_capture_files.specs.Forms.{Turn, block_turn, blocks_start, classic_form, classic_start, frame_turn, record_turn, rest_turn, start_at, start_of, turn_of, what_begins}
+use Rattle.pfs_capture_files.specs.Forms.{ReadTurn, block_turn, blocks_start, classic_form, classic_start, frame_turn, record_turn, rest_turn, start_at, start_of, turn_of, what_begins}
 use Rattle.pfs_capture_files.specs.Interfaces.{then_known}
 use Rattle.pfs_capture_files.specs.Known.{Known}
 use Rattle.pfs_capture_files.specs.declared.blocks.BlockHead.{BlockHead}
@@ -12,15 +12,15 @@ use Rattle.pfs_capture_files.specs.declared.classic.FileHeader.{FileHeader}
 use Rattle.pfs_capture_files.specs.declared.faults.FileFault.{FileFault}
 use Rattle.pfs_capture_files.specs.declared.forms.Form.{Form}
 use Rattle.pfs_capture_files.specs.declared.forms.Form.TheVariants as form
-use Rattle.pfs_capture_files.specs.declared.classic.Lengths.{Lengths}
+use Rattle.pfs_capture_files.specs.declared.classic.LengthOrder.{LengthOrder}
 use Rattle.pfs_capture_files.specs.declared.classic.Precision.{Precision}
 use Rattle.pfs_capture_files.specs.declared.forms.Start.{Start}
 use Rattle.pfs_capture_files.specs.declared.forms.Start.TheVariants as start
 use Rattle.pfs_capture_files.specs.declared.orders.Order.{Order}
 use Rattle.pfs_capture_files.specs.declared.orders.Order.TheVariants.{Big}
 use Rattle.pfs_capture_files.specs.declared.frames.Frame.{Frame}
-use Rattle.pfs_capture_files.specs.declared.frames.Item.{Item}
-use Rattle.pfs_capture_files.specs.declared.frames.Item.TheVariants as item
+use Rattle.pfs_capture_files.specs.declared.frames.FileItem.{FileItem}
+use Rattle.pfs_capture_files.specs.declared.frames.FileItem.TheVariants as item
 
 abbrev pub AreBytes : List ℕ → Type 0
 AreBytes xs = All (λ b. b < 256) xs
@@ -39,59 +39,59 @@ known (Ok x) more y f h = f x h
 known (Err e) more y f h = cc
 
 -- a turn holds bytes, and leaves bytes
-pub record HasBytes (t : Turn) : Type 0 where
+pub record HasBytes (t : ReadTurn) : Type 0 where
   pub held : AreBytes t.held
   pub left : AreBytes t.left
 
-turn-here : (b : Bool) (x : Result Turn FileFault) (form : Form) (item : Item) (n : ℕ) (xs : List ℕ) (t : Turn) → AreBytes xs → (x ≡ Ok t → HasBytes t)
+turn-here : (b : Bool) (x : Result ReadTurn FileFault) (form : Form) (item : FileItem) (n : ℕ) (xs : List ℕ) (t : ReadTurn) → AreBytes xs → (x ≡ Ok t → HasBytes t)
     → (if b then Ok (record { form = form; item = item; held = take n xs; left = drop n xs }) else x) ≡ Ok t → HasBytes t
 turn-here true x form item n xs t h f e =
     let same : record { form = form; item = item; held = take n xs; left = drop n xs } ≡ t = cc in
     rw (← same) (record { held = bytes-take n xs h; left = bytes-drop n xs h })
 turn-here false x form item n xs t h f e = f e
 
-turn-cut : (b : Bool) (fault : FileFault) (x : Result Turn FileFault) (t : Turn) → (x ≡ Ok t → HasBytes t) → (if b then Err fault else x) ≡ Ok t → HasBytes t
+turn-cut : (b : Bool) (fault : FileFault) (x : Result ReadTurn FileFault) (t : ReadTurn) → (x ≡ Ok t → HasBytes t) → (if b then Err fault else x) ≡ Ok t → HasBytes t
 turn-cut true fault x t f e = cc
 turn-cut false fault x t f e = f e
 
-abbrev good : Turn → Result Turn FileFault
+abbrev good : ReadTurn → Result ReadTurn FileFault
 good t = Ok t
 
 -- two turns that are found are the same
-abbrev same_turn : Turn → Turn → Type 0
+abbrev same_turn : ReadTurn → ReadTurn → Type 0
 same_turn a b = good a ≡ good b
 
-made : (form : Form) (item : Item) (n : ℕ) (xs : List ℕ) (t : Turn) → AreBytes xs → same_turn (record { form = form; item = item; held = take n xs; left = drop n xs }) t → HasBytes t
+made : (form : Form) (item : FileItem) (n : ℕ) (xs : List ℕ) (t : ReadTurn) → AreBytes xs → same_turn (record { form = form; item = item; held = take n xs; left = drop n xs }) t → HasBytes t
 made form item n xs t h e =
     let same : record { form = form; item = item; held = take n xs; left = drop n xs } ≡ t = cc in
     rw (← same) (record { held = bytes-take n xs h; left = bytes-drop n xs h })
 
-frame-bytes : (header : FileHeader) (frame : Frame) (xs : List ℕ) (t : Turn) → AreBytes xs → frame_turn header frame xs ≡ Ok t → HasBytes t
+frame-bytes : (header : FileHeader) (frame : Frame) (xs : List ℕ) (t : ReadTurn) → AreBytes xs → frame_turn header frame xs ≡ Ok t → HasBytes t
 frame-bytes header frame xs t h e =
     turn-cut (nat_lt (length (take frame.count xs)) frame.count) _ _ t (made (form.Classic header) (item.Frame frame) frame.count xs t h) e
 
-record-bytes : (header : FileHeader) (xs : List ℕ) (t : Turn) → AreBytes xs → record_turn header xs ≡ Ok t → HasBytes t
+record-bytes : (header : FileHeader) (xs : List ℕ) (t : ReadTurn) → AreBytes xs → record_turn header xs ≡ Ok t → HasBytes t
 record-bytes header xs t h e =
     turn-here (length (take 16 xs) == 0) _ (form.Classic header) item.End 16 xs t h
     (known (record_frame header (take 16 xs)) (λ frame. frame_turn header frame (drop 16 xs)) t (λ frame f. frame-bytes header frame (drop 16 xs) t (bytes-drop 16 xs h) f)) e
 
-rest-bytes : (k : Known) (head : BlockHead) (xs : List ℕ) (t : Turn) → AreBytes xs → rest_turn k head xs ≡ Ok t → HasBytes t
+rest-bytes : (k : Known) (head : BlockHead) (xs : List ℕ) (t : ReadTurn) → AreBytes xs → rest_turn k head xs ≡ Ok t → HasBytes t
 rest-bytes k head xs t h e =
     turn-cut (nat_lt (length (take head.count xs)) head.count) _ _ t
     (known _ (λ r. Ok (record { form = form.Blocks r.0; item = r.1; held = take head.count xs; left = drop head.count xs })) t (λ r f. made (form.Blocks r.0) r.1 head.count xs t h f)) e
 
-block-bytes : (k : Known) (xs : List ℕ) (t : Turn) → AreBytes xs → block_turn k xs ≡ Ok t → HasBytes t
+block-bytes : (k : Known) (xs : List ℕ) (t : ReadTurn) → AreBytes xs → block_turn k xs ≡ Ok t → HasBytes t
 block-bytes k xs t h e =
     turn-here (length (take 12 xs) == 0) _ (form.Blocks k) item.End 12 xs t h
     (known (block_head k.order (take 12 xs)) (λ head. rest_turn k head (drop 12 xs)) t (λ head f. rest-bytes k head (drop 12 xs) t (bytes-drop 12 xs h) f)) e
 
-pub turn-bytes : (f : Form) (xs : List ℕ) (t : Turn) → AreBytes xs → turn_of f xs ≡ Ok t → HasBytes t
+pub turn-bytes : (f : Form) (xs : List ℕ) (t : ReadTurn) → AreBytes xs → turn_of f xs ≡ Ok t → HasBytes t
 turn-bytes (form.Classic header) xs t h e = record-bytes header xs t h e
 turn-bytes (form.Blocks k) xs t h e = block-bytes k xs t h e
 
 -- ---- the beginning of a file
 
-begun-classic : (order : Order) (precision : Precision) (lengths : Lengths) (xs : List ℕ) (r : Form × List ℕ) → AreBytes xs → classic_start order precision lengths xs ≡ Ok r → AreBytes r.1
+begun-classic : (order : Order) (precision : Precision) (lengths : LengthOrder) (xs : List ℕ) (r : Form × List ℕ) → AreBytes xs → classic_start order precision lengths xs ≡ Ok r → AreBytes r.1
 begun-classic order precision lengths xs r h e =
     known (classic_form order precision lengths (take 12 xs)) _ r (λ f g. let same : (f, drop 12 xs) ≡ r = cc in subst (λ (p : Form × List ℕ). AreBytes p.1) same (bytes-drop 12 xs h)) e
 
@@ -103,7 +103,7 @@ begun-blocks first xs r h e =
     turned : (k : Known) (head : BlockHead) → then_known (rest_turn k head xs) (λ t. Ok (t.form, t.left)) ≡ Ok r → AreBytes r.1
     turned k head f = by (rest_turn k head xs) refl f
       where
-        by : (q : Result Turn FileFault) → rest_turn k head xs ≡ q → then_known q (λ t. Ok (t.form, t.left)) ≡ Ok r → AreBytes r.1
+        by : (q : Result ReadTurn FileFault) → rest_turn k head xs ≡ q → then_known q (λ t. Ok (t.form, t.left)) ≡ Ok r → AreBytes r.1
         by (Err x) t g = cc
         by (Ok turn) t g = let same : (turn.form, turn.left) ≡ r = cc in subst (λ (p : Form × List ℕ). AreBytes p.1) same (rest-bytes k head xs turn h t).left
 

@@ -2,11 +2,11 @@
 use Rattle.std.proofs.Common.{ℕ, ◌≡◌, ◌≤◌, Bool, true, false, List, [], length, length-drop, take, drop, Option, Some, Ok, Err, refl, sym, subst, arith, nat_lt}
 use Rattle.std.specs.Prelude.{Result, if◌then◌else◌}
 use Rattle.pfs_capture_files.specs.Blocks.{block_head, body_item}
-use Rattle.pfs_capture_files.specs.Forms.{IsWithinStart, Turn, blocks_start, classic_form, classic_start, rest_turn, start_at, start_of, what_begins}
+use Rattle.pfs_capture_files.specs.Forms.{IsWithinStart, ReadTurn, blocks_start, classic_form, classic_start, rest_turn, start_at, start_of, what_begins}
 use Rattle.pfs_capture_files.specs.Interfaces.{then_known}
 use Rattle.pfs_capture_files.specs.Known.{Known}
 use Rattle.pfs_capture_files.specs.declared.blocks.BlockHead.{BlockHead}
-use Rattle.pfs_capture_files.specs.declared.classic.Lengths.{Lengths}
+use Rattle.pfs_capture_files.specs.declared.classic.LengthOrder.{LengthOrder}
 use Rattle.pfs_capture_files.specs.declared.classic.Precision.{Precision}
 use Rattle.pfs_capture_files.specs.declared.faults.FileFault.{FileFault}
 use Rattle.pfs_capture_files.specs.declared.faults.FileFault.TheVariants as fault
@@ -14,14 +14,14 @@ use Rattle.pfs_capture_files.specs.declared.forms.Form.{Form}
 use Rattle.pfs_capture_files.specs.declared.forms.Form.TheVariants as form
 use Rattle.pfs_capture_files.specs.declared.forms.Start.{Start}
 use Rattle.pfs_capture_files.specs.declared.forms.Start.TheVariants as start
-use Rattle.pfs_capture_files.specs.declared.frames.Item.{Item}
+use Rattle.pfs_capture_files.specs.declared.frames.FileItem.{FileItem}
 use Rattle.pfs_capture_files.specs.declared.orders.Order.{Order}
 use Rattle.pfs_capture_files.specs.declared.orders.Order.TheVariants.{Big}
 
 fewer : (xs : List ℕ) (k m : ℕ) → k ≤ m → length (drop m xs) ≤ length (drop k xs)
 fewer xs k m h = omega (arith, length-drop k xs, length-drop m xs)
 
-pub classic_within : (order : Order) (precision : Precision) (lengths : Lengths) (xs : List ℕ) (left : Option (List ℕ)) (k : ℕ) → k ≤ 12 → left ≡ Some (drop k xs) → IsWithinStart (classic_start order precision lengths xs) left
+pub classic_within : (order : Order) (precision : Precision) (lengths : LengthOrder) (xs : List ℕ) (left : Option (List ℕ)) (k : ℕ) → k ≤ 12 → left ≡ Some (drop k xs) → IsWithinStart (classic_start order precision lengths xs) left
 classic_within order precision lengths xs left k few e = go (classic_form order precision lengths (take 12 xs))
   where
     go : (r : Result Form FileFault) → IsWithinStart (then_known r (λ f. Ok (f, drop 12 xs))) left
@@ -32,10 +32,10 @@ rest_within : (known : Known) (head : BlockHead) (xs : List ℕ) (left : Option 
     → IsWithinStart (then_known (rest_turn known head xs) (λ t. Ok (t.form, t.left))) left
 rest_within known head xs left k few e = go (nat_lt (length (take head.count xs)) head.count) (body_item known head (take head.count xs))
   where
-    turn : Bool → Result (Known × Item) FileFault → Result Turn FileFault
+    turn : Bool → Result (Known × FileItem) FileFault → Result ReadTurn FileFault
     turn short step = if short then Err fault.Cut else then_known step (λ r. Ok (record { form = form.Blocks r.0; item = r.1; held = take head.count xs; left = drop head.count xs }))
 
-    go : (short : Bool) (step : Result (Known × Item) FileFault) → IsWithinStart (then_known (turn short step) (λ t. Ok (t.form, t.left))) left
+    go : (short : Bool) (step : Result (Known × FileItem) FileFault) → IsWithinStart (then_known (turn short step) (λ t. Ok (t.form, t.left))) left
     go true step = tt
     go false (Ok r) = (drop k xs, e, fewer xs k head.count few)
     go false (Err g) = tt

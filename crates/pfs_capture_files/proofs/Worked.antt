@@ -5,11 +5,11 @@ use Rattle.pfs_capture_files.specs.Frames.{frame_moment, simple_frame}
 use Rattle.pfs_capture_files.specs.Interfaces.{interface_of}
 use Rattle.pfs_capture_files.specs.Options.{find_option}
 use Rattle.pfs_capture_files.specs.declared.classic.FileHeader.{FileHeader}
-use Rattle.pfs_capture_files.specs.declared.classic.Lengths.TheVariants.{KeptFirst}
+use Rattle.pfs_capture_files.specs.declared.classic.LengthOrder.TheVariants.{KeptFirst}
 use Rattle.pfs_capture_files.specs.declared.classic.Precision.{Precision}
 use Rattle.pfs_capture_files.specs.declared.classic.Precision.TheVariants.{Microseconds, Nanoseconds}
 use Rattle.pfs_capture_files.specs.declared.frames.Moment.TheVariants.{At, Outside, Untold}
-use Rattle.pfs_capture_files.specs.declared.interfaces.Interface.{Interface}
+use Rattle.pfs_capture_files.specs.declared.interfaces.InterfaceBlock.{InterfaceBlock}
 use Rattle.pfs_capture_files.specs.declared.orders.Order.TheVariants.{Big}
 
 -- ---- the records of a pcap file
@@ -38,7 +38,7 @@ whole_second = refl
 abbrev described_with : ℕ → ℕ → ℕ → ℕ → List ℕ
 described_with a b c d = 0 ∷ 0 ∷ 4 ∷ 0 ∷ 0 ∷ 2 ∷ 0 ∷ 4 ∷ a ∷ b ∷ c ∷ d ∷ 0 ∷ 9 ∷ 0 ∷ 1 ∷ 9 ∷ 0 ∷ 0 ∷ 0 ∷ 0 ∷ 0 ∷ 0 ∷ 0 ∷ []
 
-abbrev named : Option (List ℕ) → Interface
+abbrev named : Option (List ℕ) → InterfaceBlock
 named name = record { link = 1; name = name; kept = 1024; units = 1000000000; offset = 0 }
 
 -- `vio0`, and `em0` with a zero behind it
@@ -66,7 +66,7 @@ frame_named = refl
 -- ---- the moments of an interface
 
 -- an interface of so many units a second, and of this offset
-abbrev counting : ℕ → ℕ → Interface
+abbrev counting : ℕ → ℕ → InterfaceBlock
 counting units offset = record { link = 1; name = None; kept = 0; units = units; offset = offset }
 
 millionths : frame_moment (counting 1000000 0) 7123456 ≡ At 7 123456000

@@ -1,8 +1,8 @@
 -- The header of a pcap file, and its records (pcap, sections 4 and 5).
 use Rattle.std.specs.Prelude.{ℕ, ◌*◌, ◌==◌, ◌&&◌, ◌||◌, List, length, min, nat_lt, None, Result, Ok, Err, if◌then◌else◌}
 use Rattle.pfs_capture_files.specs.declared.classic.FileHeader.{FileHeader}
-use Rattle.pfs_capture_files.specs.declared.classic.Lengths.{Lengths}
-use Rattle.pfs_capture_files.specs.declared.classic.Lengths.TheVariants.{KeptFirst, KeptLast, KeptLess}
+use Rattle.pfs_capture_files.specs.declared.classic.LengthOrder.{LengthOrder}
+use Rattle.pfs_capture_files.specs.declared.classic.LengthOrder.TheVariants.{KeptFirst, KeptLast, KeptLess}
 use Rattle.pfs_capture_files.specs.declared.classic.Precision.{Precision}
 use Rattle.pfs_capture_files.specs.declared.classic.Precision.TheVariants.{Microseconds, Nanoseconds}
 use Rattle.pfs_capture_files.specs.declared.frames.Frame.{Frame}
@@ -14,14 +14,14 @@ use Rattle.pfs_capture_files.specs.Frames.{most_of_frame}
 
 -- Which of a record's two lengths is that of the bytes kept, by the file's version: in 2.4 the first; in 2.3, which was written both
 -- ways, the lesser one; before that, and in 543.0, the last. No other version is read. (own, as in libpcap)
-abbrev pub lengths_of : ℕ → ℕ → Result Lengths FileFault
+abbrev pub lengths_of : ℕ → ℕ → Result LengthOrder FileFault
 lengths_of major minor =
     if (major == 2) && (minor == 4) then Ok KeptFirst
     else (if (major == 2) && (minor == 3) then Ok KeptLess
     else (if ((major == 2) && nat_lt minor 3) || ((major == 543) && (minor == 0)) then Ok KeptLast else Err fault.Version))
 
 -- the length of these two that is that of the bytes kept
-abbrev pub kept_of_both : Lengths → ℕ → ℕ → ℕ
+abbrev pub kept_of_both : LengthOrder → ℕ → ℕ → ℕ
 kept_of_both KeptFirst first last = first
 kept_of_both KeptLast first last = last
 kept_of_both KeptLess first last = min first last

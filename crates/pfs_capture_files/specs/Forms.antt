@@ -4,12 +4,12 @@ use Rattle.pfs_capture_files.specs.declared.orders.Order.{Order}
 use Rattle.pfs_capture_files.specs.declared.orders.Order.TheVariants.{Big, Little}
 use Rattle.pfs_capture_files.specs.declared.blocks.BlockHead.{BlockHead}
 use Rattle.pfs_capture_files.specs.declared.classic.FileHeader.{FileHeader}
-use Rattle.pfs_capture_files.specs.declared.classic.Lengths.{Lengths}
+use Rattle.pfs_capture_files.specs.declared.classic.LengthOrder.{LengthOrder}
 use Rattle.pfs_capture_files.specs.declared.classic.Precision.{Precision}
 use Rattle.pfs_capture_files.specs.declared.classic.Precision.TheVariants.{Microseconds, Nanoseconds}
 use Rattle.pfs_capture_files.specs.declared.frames.Frame.{Frame}
-use Rattle.pfs_capture_files.specs.declared.frames.Item.{Item}
-use Rattle.pfs_capture_files.specs.declared.frames.Item.TheVariants as item
+use Rattle.pfs_capture_files.specs.declared.frames.FileItem.{FileItem}
+use Rattle.pfs_capture_files.specs.declared.frames.FileItem.TheVariants as item
 use Rattle.pfs_capture_files.specs.declared.forms.Form.{Form}
 use Rattle.pfs_capture_files.specs.declared.forms.Form.TheVariants as form
 use Rattle.pfs_capture_files.specs.declared.forms.Start.{Start}
@@ -46,55 +46,55 @@ what_begins head =
     else (if nat_lt (length head) 12 then Err fault.NotCapture else start_of_magic (u32_in Big head 0) head)
 
 -- what one turn of reading finds: the form as it is known afterwards, the item, the bytes in which a frame is, and what is left
-pub record Turn : Type 0 where
+pub record ReadTurn : Type 0 where
   pub form : Form
-  pub item : Item
+  pub item : FileItem
   pub held : List ℕ
   pub left : List ℕ
 
 -- a block whose first twelve bytes are read
-abbrev pub rest_turn : Known → BlockHead → List ℕ → Result Turn FileFault
+abbrev pub rest_turn : Known → BlockHead → List ℕ → Result ReadTurn FileFault
 rest_turn known head xs =
     if nat_lt (length (take head.count xs)) head.count then Err fault.Cut
     else then_known (body_item known head (take head.count xs)) (λ r. Ok (record { form = form.Blocks r.0; item = r.1; held = take head.count xs; left = drop head.count xs }))
 
 -- a block of a pcapng file, which ends where no block begins
-abbrev pub block_turn : Known → List ℕ → Result Turn FileFault
+abbrev pub block_turn : Known → List ℕ → Result ReadTurn FileFault
 block_turn known xs =
     if length (take 12 xs) == 0 then Ok (record { form = form.Blocks known; item = item.End; held = take 12 xs; left = drop 12 xs })
     else then_known (block_head known.order (take 12 xs)) (λ head. rest_turn known head (drop 12 xs))
 
 -- a record of a pcap file whose header is read
-abbrev pub frame_turn : FileHeader → Frame → List ℕ → Result Turn FileFault
+abbrev pub frame_turn : FileHeader → Frame → List ℕ → Result ReadTurn FileFault
 frame_turn header frame xs =
     if nat_lt (length (take frame.count xs)) frame.count then Err fault.Cut
     else Ok (record { form = form.Classic header; item = item.Frame frame; held = take frame.count xs; left = drop frame.count xs })
 
 -- a record of a pcap file, which ends where no record begins
-abbrev pub record_turn : FileHeader → List ℕ → Result Turn FileFault
+abbrev pub record_turn : FileHeader → List ℕ → Result ReadTurn FileFault
 record_turn header xs =
     if length (take 16 xs) == 0 then Ok (record { form = form.Classic header; item = item.End; held = take 16 xs; left = drop 16 xs })
     else then_known (record_frame header (take 16 xs)) (λ frame. frame_turn header frame (drop 16 xs))
 
 -- the next item of a capture
-abbrev pub turn_of : Form → List ℕ → Result Turn FileFault
+abbrev pub turn_of : Form → List ℕ → Result ReadTurn FileFault
 turn_of (form.Classic header) xs = record_turn header xs
 turn_of (form.Blocks known) xs = block_turn known xs
 
 -- a call returns and leaves what the turn finds, unless a read failed or memory was refused
-abbrev pub ReadsItem : Result Turn FileFault → Result Item FileFault → Form → List ℕ → Option (List ℕ) → Type 0
+abbrev pub ReadsItem : Result ReadTurn FileFault → Result FileItem FileFault → Form → List ℕ → Option (List ℕ) → Type 0
 ReadsItem turn (Ok found) after held left =
     (ys : List ℕ) × (left ≡ Some ys) × (turn ≡ Ok (record { form = after; item = found; held = held; left = ys }))
 ReadsItem turn (Err f) after held left = is_outside f ≡ false → turn ≡ Err f
 
 -- a pcap file's header ends with the link's type, in the lower half of its last number (pcap, section 4)
-abbrev pub classic_form : Order → Precision → Lengths → List ℕ → Result Form FileFault
+abbrev pub classic_form : Order → Precision → LengthOrder → List ℕ → Result Form FileFault
 classic_form order precision lengths rest =
     if nat_lt (length rest) 12 then Err fault.Cut
     else Ok (form.Classic (record { order = order; precision = precision; lengths = lengths; link = u32_in order rest 8 % 65536 }))
 
 -- how a pcap file goes on after its first twelve bytes, and what is left
-abbrev pub classic_start : Order → Precision → Lengths → List ℕ → Result (Form × List ℕ) FileFault
+abbrev pub classic_start : Order → Precision → LengthOrder → List ℕ → Result (Form × List ℕ) FileFault
 classic_start order precision lengths xs = then_known (classic_form order precision lengths (take 12 xs)) (λ f. Ok (f, drop 12 xs))
 
 -- how a pcapng file begins by its first twelve bytes and what follows, and what is left

@@ -4,7 +4,7 @@ use Rattle.std.specs.Option.{option_and_then, option_map_or}
 use Rattle.pfs_addr_values.specs.Names.{is_name}
 use Rattle.pfs_capture_packets.specs.Logs.{name_at}
 use Rattle.pfs_capture_files.specs.declared.orders.Order.{Order}
-use Rattle.pfs_capture_files.specs.declared.interfaces.Interface.{Interface}
+use Rattle.pfs_capture_files.specs.declared.interfaces.InterfaceBlock.{InterfaceBlock}
 use Rattle.pfs_capture_files.specs.declared.faults.FileFault.{FileFault}
 use Rattle.pfs_capture_files.specs.declared.faults.FileFault.TheVariants as fault
 use Rattle.pfs_capture_files.specs.Orders.{u32_in, u64_in}
@@ -40,7 +40,7 @@ abbrev pub IsNamed : Option (List ℕ) → Type 0
 IsNamed name = IfSome name (λ text. is_name 15 text ≡ true)
 
 -- an interface, by its link type and what follows: the most bytes that are kept of a frame, and options
-abbrev pub interface_of : Order → ℕ → List ℕ → Result Interface FileFault
+abbrev pub interface_of : Order → ℕ → List ℕ → Result InterfaceBlock FileFault
 interface_of order link body =
     if nat_lt (length body) 4 then Err fault.Block
     else then_known (units_told order body) (λ units. Ok (record { link = link; name = name_told order body; kept = u32_in order body 0; units = units; offset = offset_of order body }))

@@ -7,8 +7,8 @@ ghost use Rattle.pfs_capture_files.specs.Frames.{IsSoundItem};
 ghost use Rattle.pfs_capture_files.specs.Interfaces.{IsNamed, interface_of, then_known};
 
 use crate::faults::FileFault;
-use crate::frames::{Item, enhanced_frame, simple_frame};
-use crate::interfaces::{Interface, interface_of};
+use crate::frames::{FileItem, enhanced_frame, simple_frame};
+use crate::interfaces::{InterfaceBlock, interface_of};
 use crate::orders::{Order, read_u16, read_u32};
 use std::alloc::Global;
 use std::marker::Model;
@@ -23,7 +23,7 @@ const MOST_INTERFACES: usize = 1_024;
 #[derive(Drop)]
 pub struct Section {
     order: Order,
-    interfaces: Vec<Interface>,
+    interfaces: Vec<InterfaceBlock>,
 }
 
 impl Model for Section {
@@ -121,7 +121,7 @@ impl Section {
 
     /// What a block holds, by how it begins and what follows; what is known of the section changes as it says. At a fault anything
     /// may be known. It takes memory for an interface alone.
-    pub fn take(&mut self, head: BlockHead, rest: &[u8]) -> Result<Item, FileFault>
+    pub fn take(&mut self, head: BlockHead, rest: &[u8]) -> Result<FileItem, FileFault>
         ensures is { TakesItem (body_item self.old head rest.now) result self.new }
         ensures frame { IfOk result IsSoundItem }
         ensures free { result ≡ Err FileFault.Memory → head.kind ≡ 1 }
@@ -135,7 +135,7 @@ impl Section {
     }
 
     /// Begins a section, by its byte order and what its block holds after that: its version, and how long it is.
-    fn begin(&mut self, order: Order, body: &[u8]) -> Result<Item, FileFault>
+    fn begin(&mut self, order: Order, body: &[u8]) -> Result<FileItem, FileFault>
         ensures is { TakesItem (with_section order body.now) result self.new }
         ensures frame { IfOk result IsSoundItem }
         ensures of_file { IfErr result (λ f. is_outside f ≡ false) }
@@ -148,11 +148,11 @@ impl Section {
         }
         self.order = order;
         self.interfaces.clear();
-        Ok(Item::Other)
+        Ok(FileItem::Other)
     }
 
     /// Adds the interface of this link type that a block describes.
-    fn describe(&mut self, order: Order, link: u16, body: &[u8]) -> Result<Item, FileFault>
+    fn describe(&mut self, order: Order, link: u16, body: &[u8]) -> Result<FileItem, FileFault>
         ensures is { TakesItem (then_known (interface_of order link body.now) (λ i. with_interface self.old i)) result self.new }
         ensures frame { IfOk result IsSoundItem }
         ensures read { result ≢ Err FileFault.Read }
@@ -163,7 +163,7 @@ impl Section {
         }
     }
 
-    fn add(&mut self, interface: &Interface) -> Result<Item, FileFault>
+    fn add(&mut self, interface: &InterfaceBlock) -> Result<FileItem, FileFault>
         requires { IsNamed interface.now.name }
         ensures is { TakesItem (with_interface self.old interface.now) result self.new }
         ensures frame { IfOk result IsSoundItem }
@@ -173,13 +173,13 @@ impl Section {
             return Err(FileFault::Interfaces);
         }
         match self.interfaces.push(*interface) {
-            Ok(()) => Ok(Item::Other),
+            Ok(()) => Ok(FileItem::Other),
             Err(_) => Err(FileFault::Memory),
         }
     }
 
     /// What a block holds that changes nothing of its section.
-    fn held(&self, head: BlockHead, rest: &[u8]) -> Result<Item, FileFault>
+    fn held(&self, head: BlockHead, rest: &[u8]) -> Result<FileItem, FileFault>
         ensures is { result ≡ held_in self.now head rest.now }
         ensures frame { IfOk result IsSoundItem }
         ensures of_file { IfErr result (λ f. is_outside f ≡ false) }
@@ -190,26 +190,26 @@ impl Section {
             3 => {
                 let interface = self.interface(0)?;
                 let frame = simple_frame(&interface, head.third, body)?;
-                Ok(Item::Frame(frame))
+                Ok(FileItem::Frame(frame))
             }
             6 => self.packet(head.order, head.third as usize, body),
-            _ => Ok(Item::Other),
+            _ => Ok(FileItem::Other),
         }
     }
 
     /// The frame of a packet block with its moment, on the interface of this number.
-    fn packet(&self, order: Order, number: usize, body: &[u8]) -> Result<Item, FileFault>
+    fn packet(&self, order: Order, number: usize, body: &[u8]) -> Result<FileItem, FileFault>
         ensures is { result ≡ packet_on self.now order number body.now }
         ensures frame { IfOk result IsSoundItem }
         ensures of_file { IfErr result (λ f. is_outside f ≡ false) }
     {
         let interface = self.interface(number)?;
         let frame = enhanced_frame(order, &interface, body)?;
-        Ok(Item::Frame(frame))
+        Ok(FileItem::Frame(frame))
     }
 
     /// The interface of this number, from 0.
-    fn interface(&self, number: usize) -> Result<Interface, FileFault>
+    fn interface(&self, number: usize) -> Result<InterfaceBlock, FileFault>
         ensures is { result ≡ described_at self.now number }
         ensures name { IfOk result (λ i. IsNamed i.name) }
         ensures of_file { IfErr result (λ f. is_outside f ≡ false) }

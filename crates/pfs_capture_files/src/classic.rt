@@ -11,7 +11,7 @@ use crate::orders::{Order, read_u32};
 
 /// Which of the two lengths of a record is that of the bytes that were kept.
 #[derive(Clone, Copy)]
-pub enum Lengths {
+pub enum LengthOrder {
     /// The first.
     KeptFirst,
     /// The last.
@@ -37,21 +37,21 @@ pub struct FileHeader {
     /// In what they count the time that is past their second.
     pub precision: Precision,
     /// Which of their lengths is that of the bytes kept.
-    pub lengths: Lengths,
+    pub lengths: LengthOrder,
     /// The type of their link.
     pub link: u16,
 }
 
 /// Which length of a record is that of the bytes kept, in a file of this version. It returns `FileFault::Version` for a
 /// version that is not read.
-pub fn lengths_of(major: u16, minor: u16) -> Result<Lengths, FileFault>
+pub fn lengths_of(major: u16, minor: u16) -> Result<LengthOrder, FileFault>
     ensures is { result ≡ lengths_of major minor }
     ensures of_file { IfErr result (λ f. is_outside f ≡ false) }
 {
     match (major, minor) {
-        (2, 4) => Ok(Lengths::KeptFirst),
-        (2, 3) => Ok(Lengths::KeptLess),
-        (2, 0..=2) | (543, 0) => Ok(Lengths::KeptLast),
+        (2, 4) => Ok(LengthOrder::KeptFirst),
+        (2, 3) => Ok(LengthOrder::KeptLess),
+        (2, 0..=2) | (543, 0) => Ok(LengthOrder::KeptLast),
         _ => Err(FileFault::Version),
     }
 }
@@ -104,9 +104,9 @@ fn kept_in(header: FileHeader, head: &[u8]) -> u32
     ensures { result ≡ kept_in header head.now }
 {
     match header.lengths {
-        Lengths::KeptFirst => read_u32(header.order, head, 8),
-        Lengths::KeptLast => read_u32(header.order, head, 12),
-        Lengths::KeptLess => {
+        LengthOrder::KeptFirst => read_u32(header.order, head, 8),
+        LengthOrder::KeptLast => read_u32(header.order, head, 12),
+        LengthOrder::KeptLess => {
             read_u32(header.order, head, 8).min(read_u32(header.order, head, 12))
         }
     }

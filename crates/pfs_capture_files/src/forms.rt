@@ -9,10 +9,10 @@ ghost use Rattle.pfs_capture_files.specs.Frames.{IsFrame, IsSoundItem};
 ghost use Rattle.pfs_capture_files.specs.Forms.{Begins, IsWithinStart, ReadsItem, block_turn, blocks_start, classic_form, classic_start, frame_turn, record_turn, rest_turn, start_of, start_of_magic, start_of_version, turn_of, what_begins};
 
 use crate::blocks::{BlockHead, SECTION, Section, block_head};
-use crate::classic::{FileHeader, Lengths, Precision, lengths_of, record_frame};
+use crate::classic::{FileHeader, LengthOrder, Precision, lengths_of, record_frame};
 use crate::faults::FileFault;
 use crate::filling::fill;
-use crate::frames::{Frame, Item};
+use crate::frames::{FileItem, Frame};
 use crate::orders::{Order, read_u16, read_u32};
 use pfs_streams::Feed;
 use std::alloc::Global;
@@ -30,7 +30,7 @@ pub enum Form {
 /// What a file is by its first bytes.
 #[derive(Clone, Copy)]
 enum Start {
-    Classic(Order, Precision, Lengths),
+    Classic(Order, Precision, LengthOrder),
     Blocks,
 }
 
@@ -70,7 +70,7 @@ pub fn read_item<R: Read>(
     reader: &mut Feed<R>,
     buffer: &mut Vec<u8>,
     form: &mut Form,
-) -> Result<Item, FileFault>
+) -> Result<FileItem, FileFault>
     ensures is { (xs : List ℕ) → unread R.remaining reader.old ≡ Some xs → ReadsItem (turn_of form.old xs) result form.new buffer.new.items (unread R.remaining reader.new) }
     ensures frame { IfOk result IsSoundItem }
     ensures read { result ≡ Err FileFault.Read → HasFailed reader.new }
@@ -128,7 +128,7 @@ fn start_classic<R: Read>(
     buffer: &mut Vec<u8>,
     order: Order,
     precision: Precision,
-    lengths: Lengths,
+    lengths: LengthOrder,
 ) -> Result<Form, FileFault>
     ensures is { (xs : List ℕ) → unread R.remaining reader.old ≡ Some xs → Begins (classic_start order precision lengths xs) result (unread R.remaining reader.new) }
     ensures within { OnErr result ((xs : List ℕ) → unread R.remaining reader.old ≡ Some xs → IsWithinStart (classic_start order precision lengths xs) (unread R.remaining reader.new)) }
@@ -142,7 +142,7 @@ fn start_classic<R: Read>(
 fn classic_form(
     order: Order,
     precision: Precision,
-    lengths: Lengths,
+    lengths: LengthOrder,
     rest: &[u8],
 ) -> Result<Form, FileFault>
     ensures is { result ≡ classic_form order precision lengths rest.now }
@@ -182,7 +182,7 @@ fn next_record<R: Read>(
     reader: &mut Feed<R>,
     buffer: &mut Vec<u8>,
     header: FileHeader,
-) -> Result<Item, FileFault>
+) -> Result<FileItem, FileFault>
     ensures is { (xs : List ℕ) → unread R.remaining reader.old ≡ Some xs → ReadsItem (record_turn header xs) result (form.Classic header) buffer.new.items (unread R.remaining reader.new) }
     ensures frame { IfOk result IsSoundItem }
     ensures read { result ≡ Err FileFault.Read → HasFailed reader.new }
@@ -190,7 +190,7 @@ fn next_record<R: Read>(
 {
     fill(reader, buffer, 16)?;
     if buffer.is_empty() {
-        return Ok(Item::End);
+        return Ok(FileItem::End);
     }
     let frame = record_frame(header, buffer)?;
     read_frame(reader, buffer, header, frame)
@@ -202,7 +202,7 @@ fn read_frame<R: Read>(
     buffer: &mut Vec<u8>,
     header: FileHeader,
     frame: Frame,
-) -> Result<Item, FileFault>
+) -> Result<FileItem, FileFault>
     requires few { frame.count ≤ 524288 }
     requires frame { IsFrame frame }
     ensures is { (xs : List ℕ) → unread R.remaining reader.old ≡ Some xs → ReadsItem (frame_turn header frame xs) result (form.Classic header) buffer.new.items (unread R.remaining reader.new) }
@@ -214,7 +214,7 @@ fn read_frame<R: Read>(
     if buffer.len() < frame.count {
         return Err(FileFault::Cut);
     }
-    Ok(Item::Frame(frame))
+    Ok(FileItem::Frame(frame))
 }
 
 /// Reads a block of a pcapng file.
@@ -222,7 +222,7 @@ fn next_block<R: Read>(
     reader: &mut Feed<R>,
     buffer: &mut Vec<u8>,
     section: &mut Section,
-) -> Result<Item, FileFault>
+) -> Result<FileItem, FileFault>
     ensures is { (xs : List ℕ) → unread R.remaining reader.old ≡ Some xs → ReadsItem (block_turn section.old xs) result (form.Blocks section.new) buffer.new.items (unread R.remaining reader.new) }
     ensures frame { IfOk result IsSoundItem }
     ensures read { result ≡ Err FileFault.Read → HasFailed reader.new }
@@ -230,7 +230,7 @@ fn next_block<R: Read>(
 {
     fill(reader, buffer, 12)?;
     if buffer.is_empty() {
-        return Ok(Item::End);
+        return Ok(FileItem::End);
     }
     let head = block_head(section.order(), buffer)?;
     read_rest(reader, buffer, section, head)
@@ -242,7 +242,7 @@ fn read_rest<R: Read>(
     buffer: &mut Vec<u8>,
     section: &mut Section,
     head: BlockHead,
-) -> Result<Item, FileFault>
+) -> Result<FileItem, FileFault>
     requires { head.count ≤ 524288 }
     ensures is { (xs : List ℕ) → unread R.remaining reader.old ≡ Some xs → ReadsItem (rest_turn section.old head xs) result (form.Blocks section.new) buffer.new.items (unread R.remaining reader.new) }
     ensures frame { IfOk result IsSoundItem }

@@ -6,7 +6,7 @@ ghost use Rattle.pfs_capture_files.specs.Interfaces.{IsNamed};
 ghost use Rattle.pfs_capture_files.specs.Frames.{IsFrame, IsMoment, enhanced_frame, frame_moment, nanoseconds_of, simple_frame, within_range};
 
 use crate::faults::FileFault;
-use crate::interfaces::Interface;
+use crate::interfaces::InterfaceBlock;
 use crate::orders::{Order, read_u32};
 use pfs_addr_values::IfName;
 
@@ -49,7 +49,7 @@ pub struct Frame {
 
 /// What is next in a file.
 #[derive(Clone, Copy)]
-pub enum Item {
+pub enum FileItem {
     /// Its end.
     End,
     /// A block that holds no frame.
@@ -59,7 +59,11 @@ pub enum Item {
 }
 
 /// The frame of an enhanced packet block, of which this is what follows its interface, without its last length.
-pub fn enhanced_frame(order: Order, interface: &Interface, body: &[u8]) -> Result<Frame, FileFault>
+pub fn enhanced_frame(
+    order: Order,
+    interface: &InterfaceBlock,
+    body: &[u8],
+) -> Result<Frame, FileFault>
     requires { IsNamed interface.now.name }
     ensures is { result ≡ enhanced_frame order interface.now body.now }
     ensures frame { IfOk result IsFrame }
@@ -88,7 +92,7 @@ pub fn enhanced_frame(order: Order, interface: &Interface, body: &[u8]) -> Resul
 }
 
 /// The frame of a simple packet block, of which this is what follows the frame's own length, without the block's last length.
-pub fn simple_frame(interface: &Interface, told: u32, body: &[u8]) -> Result<Frame, FileFault>
+pub fn simple_frame(interface: &InterfaceBlock, told: u32, body: &[u8]) -> Result<Frame, FileFault>
     requires { IsNamed interface.now.name }
     ensures is { result ≡ simple_frame interface.now told body.now }
     ensures frame { IfOk result IsFrame }
@@ -116,7 +120,7 @@ pub fn simple_frame(interface: &Interface, told: u32, body: &[u8]) -> Result<Fra
 }
 
 /// A moment that is given in an interface's units, and cut to whole nanoseconds.
-fn moment_of(interface: &Interface, units: u64) -> Moment
+fn moment_of(interface: &InterfaceBlock, units: u64) -> Moment
     ensures is { result ≡ frame_moment interface.now units }
     ensures fraction { IsMoment result }
 {

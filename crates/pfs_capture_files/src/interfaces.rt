@@ -5,14 +5,14 @@ ghost use Rattle.pfs_capture_files.specs.Faults.{is_outside};
 ghost use Rattle.pfs_capture_files.specs.Interfaces.{IsNamed, interface_of, name_told, offset_of, units_of, units_told};
 
 use crate::faults::FileFault;
-use crate::options::{Wanted, find_option};
+use crate::options::{OptionWanted, find_option};
 use crate::orders::{Order, read_u32, read_u64};
 use pfs_addr_values::IfName;
 use pfs_capture_packets::name_at;
 
 /// An interface of a section, as its block describes it.
 #[derive(Clone, Copy)]
-pub struct Interface {
+pub struct InterfaceBlock {
     /// The type of its link.
     pub link: u16,
     /// Its name, where the block says one that an interface of pf can have.
@@ -26,7 +26,7 @@ pub struct Interface {
 }
 
 /// The interface of this link type that a block describes, of which this is what follows the link type, without its last length.
-pub fn interface_of(order: Order, link: u16, body: &[u8]) -> Result<Interface, FileFault>
+pub fn interface_of(order: Order, link: u16, body: &[u8]) -> Result<InterfaceBlock, FileFault>
     ensures is { result ≡ interface_of order link body.now }
     ensures name { IfOk result (λ i. IsNamed i.name) }
     ensures of_file { IfErr result (λ f. is_outside f ≡ false) }
@@ -38,7 +38,7 @@ pub fn interface_of(order: Order, link: u16, body: &[u8]) -> Result<Interface, F
     let name = name_told(order, body);
     let kept = read_u32(order, body, 0);
     let offset = offset_of(order, body);
-    Ok(Interface {
+    Ok(InterfaceBlock {
         link,
         name,
         kept,
@@ -52,7 +52,7 @@ fn name_told(order: Order, body: &[u8]) -> Option<IfName>
     ensures is { result ≡ name_told order body.now }
     ensures name { IsNamed result }
 {
-    let wanted = Wanted {
+    let wanted = OptionWanted {
         code: 2,
         least: 0,
         most: 65_535,
@@ -68,7 +68,7 @@ fn units_told(order: Order, body: &[u8]) -> Result<u64, FileFault>
     ensures is { result ≡ units_told order body.now }
     ensures of_file { IfErr result (λ f. is_outside f ≡ false) }
 {
-    let wanted = Wanted {
+    let wanted = OptionWanted {
         code: 9,
         least: 1,
         most: 1,
@@ -98,7 +98,7 @@ fn units_of(byte: u8) -> Result<u64, FileFault>
 fn offset_of(order: Order, body: &[u8]) -> u64
     ensures { result ≡ offset_of order body.now }
 {
-    let wanted = Wanted {
+    let wanted = OptionWanted {
         code: 14,
         least: 8,
         most: 8,

@@ -13,9 +13,9 @@ mod options;
 mod orders;
 
 pub use blocks::Section;
-pub use classic::{FileHeader, Lengths, Precision};
+pub use classic::{FileHeader, LengthOrder, Precision};
 pub use faults::FileFault;
 pub use forms::{Form, read_item, read_start};
-pub use frames::{Frame, Item, Moment};
-pub use interfaces::Interface;
+pub use frames::{FileItem, Frame, Moment};
+pub use interfaces::InterfaceBlock;
 pub use orders::Order;

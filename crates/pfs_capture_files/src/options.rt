@@ -7,7 +7,7 @@ use crate::orders::{Order, read_u16};
 
 /// What is looked for: an option of this code, whose value has so many bytes.
 #[derive(Clone, Copy)]
-pub struct Wanted {
+pub struct OptionWanted {
     /// The code.
     pub code: u16,
     /// The fewest bytes.
@@ -18,7 +18,7 @@ pub struct Wanted {
 
 /// Where a value is.
 #[derive(Clone, Copy)]
-pub struct Place {
+pub struct ValueSpan {
     /// Where it begins.
     pub at: usize,
     /// How many bytes it has.
@@ -31,12 +31,12 @@ pub enum Look {
     /// On to the next, which begins here.
     On(usize),
     /// Nowhere: this one is looked for, and its value is here.
-    Found(Place),
+    Here(ValueSpan),
     /// Nowhere: there is none more.
     Nowhere,
 }
 
-impl Wanted {
+impl OptionWanted {
     /// Whether a value of so many bytes is wanted.
     fn takes(self, size: usize) -> bool
         ensures { result ≡ takes_size self size }
@@ -46,7 +46,12 @@ impl Wanted {
 }
 
 /// Where the value is of the first option that is wanted, of those that begin at this place.
-pub fn find_option(order: Order, body: &[u8], wanted: Wanted, first: usize) -> Option<Place>
+pub fn find_option(
+    order: Order,
+    body: &[u8],
+    wanted: OptionWanted,
+    first: usize,
+) -> Option<ValueSpan>
     ensures is { result ≡ find_option (length body.now) order body.now wanted first }
     ensures within { IfSome result (λ place. LiesWithin (length body.now) wanted.least place) }
 {
@@ -54,7 +59,7 @@ pub fn find_option(order: Order, body: &[u8], wanted: Wanted, first: usize) -> O
     for _turn in 0..body.len() {
         match option_step(order, body, wanted, at) {
             Look::On(next) => at = next,
-            Look::Found(place) => return Some(place),
+            Look::Here(place) => return Some(place),
             Look::Nowhere => return None,
         }
     }
@@ -62,7 +67,7 @@ pub fn find_option(order: Order, body: &[u8], wanted: Wanted, first: usize) -> O
 }
 
 /// Where the look goes from the option that begins here.
-fn option_step(order: Order, body: &[u8], wanted: Wanted, at: usize) -> Look
+fn option_step(order: Order, body: &[u8], wanted: OptionWanted, at: usize) -> Look
     ensures is { result ≡ option_step order body.now wanted at }
     ensures within { FitsIn (length body.now) wanted.least result }
 {
@@ -75,7 +80,7 @@ fn option_step(order: Order, body: &[u8], wanted: Wanted, at: usize) -> Look
         return Look::Nowhere;
     }
     if code == wanted.code && wanted.takes(size) && size <= body.len() - 4 - at {
-        return Look::Found(Place { at: at + 4, size });
+        return Look::Here(ValueSpan { at: at + 4, size });
     }
     Look::On(at + 4 + (size + 3) / 4 * 4)
 }

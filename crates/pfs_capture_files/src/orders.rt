@@ -24,7 +24,7 @@ impl Order {
     }
 }
 
-/// The number of two bytes.
+/// The number that the two bytes at a place make in this order.
 pub fn read_u16(order: Order, bytes: &[u8], at: usize) -> u16
     requires { at + 2 ≤ length bytes.now }
     ensures { result ≡ u16_in order bytes.now at }
@@ -33,7 +33,7 @@ pub fn read_u16(order: Order, bytes: &[u8], at: usize) -> u16
     u16::from(high) * 256 + u16::from(low)
 }
 
-/// The number of four bytes.
+/// The number that the four bytes at a place make in this order.
 pub fn read_u32(order: Order, bytes: &[u8], at: usize) -> u32
     requires { at + 4 ≤ length bytes.now }
     ensures { result ≡ u32_in order bytes.now at }

@@ -4,15 +4,15 @@ use Rattle.std.specs.Prelude.{if◌then◌else◌}
 use Rattle.std.specs.List.{onto_first}
 use Rattle.clap.specs.Words.{Text}
 use Rattle.pfs_capture_jobs.specs.Groups.{begins_group, cut_words, mark_after, word_groups}
-use Rattle.pfs_capture_jobs.specs.declared.grouping.Mark.{Mark}
-use Rattle.pfs_capture_jobs.specs.declared.grouping.Mark.TheVariants as mark
+use Rattle.pfs_capture_jobs.specs.declared.grouping.BeforeWord.{BeforeWord}
+use Rattle.pfs_capture_jobs.specs.declared.grouping.BeforeWord.TheVariants as mark
 
 -- groups, the first of which goes on with these words, and the others begin with a name
 abbrev pub glued : List Text → Text → List (List Text) → List (List Text)
 glued own name [] = own ∷ []
 glued own name (group ∷ groups) = (own ++ group) ∷ map (λ g. name ∷ g) groups
 
-pub glue-start : (name : Text) (m : Mark) (words : List Text) → glued (name ∷ []) name (cut_words m words) ≡ map (λ g. name ∷ g) (cut_words m words)
+pub glue-start : (name : Text) (m : BeforeWord) (words : List Text) → glued (name ∷ []) name (cut_words m words) ≡ map (λ g. name ∷ g) (cut_words m words)
 glue-start name m [] = refl
 glue-start name m (w ∷ ws) = go (begins_group m w) (cut_words (mark_after m w) ws)
   where
@@ -21,7 +21,7 @@ glue-start name m (w ∷ ws) = go (begins_group m w) (cut_words (mark_after m w)
     go false [] = refl
     go false (g ∷ gs) = refl
 
-abbrev pub so-cut : List (List Text) → List Text → Text → Mark → List Text → List (List Text)
+abbrev pub so-cut : List (List Text) → List Text → Text → BeforeWord → List Text → List (List Text)
 so-cut done own name m words = done ++ glued own name (cut_words m words)
 
 -- at first the group that goes on has the name alone

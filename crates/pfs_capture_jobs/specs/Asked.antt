@@ -12,13 +12,13 @@ use Rattle.pfs_addr_values.specs.Prefixes.{Network}
 use Rattle.pfs_capture_packets.specs.Ways.{mac_of}
 use Rattle.pfs_capture_packets.specs.declared.ways.Mac.{Mac}
 use Rattle.pfs_capture.specs.Points.{Point}
-use Rattle.pfs_capture.specs.declared.points.Side.TheVariants.{Behind, InFront}
+use Rattle.pfs_capture.specs.declared.points.InterfaceSide.TheVariants.{Behind, InFront}
 use Rattle.pfs_words.specs.Words.{ByLinesIn, flag_rule, lines_flag}
-use Rattle.pfs_capture_jobs.specs.declared.asking.Asked.{Asked}
+use Rattle.pfs_capture_jobs.specs.declared.asking.InterfaceWords.{InterfaceWords}
 use Rattle.pfs_capture_jobs.specs.declared.refusals.Mistake.{Mistake}
 use Rattle.pfs_capture_jobs.specs.declared.refusals.Mistake.TheVariants as mistake
-use Rattle.pfs_capture_jobs.specs.declared.refusals.Refusal.{Refusal}
-use Rattle.pfs_capture_jobs.specs.declared.refusals.Refusal.TheVariants as refusal
+use Rattle.pfs_capture_jobs.specs.declared.refusals.WordsRefusal.{WordsRefusal}
+use Rattle.pfs_capture_jobs.specs.declared.refusals.WordsRefusal.TheVariants as refusal
 
 -- ---- the command line
 
@@ -82,32 +82,32 @@ abbrev pub given_text : Option (Bor Text) → Option Text
 given_text = option_map (λ s. s.now)
 
 -- the interface, its capture, the file for what pf answered, and whether rows are wanted at once
-abbrev pub IsAsked : List Row → Asked → Type 0
+abbrev pub IsAsked : List Row → InterfaceWords → Type 0
 IsAsked rows a =
     (named_point rows ≡ Ok a.point) × (given_text a.capture ≡ first_of (codes "CAPTURE") rows) × (given_text a.told ≡ first_of (codes "told") rows) × ByLinesIn rows a.by_lines
 
 -- words are refused for this mistake where they have it, and for nothing else but memory
-abbrev pub IsRefused : {A : Type 0} → Mistake → Option A → Refusal → Type 0
+abbrev pub IsRefused : {A : Type 0} → Mistake → Option A → WordsRefusal → Type 0
 IsRefused m wanted (refusal.Clap e) = ⊥
 IsRefused m wanted (refusal.Mistake k) = (k ≡ m) × (wanted ≡ None)
 IsRefused m wanted refusal.Memory = ⊤
 
 -- an interface is what the words name, or refused for their mistake
-abbrev pub IsPointNamed : Result Point Mistake → Result Point Refusal → Type 0
+abbrev pub IsPointNamed : Result Point Mistake → Result Point WordsRefusal → Type 0
 IsPointNamed wanted (Ok point) = wanted ≡ Ok point
 IsPointNamed wanted (Err (refusal.Clap e)) = ⊥
 IsPointNamed wanted (Err (refusal.Mistake m)) = wanted ≡ Err m
 IsPointNamed wanted (Err refusal.Memory) = ⊤
 
 -- the same of all that is asked
-abbrev pub AskedIn : List Row → Result Asked Refusal → Type 0
+abbrev pub AskedIn : List Row → Result InterfaceWords WordsRefusal → Type 0
 AskedIn rows (Ok a) = IsAsked rows a
 AskedIn rows (Err (refusal.Clap e)) = ⊥
 AskedIn rows (Err (refusal.Mistake m)) = named_point rows ≡ Err m
 AskedIn rows (Err refusal.Memory) = ⊤
 
 -- the words ask for it, or clap refuses them, or they have a mistake that clap does not know, or memory was refused
-abbrev pub AskedBy : List Text → Result Asked Refusal → Type 0
+abbrev pub AskedBy : List Text → Result InterfaceWords WordsRefusal → Type 0
 AskedBy words (Ok a) = (fault_of pfstrace_app words ≡ []) × IsAsked (matches_of pfstrace_app words) a
 AskedBy words (Err (refusal.Clap e)) = HasKind (fault_of pfstrace_app words) e
 AskedBy words (Err (refusal.Mistake m)) = (fault_of pfstrace_app words ≡ []) × (named_point (matches_of pfstrace_app words) ≡ Err m)

@@ -5,8 +5,8 @@ use Rattle.clap.specs.declared.error.kind.ErrorKind.{ErrorKind}
 use Rattle.clap.specs.declared.error.kind.ErrorKind.TheVariants as kind
 use Rattle.pfs_capture_jobs.specs.declared.refusals.Mistake.{Mistake}
 use Rattle.pfs_capture_jobs.specs.declared.refusals.Mistake.TheVariants as mistake
-use Rattle.pfs_capture_jobs.specs.declared.refusals.Refusal.{Refusal}
-use Rattle.pfs_capture_jobs.specs.declared.refusals.Refusal.TheVariants as refusal
+use Rattle.pfs_capture_jobs.specs.declared.refusals.WordsRefusal.{WordsRefusal}
+use Rattle.pfs_capture_jobs.specs.declared.refusals.WordsRefusal.TheVariants as refusal
 
 -- the text of a mistake, without a line feed
 abbrev pub mistake_text : Mistake → List ℕ
@@ -30,7 +30,7 @@ kind_status kind.DisplayVersion = 0
 kind_status other = 2
 
 -- the exit status of words that are refused
-abbrev pub refusal_status : Refusal → ℕ
+abbrev pub refusal_status : WordsRefusal → ℕ
 refusal_status (refusal.Clap error) = kind_status (kind_of error)
 refusal_status (refusal.Mistake m) = 2
 refusal_status refusal.Memory = 4

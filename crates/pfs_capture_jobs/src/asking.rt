@@ -10,17 +10,17 @@ ghost use Rattle.pfs_capture_jobs.specs.Asked.{AskedBy, AskedIn, IsPointNamed, I
 ghost use Rattle.pfs_capture_jobs.specs.declared.refusals.Mistake.TheVariants as mistake;
 
 use crate::options::pfstrace;
-use crate::refusals::{Mistake, Refusal};
+use crate::refusals::{Mistake, WordsRefusal};
 use clap::{ArgMatches, Error};
 use pfs_addr::parse_prefix;
 use pfs_addr_values::{IfName, Prefix, parse_ifname};
-use pfs_capture::{CapturePoint, Mac, Side, parse_mac};
+use pfs_capture::{CapturePoint, InterfaceSide, Mac, parse_mac};
 use pfs_words::is_by_lines;
 use std::alloc::{AllocError, Global};
 
 /// What the words of one interface ask for.
 #[derive(Drop)]
-pub struct Asked<'a> {
+pub struct InterfaceWords<'a> {
     /// The interface.
     pub point: CapturePoint,
     /// The capture's file, if one is named.
@@ -33,12 +33,12 @@ pub struct Asked<'a> {
 
 /// What the words of one interface ask for, behind the program's name. The refusal is clap's, with its message, or a mistake that clap
 /// does not know. It takes memory.
-pub fn asked_of<'a>(alloc: Global, words: &'a [&'a str]) -> Result<Asked<'a>, Refusal>
+pub fn asked_of<'a>(alloc: Global, words: &'a [&'a str]) -> Result<InterfaceWords<'a>, WordsRefusal>
     ensures { AskedBy (map (λ w. w.now) words.entry.now) result }
 {
     match matches(alloc, words) {
         Ok(found) => asked_in(alloc, &found),
-        Err(error) => Err(Refusal::Clap(error)),
+        Err(error) => Err(WordsRefusal::Clap(error)),
     }
 }
 
@@ -52,11 +52,11 @@ fn matches<'a>(alloc: Global, words: &'a [&'a str]) -> Result<ArgMatches<'a>, Er
     }
 }
 
-fn asked_in<'a>(alloc: Global, found: &ArgMatches<'a>) -> Result<Asked<'a>, Refusal>
+fn asked_in<'a>(alloc: Global, found: &ArgMatches<'a>) -> Result<InterfaceWords<'a>, WordsRefusal>
     ensures { AskedIn (rows_of (found_of found.now)) result }
 {
     match point(alloc, found) {
-        Ok(point) => Ok(Asked {
+        Ok(point) => Ok(InterfaceWords {
             point,
             capture: given(found, "CAPTURE"),
             told: given(found, "told"),
@@ -67,12 +67,12 @@ fn asked_in<'a>(alloc: Global, found: &ArgMatches<'a>) -> Result<Asked<'a>, Refu
 }
 
 /// The interface, as the words say.
-fn point(alloc: Global, found: &ArgMatches<'_>) -> Result<CapturePoint, Refusal>
+fn point(alloc: Global, found: &ArgMatches<'_>) -> Result<CapturePoint, WordsRefusal>
     ensures { IsPointNamed (named_point (rows_of (found_of found.now))) result }
 {
     match ifname(found) {
         Some(ifname) => point_called(alloc, found, ifname),
-        None => Err(Refusal::Mistake(Mistake::Interface)),
+        None => Err(WordsRefusal::Mistake(Mistake::Interface)),
     }
 }
 
@@ -97,7 +97,7 @@ fn point_called(
     alloc: Global,
     found: &ArgMatches<'_>,
     ifname: IfName,
-) -> Result<CapturePoint, Refusal>
+) -> Result<CapturePoint, WordsRefusal>
     requires { is_name 15 ifname ≡ true }
     ensures { IsPointNamed (point_called (rows_of (found_of found.now)) ifname) result }
 {
@@ -112,7 +112,7 @@ fn point_with(
     found: &ArgMatches<'_>,
     ifname: IfName,
     macs: Vec<Mac>,
-) -> Result<CapturePoint, Refusal>
+) -> Result<CapturePoint, WordsRefusal>
     requires { is_name 15 ifname ≡ true }
     ensures { IsPointNamed (point_with (rows_of (found_of found.now)) ifname macs.items) result }
 {
@@ -131,30 +131,30 @@ fn sided(
     macs: Vec<Mac>,
     inside: Vec<Prefix>,
     outside: Vec<Prefix>,
-) -> Result<CapturePoint, Refusal>
+) -> Result<CapturePoint, WordsRefusal>
     requires { is_name 15 ifname ≡ true }
     ensures { IsPointNamed (sided ifname macs.items inside.items outside.items) result }
 {
     if inside.is_empty() {
-        return Ok(CapturePoint::new(ifname, macs, outside, Side::InFront));
+        return Ok(CapturePoint::new(ifname, macs, outside, InterfaceSide::InFront));
     }
     if !outside.is_empty() {
-        return Err(Refusal::Mistake(Mistake::BothSides));
+        return Err(WordsRefusal::Mistake(Mistake::BothSides));
     }
-    Ok(CapturePoint::new(ifname, macs, inside, Side::Behind))
+    Ok(CapturePoint::new(ifname, macs, inside, InterfaceSide::Behind))
 }
 
-fn macs(alloc: Global, found: &ArgMatches<'_>) -> Result<Vec<Mac>, Refusal>
+fn macs(alloc: Global, found: &ArgMatches<'_>) -> Result<Vec<Mac>, WordsRefusal>
     ensures ok { IfOk result (λ v. all_read mac_of (listed (codes "mac") (rows_of (found_of found.now))) ≡ Some v.items) }
     ensures err { IfErr result (λ f. IsRefused mistake.Mac (all_read mac_of (listed (codes "mac") (rows_of (found_of found.now)))) f) }
 {
     match listed(alloc, found, "mac") {
         Ok(texts) => read_macs(alloc, texts.as_slice()),
-        Err(_) => Err(Refusal::Memory),
+        Err(_) => Err(WordsRefusal::Memory),
     }
 }
 
-fn read_macs(alloc: Global, texts: &[&str]) -> Result<Vec<Mac>, Refusal>
+fn read_macs(alloc: Global, texts: &[&str]) -> Result<Vec<Mac>, WordsRefusal>
     ensures ok { IfOk result (λ v. all_read mac_of (map (λ t. t.now) texts.now) ≡ Some v.items) }
     ensures err { IfErr result (λ f. IsRefused mistake.Mac (all_read mac_of (map (λ t. t.now) texts.now)) f) }
 {
@@ -163,10 +163,10 @@ fn read_macs(alloc: Global, texts: &[&str]) -> Result<Vec<Mac>, Refusal>
         match parse_mac(text.as_bytes()) {
             Some(mac) => {
                 if macs.extend_from_slice(&[mac]).is_err() {
-                    return Err(Refusal::Memory);
+                    return Err(WordsRefusal::Memory);
                 }
             }
-            None => return Err(Refusal::Mistake(Mistake::Mac)),
+            None => return Err(WordsRefusal::Mistake(Mistake::Mac)),
         }
     }
     Ok(macs)
@@ -178,17 +178,21 @@ fn prefixes(
     found: &ArgMatches<'_>,
     id: &str,
     mistake: Mistake,
-) -> Result<Vec<Prefix>, Refusal>
+) -> Result<Vec<Prefix>, WordsRefusal>
     ensures ok { IfOk result (λ v. all_read prefix_of (listed id.now (rows_of (found_of found.now))) ≡ Some v.items) }
     ensures err { IfErr result (λ f. IsRefused mistake (all_read prefix_of (listed id.now (rows_of (found_of found.now)))) f) }
 {
     match listed(alloc, found, id) {
         Ok(texts) => read_prefixes(alloc, texts.as_slice(), mistake),
-        Err(_) => Err(Refusal::Memory),
+        Err(_) => Err(WordsRefusal::Memory),
     }
 }
 
-fn read_prefixes(alloc: Global, texts: &[&str], mistake: Mistake) -> Result<Vec<Prefix>, Refusal>
+fn read_prefixes(
+    alloc: Global,
+    texts: &[&str],
+    mistake: Mistake,
+) -> Result<Vec<Prefix>, WordsRefusal>
     ensures ok { IfOk result (λ v. all_read prefix_of (map (λ t. t.now) texts.now) ≡ Some v.items) }
     ensures err { IfErr result (λ f. IsRefused mistake (all_read prefix_of (map (λ t. t.now) texts.now)) f) }
 {
@@ -197,10 +201,10 @@ fn read_prefixes(alloc: Global, texts: &[&str], mistake: Mistake) -> Result<Vec<
         match parse_prefix(text.as_bytes()) {
             Some(prefix) => {
                 if prefixes.push(prefix).is_err() {
-                    return Err(Refusal::Memory);
+                    return Err(WordsRefusal::Memory);
                 }
             }
-            None => return Err(Refusal::Mistake(mistake)),
+            None => return Err(WordsRefusal::Mistake(mistake)),
         }
     }
     Ok(prefixes)

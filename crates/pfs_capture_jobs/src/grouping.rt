@@ -7,7 +7,7 @@ use std::alloc::{AllocError, Global};
 
 /// What stands before a word.
 #[derive(Clone, Copy)]
-pub enum Mark {
+pub enum BeforeWord {
     /// No interface is named.
     Start,
     /// An interface is named.
@@ -36,7 +36,7 @@ fn groups_behind<'a>(
 {
     let mut groups = Vec::new(alloc);
     let mut own = group_of(alloc, name)?;
-    let mut mark = Mark::Start;
+    let mut mark = BeforeWord::Start;
     for word in words {
         if begins_group(mark, word) {
             groups.push(own)?;
@@ -58,23 +58,23 @@ fn group_of<'a>(alloc: Global, name: &'a str) -> Result<Vec<&'a str>, AllocError
 }
 
 /// Whether a word begins a group, behind one that has an interface.
-fn begins_group(mark: Mark, word: &str) -> bool
+fn begins_group(mark: BeforeWord, word: &str) -> bool
     ensures { result ≡ begins_group mark word.now }
 {
     match mark {
-        Mark::Named => names_interface(word),
-        Mark::Start | Mark::Over => false,
+        BeforeWord::Named => names_interface(word),
+        BeforeWord::Start | BeforeWord::Over => false,
     }
 }
 
-fn mark_after(mark: Mark, word: &str) -> Mark
+fn mark_after(mark: BeforeWord, word: &str) -> BeforeWord
     ensures { result ≡ mark_after mark word.now }
 {
     match mark {
-        Mark::Over => Mark::Over,
-        Mark::Named | Mark::Start if ends_options(word) => Mark::Over,
-        Mark::Start if names_interface(word) => Mark::Named,
-        Mark::Named | Mark::Start => mark,
+        BeforeWord::Over => BeforeWord::Over,
+        BeforeWord::Named | BeforeWord::Start if ends_options(word) => BeforeWord::Over,
+        BeforeWord::Start if names_interface(word) => BeforeWord::Named,
+        BeforeWord::Named | BeforeWord::Start => mark,
     }
 }
 

@@ -12,7 +12,7 @@ mod wanted;
 
 pub use files::{create_anew, is_capture};
 pub use grouping::groups_of;
-pub use refusals::{Mistake, Refusal};
+pub use refusals::{Mistake, WordsRefusal};
 pub use requests::request;
 pub use telling::{tell_mistake, tell_no_words, tell_refused, tell_stop};
-pub use wanted::{Output, Request, Source};
+pub use wanted::{CaptureSource, Output, TraceRequest};

@@ -58,7 +58,7 @@ impl fmt::Display for Mistake {
 
 /// Why words are refused.
 #[derive(Drop)]
-pub enum Refusal {
+pub enum WordsRefusal {
     /// `clap` does not understand them, or has told what they ask for: help or the version.
     Clap(Error),
     /// They ask for nothing that can be done.

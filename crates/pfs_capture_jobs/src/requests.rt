@@ -4,16 +4,16 @@ ghost use Rattle.std.specs.Prelude.{◌≡◌, IfErr, IfOk, [], ◌∷◌, count
 ghost use Rattle.std.specs.List.{list_any};
 ghost use Rattle.pfs_capture_jobs.specs.Requests.{AllAsk, AreOwn, AreSources, IsShared, OneRefused, RequestIn, RequestedBy, SourcesAre, SourcesRefused, captures_shared, first_capture, first_told, is_dash, named_file, wanted_output};
 
-use crate::asking::{Asked, asked_of};
-use crate::refusals::{Mistake, Refusal};
-use crate::wanted::{Output, Request, Source};
+use crate::asking::{InterfaceWords, asked_of};
+use crate::refusals::{Mistake, WordsRefusal};
+use crate::wanted::{CaptureSource, Output, TraceRequest};
 use pfs_words::{file_of, is_standard};
 use std::alloc::{AllocError, Global};
 
 /// What groups of words ask for, each behind the program's name. The refusal is that of the first group that is refused: clap's, with its
 /// message, or a mistake that clap does not know; else a mistake in all groups together: first of `--told`, then of the captures. It takes
 /// memory. (pfstrace(1))
-pub fn request<'a>(alloc: Global, groups: &'a [Vec<&str>]) -> Result<Request<'a>, Refusal>
+pub fn request<'a>(alloc: Global, groups: &'a [Vec<&str>]) -> Result<TraceRequest<'a>, WordsRefusal>
     ensures { RequestedBy (map (λ g. map (λ w. w.now) g.items) groups.entry.now) result }
 {
     match asked_by(alloc, groups) {
@@ -22,7 +22,10 @@ pub fn request<'a>(alloc: Global, groups: &'a [Vec<&str>]) -> Result<Request<'a>
     }
 }
 
-fn asked_by<'a>(alloc: Global, groups: &'a [Vec<&str>]) -> Result<Vec<Asked<'a>>, Refusal>
+fn asked_by<'a>(
+    alloc: Global,
+    groups: &'a [Vec<&str>],
+) -> Result<Vec<InterfaceWords<'a>>, WordsRefusal>
     ensures ok { IfOk result (λ v. AllAsk (map (λ g. map (λ w. w.now) g.items) groups.entry.now) v.items) }
     ensures err { IfErr result (λ f. OneRefused (map (λ g. map (λ w. w.now) g.items) groups.entry.now) f) }
 {
@@ -31,7 +34,7 @@ fn asked_by<'a>(alloc: Global, groups: &'a [Vec<&str>]) -> Result<Vec<Asked<'a>>
         match asked_of(alloc, words.as_slice()) {
             Ok(asked) => {
                 if all.push(asked).is_err() {
-                    return Err(Refusal::Memory);
+                    return Err(WordsRefusal::Memory);
                 }
             }
             Err(refusal) => return Err(refusal),
@@ -40,36 +43,42 @@ fn asked_by<'a>(alloc: Global, groups: &'a [Vec<&str>]) -> Result<Vec<Asked<'a>>
     Ok(all)
 }
 
-fn request_of<'a>(alloc: Global, asked: Vec<Asked<'a>>) -> Result<Request<'a>, Refusal>
+fn request_of<'a>(
+    alloc: Global,
+    asked: Vec<InterfaceWords<'a>>,
+) -> Result<TraceRequest<'a>, WordsRefusal>
     ensures { RequestIn asked.entry.items result }
 {
     let output = match output_of(&asked) {
         Ok(output) => output,
-        Err(mistake) => return Err(Refusal::Mistake(mistake)),
+        Err(mistake) => return Err(WordsRefusal::Mistake(mistake)),
     };
     match sources_of(alloc, asked) {
-        Ok(sources) => Ok(Request { sources, output }),
+        Ok(sources) => Ok(TraceRequest { sources, output }),
         Err(refusal) => Err(refusal),
     }
 }
 
 /// The captures that the groups of words name: one of all their interfaces, or one of each.
-fn sources_of<'a>(alloc: Global, asked: Vec<Asked<'a>>) -> Result<Vec<Source<'a>>, Refusal>
+fn sources_of<'a>(
+    alloc: Global,
+    asked: Vec<InterfaceWords<'a>>,
+) -> Result<Vec<CaptureSource<'a>>, WordsRefusal>
     ensures ok { IfOk result (λ v. SourcesAre asked.entry.items v.items) }
     ensures err { IfErr result (λ f. SourcesRefused asked.entry.items f) }
 {
     let made = match is_shared(&asked) {
         Ok(true) => shared_sources(alloc, asked),
         Ok(false) => own_sources(alloc, asked),
-        Err(mistake) => return Err(Refusal::Mistake(mistake)),
+        Err(mistake) => return Err(WordsRefusal::Mistake(mistake)),
     };
     match made {
         Ok(sources) => Ok(sources),
-        Err(_) => Err(Refusal::Memory),
+        Err(_) => Err(WordsRefusal::Memory),
     }
 }
 
-fn output_of<'a>(asked: &[Asked<'a>]) -> Result<Output<'a>, Mistake>
+fn output_of<'a>(asked: &[InterfaceWords<'a>]) -> Result<Output<'a>, Mistake>
     ensures { result ≡ wanted_output asked.now }
 {
     if count_told(asked) > 1 {
@@ -86,7 +95,7 @@ fn output_of<'a>(asked: &[Asked<'a>]) -> Result<Output<'a>, Mistake>
 }
 
 #[tactic(auto, using(crate::proofs::FirstLaws::told_step))]
-fn first_told<'a>(asked: &[Asked<'a>]) -> Option<&'a str>
+fn first_told<'a>(asked: &[InterfaceWords<'a>]) -> Option<&'a str>
     ensures { result ≡ first_told asked.now }
 {
     for group in asked {
@@ -98,7 +107,7 @@ fn first_told<'a>(asked: &[Asked<'a>]) -> Option<&'a str>
 }
 
 #[tactic(auto, using(crate::proofs::FirstLaws::capture_step))]
-fn first_capture<'a>(asked: &[Asked<'a>]) -> Option<&'a str>
+fn first_capture<'a>(asked: &[InterfaceWords<'a>]) -> Option<&'a str>
     ensures { result ≡ first_capture asked.now }
 {
     for group in asked {
@@ -119,7 +128,7 @@ fn is_dash(name: Option<&str>) -> bool
 }
 
 /// Whether one capture is that of all groups; else each has one of its own.
-fn is_shared(asked: &[Asked<'_>]) -> Result<bool, Mistake>
+fn is_shared(asked: &[InterfaceWords<'_>]) -> Result<bool, Mistake>
     ensures { result ≡ captures_shared asked.now }
 {
     let named = count_named(asked);
@@ -135,7 +144,10 @@ fn is_shared(asked: &[Asked<'_>]) -> Result<bool, Mistake>
     Ok(false)
 }
 
-fn shared_sources<'a>(alloc: Global, asked: Vec<Asked<'a>>) -> Result<Vec<Source<'a>>, AllocError>
+fn shared_sources<'a>(
+    alloc: Global,
+    asked: Vec<InterfaceWords<'a>>,
+) -> Result<Vec<CaptureSource<'a>>, AllocError>
     ensures { IfOk result (λ v. AreSources asked.entry.items true v.items) }
 {
     let source = shared_source(alloc, asked)?;
@@ -145,7 +157,10 @@ fn shared_sources<'a>(alloc: Global, asked: Vec<Asked<'a>>) -> Result<Vec<Source
 }
 
 /// The one capture of all groups.
-fn shared_source<'a>(alloc: Global, asked: Vec<Asked<'a>>) -> Result<Source<'a>, AllocError>
+fn shared_source<'a>(
+    alloc: Global,
+    asked: Vec<InterfaceWords<'a>>,
+) -> Result<CaptureSource<'a>, AllocError>
     ensures { IfOk result (λ s. IsShared asked.entry.items s) }
 {
     let name = named_file(first_capture(&asked));
@@ -153,11 +168,14 @@ fn shared_source<'a>(alloc: Global, asked: Vec<Asked<'a>>) -> Result<Source<'a>,
     for group in asked {
         points.push(group.point)?;
     }
-    Ok(Source { points, name })
+    Ok(CaptureSource { points, name })
 }
 
 /// A capture of each group.
-fn own_sources<'a>(alloc: Global, asked: Vec<Asked<'a>>) -> Result<Vec<Source<'a>>, AllocError>
+fn own_sources<'a>(
+    alloc: Global,
+    asked: Vec<InterfaceWords<'a>>,
+) -> Result<Vec<CaptureSource<'a>>, AllocError>
     ensures { IfOk result (λ v. AreOwn asked.entry.items v.items) }
 {
     let mut sources = Vec::new(alloc);
@@ -167,12 +185,12 @@ fn own_sources<'a>(alloc: Global, asked: Vec<Asked<'a>>) -> Result<Vec<Source<'a
     Ok(sources)
 }
 
-fn own_source<'a>(alloc: Global, group: Asked<'a>) -> Result<Source<'a>, AllocError>
+fn own_source<'a>(alloc: Global, group: InterfaceWords<'a>) -> Result<CaptureSource<'a>, AllocError>
     ensures { IfOk result (λ s. AreOwn (group.entry ∷ []) (s ∷ [])) }
 {
     let mut points = Vec::new(alloc);
     points.push(group.point)?;
-    Ok(Source {
+    Ok(CaptureSource {
         points,
         name: named_file(group.capture),
     })
@@ -184,25 +202,25 @@ fn named_file(name: Option<&str>) -> Option<&str>
     file_of(name?)
 }
 
-fn count_told(asked: &[Asked<'_>]) -> usize
+fn count_told(asked: &[InterfaceWords<'_>]) -> usize
     ensures { result ≡ count_by (λ a. is_some a.told) asked.now }
 {
     asked.iter().filter(|group| group.told.is_some()).count()
 }
 
-fn count_named(asked: &[Asked<'_>]) -> usize
+fn count_named(asked: &[InterfaceWords<'_>]) -> usize
     ensures { result ≡ count_by (λ a. is_some a.capture) asked.now }
 {
     asked.iter().filter(|group| group.capture.is_some()).count()
 }
 
-fn count_dashes(asked: &[Asked<'_>]) -> usize
+fn count_dashes(asked: &[InterfaceWords<'_>]) -> usize
     ensures { result ≡ count_by (λ a. is_dash a.capture) asked.now }
 {
     asked.iter().filter(|group| is_dash(group.capture)).count()
 }
 
-fn wants_lines(asked: &[Asked<'_>]) -> bool
+fn wants_lines(asked: &[InterfaceWords<'_>]) -> bool
     ensures { result ≡ list_any (λ a. a.by_lines) asked.now }
 {
     asked.iter().any(|group| group.by_lines)

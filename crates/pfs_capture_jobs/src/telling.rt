@@ -6,7 +6,7 @@ ghost use Rattle.pfs_capture.specs.Faults.{stop_status};
 ghost use Rattle.pfs_capture_jobs.specs.Mistakes.{kind_status, refusal_status};
 ghost use Rattle.clap.specs.Words.{kind_of};
 
-use crate::refusals::{Mistake, Refusal};
+use crate::refusals::{Mistake, WordsRefusal};
 use clap::Error;
 use clap::error::ErrorKind as ClapKind;
 use pfs_capture::{TraceStop, status};
@@ -48,13 +48,13 @@ pub fn tell_no_words(rt: &HostRuntime, error: &io::Error) -> u8
 
 /// Reports why the words are refused. The status is 2 for words that are not understood, 4 where memory was refused, and 0 where they
 /// ask for help or the version, which goes to standard output. (pfstrace(1), EXIT STATUS)
-pub fn tell_refused(rt: &HostRuntime, refusal: &Refusal) -> u8
+pub fn tell_refused(rt: &HostRuntime, refusal: &WordsRefusal) -> u8
     ensures { result ≡ refusal_status refusal.now }
 {
     match refusal {
-        Refusal::Clap(error) => tell_error(rt, error),
-        Refusal::Mistake(mistake) => tell_mistake(rt, *mistake),
-        Refusal::Memory => tell_stop(rt, &TraceStop::Memory, 0),
+        WordsRefusal::Clap(error) => tell_error(rt, error),
+        WordsRefusal::Mistake(mistake) => tell_mistake(rt, *mistake),
+        WordsRefusal::Memory => tell_stop(rt, &TraceStop::Memory, 0),
     }
 }
 

@@ -13,7 +13,7 @@ pub struct Output<'a> {
 
 /// A capture's interfaces, and its file; none stands for standard input.
 #[derive(Drop)]
-pub struct Source<'a> {
+pub struct CaptureSource<'a> {
     /// The interfaces, in the order of the words.
     pub points: Vec<CapturePoint>,
     /// The name of the file.
@@ -22,9 +22,9 @@ pub struct Source<'a> {
 
 /// What a command line asks for.
 #[derive(Drop)]
-pub struct Request<'a> {
+pub struct TraceRequest<'a> {
     /// The captures that are read.
-    pub sources: Vec<Source<'a>>,
+    pub sources: Vec<CaptureSource<'a>>,
     /// What is written beside the trace.
     pub output: Output<'a>,
 }

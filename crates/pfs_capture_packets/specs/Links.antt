@@ -2,7 +2,7 @@
 use Rattle.std.specs.Prelude.{ℕ, ◌+◌, ◌*◌, ◌/◌, ◌%◌, ◌==◌, ◌||◌, ◌&&◌, List, length, nat_le, nat_lt, Option, Some, None, Result, Ok, Err, if◌then◌else◌, slice_index}
 use Rattle.pfs_capture_packets.specs.declared.links.Link.{Link}
 use Rattle.pfs_capture_packets.specs.declared.links.Link.TheVariants as link
-use Rattle.pfs_capture_packets.specs.declared.walks.Place.{Place}
+use Rattle.pfs_capture_packets.specs.declared.walks.HeaderPlace.{HeaderPlace}
 use Rattle.pfs_capture_packets.specs.declared.packets.Reason.{Reason}
 use Rattle.pfs_capture_packets.specs.declared.packets.Reason.TheVariants as reason
 use Rattle.pfs_capture_packets.specs.Bytes.{u16_at}
@@ -29,7 +29,7 @@ abbrev pub kind_of_family : ℕ → ℕ
 kind_of_family family = if family == 2 then 0x0800 else (if (family == 24) || (family == 28) || (family == 30) then 0x86dd else 0)
 
 -- after a header of so many bytes, whose EtherType begins at this place
-abbrev pub place_behind_header : List ℕ → ℕ → ℕ → Result Place Reason
+abbrev pub place_behind_header : List ℕ → ℕ → ℕ → Result HeaderPlace Reason
 place_behind_header frame size at = if nat_le (0 + size) (length frame) then Ok (record { kind = u16_at frame at; at = size }) else Err reason.Cut
 
 -- the family that four bytes hold in either byte order, 0 where it is past 255
@@ -39,29 +39,29 @@ either_order frame =
     else (if (slice_index frame 1 == 0) && (slice_index frame 2 == 0) && (slice_index frame 3 == 0) then slice_index frame 0 else 0)
 
 -- LINKTYPE_NULL and LINKTYPE_LOOP: an address family
-abbrev pub loopback_place : List ℕ → Result Place Reason
+abbrev pub loopback_place : List ℕ → Result HeaderPlace Reason
 loopback_place frame = if nat_le (0 + 4) (length frame) then Ok (record { kind = kind_of_family (either_order frame); at = 4 }) else Err reason.Cut
 
 -- LINKTYPE_RAW, LINKTYPE_IPV4 and LINKTYPE_IPV6: no header
-abbrev pub raw_place : List ℕ → Result Place Reason
+abbrev pub raw_place : List ℕ → Result HeaderPlace Reason
 raw_place frame = if length frame == 0 then Err reason.Cut else Ok (record { kind = kind_of_version (slice_index frame 0); at = 0 })
 
 -- what follows from where a link's header ends, or else the reason why there is nothing
-abbrev pub then_placed : Result Place Reason → (Place → Result Place Reason) → Result Place Reason
+abbrev pub then_placed : Result HeaderPlace Reason → (HeaderPlace → Result HeaderPlace Reason) → Result HeaderPlace Reason
 then_placed (Ok place) more = more place
 then_placed (Err r) more = Err r
 
 -- The number 12 is DLT_RAW in libpcap's list, and DLT_LOOP in files that OpenBSD writes. The first byte tells them apart: a packet
 -- begins with its version, an address family in network byte order with a zero.
-abbrev pub raw_or_loopback_place : List ℕ → Result Place Reason
+abbrev pub raw_or_loopback_place : List ℕ → Result HeaderPlace Reason
 raw_or_loopback_place frame = then_placed (raw_place frame) (λ raw. if raw.kind == 0 then loopback_place frame else Ok raw)
 
 -- LINKTYPE_ENC: an address family in the byte order of the host, the SPI and flags, four bytes each (OpenBSD's net/if_enc.h)
-abbrev pub encapsulated_place : List ℕ → Result Place Reason
+abbrev pub encapsulated_place : List ℕ → Result HeaderPlace Reason
 encapsulated_place frame = if nat_le (0 + 12) (length frame) then Ok (record { kind = kind_of_family (either_order frame); at = 12 }) else Err reason.Cut
 
 -- the protocol of PPP: two bytes, of which the first is even, or one byte that is odd (RFC 1661, sections 2 and 6.5)
-abbrev pub ppp_behind : List ℕ → ℕ → Result Place Reason
+abbrev pub ppp_behind : List ℕ → ℕ → Result HeaderPlace Reason
 ppp_behind frame at =
     if nat_le (at + 2) (length frame)
     then (if slice_index frame at % 2 == 1 then Ok (record { kind = kind_of_ppp (slice_index frame at); at = at + 1 })
@@ -69,13 +69,13 @@ ppp_behind frame at =
     else Err reason.Cut
 
 -- LINKTYPE_PPP and LINKTYPE_PPP_HDLC: PPP's protocol, after the bytes ff and 03 where it is framed as in HDLC (RFC 1662, section 3.1)
-abbrev pub ppp_place : List ℕ → Result Place Reason
+abbrev pub ppp_place : List ℕ → Result HeaderPlace Reason
 ppp_place frame =
     if nat_le (0 + 2) (length frame) && (slice_index frame 0 == 0xff) && (slice_index frame 1 == 0x03) then ppp_behind frame 2
     else ppp_behind frame 0
 
 -- LINKTYPE_PFLOG: its length without what it is filled up with to a word of four bytes, and an address family
-abbrev pub log_place : List ℕ → Result Place Reason
+abbrev pub log_place : List ℕ → Result HeaderPlace Reason
 log_place frame =
     if nat_le (0 + log_header) (length frame)
     then (if nat_lt (slice_index frame 0) log_header then Err reason.NotIp
@@ -85,7 +85,7 @@ log_place frame =
 -- what follows a link's header, and where: Ethernet has two addresses before its EtherType (IEEE 802.3, clause 3.2.6),
 -- LINKTYPE_LINUX_SLL has its protocol last, LINKTYPE_LINUX_SLL2 first, and LINKTYPE_PPP_ETHER begins with a session's header, as after
 -- the EtherType 0x8864
-abbrev pub first_place : Link → List ℕ → Result Place Reason
+abbrev pub first_place : Link → List ℕ → Result HeaderPlace Reason
 first_place link.Ethernet frame = place_behind_header frame 14 12
 first_place link.LinuxSll frame = place_behind_header frame 16 14
 first_place link.LinuxSll2 frame = place_behind_header frame 20 0

@@ -7,7 +7,7 @@ use Rattle.pfs_addr_values.specs.declared.packets.Dir.TheVariants.{In, Out}
 use Rattle.pfs_capture_packets.specs.declared.links.Link.{Link}
 use Rattle.pfs_capture_packets.specs.declared.links.Link.TheVariants as link
 use Rattle.pfs_capture_packets.specs.declared.logs.TheConstants.{LOG_HEADER}
-use Rattle.pfs_capture_packets.specs.declared.logs.Answer.{Answer}
+use Rattle.pfs_capture_packets.specs.declared.logs.LoggedAnswer.{LoggedAnswer}
 use Rattle.pfs_capture_packets.specs.declared.logs.Logged.{Logged}
 use Rattle.pfs_capture_packets.specs.Bytes.{octets_at, u32_at}
 
@@ -52,7 +52,7 @@ rewritten_in frame =
 
 -- what pf did is the byte 2, and why the byte 3; the number of the rule is the four bytes from 36 on, the name of its anchor the sixteen
 -- from 20 on, and the number of the rule in that anchor the four from 40 on
-abbrev pub logged_answer : List ℕ → Option Answer
+abbrev pub logged_answer : List ℕ → Option LoggedAnswer
 logged_answer frame =
     if nat_le (0 + log_header) (length frame)
     then Some (record {
@@ -66,9 +66,9 @@ logged_answer frame =
     else None
 
 -- what pf answered for a frame of a link: only a log has it
-abbrev pub answer_in : Link → List ℕ → Option Answer
+abbrev pub answer_in : Link → List ℕ → Option LoggedAnswer
 answer_in link frame = if is_log link then logged_answer frame else None
 
 -- the name of the anchor whose rule it is
-abbrev pub anchor_name : Answer → List ℕ
+abbrev pub anchor_name : LoggedAnswer → List ℕ
 anchor_name answer = take (text_length answer.anchor) answer.anchor

@@ -9,7 +9,7 @@ use Rattle.pfs_addr_values.specs.declared.flag_sets.Flags.{Flags}
 use Rattle.pfs_capture_packets.specs.declared.links.Link.{Link}
 use Rattle.pfs_capture_packets.specs.declared.walks.Layer.{Layer}
 use Rattle.pfs_capture_packets.specs.declared.walks.Layer.TheVariants as layer
-use Rattle.pfs_capture_packets.specs.declared.walks.Place.{Place}
+use Rattle.pfs_capture_packets.specs.declared.walks.HeaderPlace.{HeaderPlace}
 use Rattle.pfs_capture_packets.specs.declared.packets.Reason.{Reason}
 use Rattle.pfs_capture_packets.specs.declared.packets.Reason.TheVariants as reason
 use Rattle.pfs_capture_packets.specs.declared.packets.Carried.{Carried}
@@ -89,11 +89,11 @@ IsCarried (Udp from to) = (from ≤ 65535) × (to ≤ 65535)
 IsCarried (Other n) = (n < 256) × (n ≢ 6) × (n ≢ 17)
 
 -- what is carried by the protocol of a place from there on
-abbrev pub carried_at : List ℕ → Option ℕ → Place → Result Carried Reason
+abbrev pub carried_at : List ℕ → Option ℕ → HeaderPlace → Result Carried Reason
 carried_at packet own place = carried_by (proto_of (place.kind % 256)) packet own place.at
 
 -- what is carried after the headers that follow a packet's own, of a packet with this end, of which so much was captured
-abbrev pub found_at : Layer → List ℕ → Option ℕ → Place → Result Carried Reason
+abbrev pub found_at : Layer → List ℕ → Option ℕ → HeaderPlace → Result Carried Reason
 found_at which packet own first = then_read (walk_from (length packet) which packet first) (λ place. carried_at packet own place)
 
 -- The packet after an IPv4 header. Its length in words of four bytes is in the lower half of the first byte, at least 5, and no more
@@ -119,7 +119,7 @@ ipv6_in packet =
     else Err reason.NotIp)
 
 -- the packet of this EtherType that begins at a place
-abbrev pub framed_packet_at : List ℕ → Place → Result IpPacket Reason
+abbrev pub framed_packet_at : List ℕ → HeaderPlace → Result IpPacket Reason
 framed_packet_at frame place =
     if nat_le (place.at + 0) (length frame)
     then (if place.kind == 0x0800 then ipv4_in (drop place.at frame) else (if place.kind == 0x86dd then ipv6_in (drop place.at frame) else Err reason.NotIp))

@@ -7,10 +7,10 @@ ghost use Rattle.pfs_capture_packets.specs.Labels.{behind_label};
 use crate::bytes::{holds, read_u16};
 use crate::labels::behind_label;
 use crate::packets::Reason;
-use crate::walks::{Layer, Next, Place};
+use crate::walks::{HeaderPlace, Layer, Next};
 
 /// Where the walk of a layer goes from a header.
-pub fn behind(layer: Layer, bytes: &[u8], place: Place) -> Next
+pub fn behind(layer: Layer, bytes: &[u8], place: HeaderPlace) -> Next
     ensures { result ≡ header_behind layer bytes.now place }
 {
     match layer {
@@ -21,7 +21,7 @@ pub fn behind(layer: Layer, bytes: &[u8], place: Place) -> Next
 }
 
 /// After an authentication header, whose length counts words of four bytes less two.
-fn behind_authentication(bytes: &[u8], place: Place) -> Next
+fn behind_authentication(bytes: &[u8], place: HeaderPlace) -> Next
     ensures { result ≡ behind_authentication bytes.now place }
 {
     if place.kind != 51 {
@@ -32,7 +32,7 @@ fn behind_authentication(bytes: &[u8], place: Place) -> Next
     }
     let kind = u16::from(bytes[place.at]);
     let size = (usize::from(bytes[place.at + 1]) + 2) * 4;
-    Next::On(Place {
+    Next::On(HeaderPlace {
         kind,
         at: place.at + size,
     })
@@ -40,7 +40,7 @@ fn behind_authentication(bytes: &[u8], place: Place) -> Next
 
 /// After an extension header, whose length counts words of eight bytes less one. After a fragment's header the rest
 /// follows in the first fragment alone.
-fn behind_extension(bytes: &[u8], place: Place) -> Next
+fn behind_extension(bytes: &[u8], place: HeaderPlace) -> Next
     ensures { result ≡ behind_extension bytes.now place }
 {
     if !matches!(place.kind, 0 | 43 | 44 | 60) {
@@ -54,13 +54,13 @@ fn behind_extension(bytes: &[u8], place: Place) -> Next
         if read_u16(bytes, place.at + 2) / 8 != 0 {
             return Next::Stop(Reason::LaterFragment);
         }
-        return Next::On(Place {
+        return Next::On(HeaderPlace {
             kind,
             at: place.at + 8,
         });
     }
     let size = (usize::from(bytes[place.at + 1]) + 1) * 8;
-    Next::On(Place {
+    Next::On(HeaderPlace {
         kind,
         at: place.at + size,
     })

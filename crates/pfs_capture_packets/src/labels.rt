@@ -5,10 +5,10 @@ ghost use Rattle.pfs_capture_packets.specs.Labels.{behind_label, behind_tag, beh
 
 use crate::bytes::{holds, read_u16};
 use crate::packets::Reason;
-use crate::walks::{Next, Place};
+use crate::walks::{HeaderPlace, Next};
 
 /// After a tag or a label of any kind.
-pub fn behind_label(frame: &[u8], place: Place) -> Next
+pub fn behind_label(frame: &[u8], place: HeaderPlace) -> Next
     ensures { result ≡ behind_label frame.now place }
 {
     match place.kind {
@@ -20,33 +20,33 @@ pub fn behind_label(frame: &[u8], place: Place) -> Next
 }
 
 /// After a tag of a virtual network.
-fn behind_tag(frame: &[u8], place: Place) -> Next
+fn behind_tag(frame: &[u8], place: HeaderPlace) -> Next
     ensures { result ≡ behind_tag frame.now place }
 {
     if !holds(frame, place.at, 4) {
         return Next::Stop(Reason::Cut);
     }
-    Next::On(Place {
+    Next::On(HeaderPlace {
         kind: read_u16(frame, place.at + 2),
         at: place.at + 4,
     })
 }
 
 /// After the header of a PPPoE session, and PPP's protocol.
-fn behind_session(frame: &[u8], place: Place) -> Next
+fn behind_session(frame: &[u8], place: HeaderPlace) -> Next
     ensures { result ≡ behind_session frame.now place }
 {
     if !holds(frame, place.at, 8) {
         return Next::Stop(Reason::Cut);
     }
-    Next::On(Place {
+    Next::On(HeaderPlace {
         kind: kind_of_ppp(read_u16(frame, place.at + 6)),
         at: place.at + 8,
     })
 }
 
 /// After an entry of a stack of MPLS labels. What follows the last entry has its version in its first bits.
-fn behind_switched(frame: &[u8], place: Place) -> Next
+fn behind_switched(frame: &[u8], place: HeaderPlace) -> Next
     ensures { result ≡ behind_switched frame.now place }
 {
     if !holds(frame, place.at, 5) {
@@ -54,13 +54,13 @@ fn behind_switched(frame: &[u8], place: Place) -> Next
     }
     let at = place.at + 4;
     if frame[place.at + 2] % 2 == 0 {
-        return Next::On(Place {
+        return Next::On(HeaderPlace {
             kind: place.kind,
             at,
         });
     }
     let kind = kind_of_version(frame[at]);
-    Next::On(Place { kind, at })
+    Next::On(HeaderPlace { kind, at })
 }
 
 /// The EtherType of what PPP carries, 0 where that can be no packet.

@@ -12,6 +12,6 @@ mod walks;
 mod ways;
 
 pub use links::Link;
-pub use logs::{Answer, Logged, is_log, name_at, read_answer, read_log};
+pub use logs::{Logged, LoggedAnswer, is_log, name_at, read_answer, read_log};
 pub use packets::{Carried, IpPacket, Reason, read_packet};
 pub use ways::{Mac, parse_mac, read_cooked_dir, read_ethernet_dir};

@@ -7,7 +7,7 @@ use crate::bytes::{holds, read_u16};
 use crate::labels::{kind_of_ppp, kind_of_version};
 use crate::logs::LOG_HEADER;
 use crate::packets::Reason;
-use crate::walks::Place;
+use crate::walks::HeaderPlace;
 
 /// How the frames of a capture begin.
 #[derive(Clone, Copy)]
@@ -56,7 +56,7 @@ impl Link {
 }
 
 /// What follows a link's header, and where.
-pub fn first_place(link: Link, frame: &[u8]) -> Result<Place, Reason>
+pub fn first_place(link: Link, frame: &[u8]) -> Result<HeaderPlace, Reason>
     ensures { result ≡ first_place link frame.now }
 {
     match link {
@@ -68,7 +68,7 @@ pub fn first_place(link: Link, frame: &[u8]) -> Result<Place, Reason>
         Link::RawOrLoopback => raw_or_loopback_place(frame),
         Link::Encapsulated => encapsulated_place(frame),
         Link::Ppp => ppp_place(frame),
-        Link::PppOverEthernet => Ok(Place {
+        Link::PppOverEthernet => Ok(HeaderPlace {
             kind: 0x8864,
             at: 0,
         }),
@@ -77,26 +77,26 @@ pub fn first_place(link: Link, frame: &[u8]) -> Result<Place, Reason>
 }
 
 /// After a header of so many bytes, which has an EtherType at this place.
-fn framed(frame: &[u8], size: usize, at: usize) -> Result<Place, Reason>
+fn framed(frame: &[u8], size: usize, at: usize) -> Result<HeaderPlace, Reason>
     requires { at + 2 ≤ size }
     ensures { result ≡ place_behind_header frame.now size at }
 {
     if !holds(frame, 0, size) {
         return Err(Reason::Cut);
     }
-    Ok(Place {
+    Ok(HeaderPlace {
         kind: read_u16(frame, at),
         at: size,
     })
 }
 
-fn loopback_place(frame: &[u8]) -> Result<Place, Reason>
+fn loopback_place(frame: &[u8]) -> Result<HeaderPlace, Reason>
     ensures { result ≡ loopback_place frame.now }
 {
     if !holds(frame, 0, 4) {
         return Err(Reason::Cut);
     }
-    Ok(Place {
+    Ok(HeaderPlace {
         kind: kind_of_family(either_order(frame)),
         at: 4,
     })
@@ -117,7 +117,7 @@ fn either_order(frame: &[u8]) -> u8
 }
 
 /// A packet begins with its version; an address family of OpenBSD's loopback with a zero.
-fn raw_or_loopback_place(frame: &[u8]) -> Result<Place, Reason>
+fn raw_or_loopback_place(frame: &[u8]) -> Result<HeaderPlace, Reason>
     ensures { result ≡ raw_or_loopback_place frame.now }
 {
     let raw = raw_place(frame)?;
@@ -127,19 +127,19 @@ fn raw_or_loopback_place(frame: &[u8]) -> Result<Place, Reason>
     loopback_place(frame)
 }
 
-fn encapsulated_place(frame: &[u8]) -> Result<Place, Reason>
+fn encapsulated_place(frame: &[u8]) -> Result<HeaderPlace, Reason>
     ensures { result ≡ encapsulated_place frame.now }
 {
     if !holds(frame, 0, 12) {
         return Err(Reason::Cut);
     }
-    Ok(Place {
+    Ok(HeaderPlace {
         kind: kind_of_family(either_order(frame)),
         at: 12,
     })
 }
 
-fn ppp_place(frame: &[u8]) -> Result<Place, Reason>
+fn ppp_place(frame: &[u8]) -> Result<HeaderPlace, Reason>
     ensures { result ≡ ppp_place frame.now }
 {
     if holds(frame, 0, 2) && frame[0] == 0xff && frame[1] == 0x03 {
@@ -149,7 +149,7 @@ fn ppp_place(frame: &[u8]) -> Result<Place, Reason>
 }
 
 /// After the protocol of PPP at this place: two bytes, or one that is odd.
-fn ppp_behind(frame: &[u8], at: usize) -> Result<Place, Reason>
+fn ppp_behind(frame: &[u8], at: usize) -> Result<HeaderPlace, Reason>
     requires { at ≤ 2 }
     ensures { result ≡ ppp_behind frame.now at }
 {
@@ -157,30 +157,30 @@ fn ppp_behind(frame: &[u8], at: usize) -> Result<Place, Reason>
         return Err(Reason::Cut);
     }
     if frame[at] % 2 == 1 {
-        return Ok(Place {
+        return Ok(HeaderPlace {
             kind: kind_of_ppp(u16::from(frame[at])),
             at: at + 1,
         });
     }
-    Ok(Place {
+    Ok(HeaderPlace {
         kind: kind_of_ppp(read_u16(frame, at)),
         at: at + 2,
     })
 }
 
-fn raw_place(frame: &[u8]) -> Result<Place, Reason>
+fn raw_place(frame: &[u8]) -> Result<HeaderPlace, Reason>
     ensures { result ≡ raw_place frame.now }
 {
     if frame.is_empty() {
         return Err(Reason::Cut);
     }
-    Ok(Place {
+    Ok(HeaderPlace {
         kind: kind_of_version(frame[0]),
         at: 0,
     })
 }
 
-fn log_place(frame: &[u8]) -> Result<Place, Reason>
+fn log_place(frame: &[u8]) -> Result<HeaderPlace, Reason>
     ensures { result ≡ log_place frame.now }
 {
     if !holds(frame, 0, LOG_HEADER) {
@@ -189,7 +189,7 @@ fn log_place(frame: &[u8]) -> Result<Place, Reason>
     if usize::from(frame[0]) < LOG_HEADER {
         return Err(Reason::NotIp);
     }
-    Ok(Place {
+    Ok(HeaderPlace {
         kind: kind_of_family(frame[1]),
         at: (usize::from(frame[0]) + 3) / 4 * 4,
     })

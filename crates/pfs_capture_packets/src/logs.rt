@@ -22,7 +22,7 @@ pub struct Logged {
 
 /// What pf did with a packet that it logged, and by which rule. (pflog(4))
 #[derive(Clone, Copy)]
-pub struct Answer {
+pub struct LoggedAnswer {
     /// The number of the action: 0 passes the packet, 1 blocks it.
     pub action: u8,
     /// The number of the rule in the main ruleset, from 0; of a rule in an anchor, that of the anchor. 4294967295 where there is none.
@@ -37,7 +37,7 @@ pub struct Answer {
     pub rewritten: Option<bool>,
 }
 
-impl Answer {
+impl LoggedAnswer {
     /// The name of the anchor whose rule it is, which is empty for a rule of the main ruleset.
     pub fn anchor_name(&self) -> &[u8]
         ensures { result.now ≡ anchor_name self.now }
@@ -69,7 +69,7 @@ pub fn read_log(frame: &[u8]) -> Option<Logged>
 
 /// What pf answered for the packet of a frame of this link, or `None` where the link is no log of pflog(4) and where the frame ends
 /// within the header of one.
-pub fn read_answer(link: Link, frame: &[u8]) -> Option<Answer>
+pub fn read_answer(link: Link, frame: &[u8]) -> Option<LoggedAnswer>
     ensures { result ≡ answer_in link frame.now }
 {
     if !is_log(link) {
@@ -78,7 +78,7 @@ pub fn read_answer(link: Link, frame: &[u8]) -> Option<Answer>
     logged_answer(frame)
 }
 
-fn logged_answer(frame: &[u8]) -> Option<Answer>
+fn logged_answer(frame: &[u8]) -> Option<LoggedAnswer>
     ensures { result ≡ logged_answer frame.now }
 {
     if !holds(frame, 0, LOG_HEADER) {
@@ -86,7 +86,7 @@ fn logged_answer(frame: &[u8]) -> Option<Answer>
     }
     let mut anchor = [0; 16];
     anchor.copy_from_slice(&frame[20..36]);
-    Some(Answer {
+    Some(LoggedAnswer {
         action: frame[2],
         rule: read_u32(frame, 36),
         anchor,

@@ -8,7 +8,7 @@ ghost use Rattle.pfs_capture_packets.specs.Packets.{IsCarried, carried_at, ends_
 
 use crate::bytes::{holds, read_u16};
 use crate::links::{Link, first_place};
-use crate::walks::{Layer, Place, walk};
+use crate::walks::{HeaderPlace, Layer, walk};
 use pfs_addr_values::{Addr, Dir, Endpoint, Flags, IfName, OtherProto, Packet, Proto};
 
 /// Why a frame is no record of a trace. Each frame that is none has exactly one reason.
@@ -150,7 +150,7 @@ fn ipv4_in(packet: &[u8]) -> Result<IpPacket, Reason>
     if read_u16(packet, 6) % 8192 != 0 {
         return Err(Reason::LaterFragment);
     }
-    let first = Place {
+    let first = HeaderPlace {
         kind: u16::from(packet[9]),
         at: header,
     };
@@ -174,7 +174,7 @@ fn ipv6_in(packet: &[u8]) -> Result<IpPacket, Reason>
     if packet[0] / 16 != 6 {
         return Err(Reason::NotIp);
     }
-    let first = Place {
+    let first = HeaderPlace {
         kind: u16::from(packet[6]),
         at: 40,
     };
@@ -224,7 +224,7 @@ fn found_at(
     layer: Layer,
     packet: &[u8],
     own: Option<usize>,
-    first: Place,
+    first: HeaderPlace,
 ) -> Result<Carried, Reason>
     ensures is { result ≡ found_at layer packet.now own first }
     ensures carried { IfOk result IsCarried }
@@ -234,7 +234,7 @@ fn found_at(
 }
 
 /// What is carried by the protocol of this place from there on.
-fn carried_at(packet: &[u8], own: Option<usize>, place: Place) -> Result<Carried, Reason>
+fn carried_at(packet: &[u8], own: Option<usize>, place: HeaderPlace) -> Result<Carried, Reason>
     ensures is { result ≡ carried_at packet.now own place }
     ensures carried { IfOk result IsCarried }
 {

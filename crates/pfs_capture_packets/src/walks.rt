@@ -20,7 +20,7 @@ pub enum Layer {
 
 /// A header: what the one before it says that it is, and where it begins.
 #[derive(Clone, Copy)]
-pub struct Place {
+pub struct HeaderPlace {
     /// An EtherType, or the number of a protocol.
     pub kind: u16,
     /// Where it begins, in bytes from the front.
@@ -31,7 +31,7 @@ pub struct Place {
 #[derive(Clone, Copy)]
 pub enum Next {
     /// On to the next header.
-    On(Place),
+    On(HeaderPlace),
     /// Nowhere: this is what is looked for.
     Here,
     /// Nowhere: there is nothing to be found.
@@ -39,7 +39,7 @@ pub enum Next {
 }
 
 /// The header at which a walk ends.
-pub fn walk(layer: Layer, bytes: &[u8], first: Place) -> Result<Place, Reason>
+pub fn walk(layer: Layer, bytes: &[u8], first: HeaderPlace) -> Result<HeaderPlace, Reason>
     ensures { result ≡ walk_from (length bytes.now) layer bytes.now first }
 {
     let mut place = first;

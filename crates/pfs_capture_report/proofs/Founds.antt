@@ -27,13 +27,13 @@ use Rattle.pfs_capture_packets.specs.declared.packets.Reason.{Reason}
 use Rattle.pfs_capture_packets.specs.declared.packets.Reason.TheVariants as reason
 use Rattle.pfs_capture.specs.declared.sorting.Evidence.TheVariants as evidence
 use Rattle.pfs_capture_packets.specs.declared.walks.Layer.{Layer}
-use Rattle.pfs_capture_packets.specs.declared.walks.Place.{Place}
+use Rattle.pfs_capture_packets.specs.declared.walks.HeaderPlace.{HeaderPlace}
 use Rattle.pfs_capture.specs.Points.{Point, point_named, point_of}
 use Rattle.pfs_capture.specs.Sorting.{by_link, found_in_frame, found_on_link, heading_from, logged_way, networks_dir, way_at, way_of}
 use Rattle.pfs_capture.specs.Traces.{row_from}
-use Rattle.pfs_capture.specs.declared.sorting.Found.{Found}
+use Rattle.pfs_capture.specs.declared.sorting.DirectedPacket.{DirectedPacket}
 use Rattle.pfs_capture.specs.declared.sorting.Heading.{Heading}
-use Rattle.pfs_capture.specs.declared.sorting.Way.{Way}
+use Rattle.pfs_capture.specs.declared.sorting.PacketWay.{PacketWay}
 use Rattle.pfs_trace.specs.Rows.{CanSay}
 use Rattle.pfs_capture_files.proofs.Octets.{AreBytes, bytes-drop, bytes-take}
 use Rattle.pfs_capture_report.proofs.Octets.{octets-bytes, u16-small}
@@ -84,14 +84,14 @@ proto-carried packet own at k c h small e = by (k == 6) (k == 17) refl refl e
         when (nat_le (at + 0) (length packet)) _ _ c (λ v g.
         subst IsCarried (ok-same g) (small, (λ r. false≢true (sym p ∙ eq-eqb k 6 r)), (λ r. false≢true (sym q ∙ eq-eqb k 17 r)))) f
 
-found-carried : (which : Layer) (packet : List ℕ) (own : Option ℕ) (first : Place) (c : Carried) → AreBytes packet → found_at which packet own first ≡ Ok c → IsCarried c
+found-carried : (which : Layer) (packet : List ℕ) (own : Option ℕ) (first : HeaderPlace) (c : Carried) → AreBytes packet → found_at which packet own first ≡ Ok c → IsCarried c
 found-carried which packet own first c h e =
     read-of (walk_from (length packet) which packet first) (λ place. carried_at packet own place) c (λ place w f.
     proto-carried packet own place.at (place.kind % 256) c h (mod_below place.kind 256 (omega arith)) f) e
 
 -- ---- the packet
 
-pub record IsWhole (p : IpPacket) : Type 0 where
+pub record IsWholePacket (p : IpPacket) : Type 0 where
   pub family : same_family p.source p.destination ≡ true
   pub source : IsAddr p.source
   pub destination : IsAddr p.destination
@@ -100,7 +100,7 @@ pub record IsWhole (p : IpPacket) : Type 0 where
 octets-long : (xs : List ℕ) (at n : ℕ) → at + n ≤ length xs → length (octets_at xs at n) ≡ n
 octets-long xs at n h = let l = length-drop at xs in let k = length-take n (drop at xs) in omega (arith, l, k)
 
-ipv4-whole : (packet : List ℕ) (p : IpPacket) → AreBytes packet → ipv4_in packet ≡ Ok p → IsWhole p
+ipv4-whole : (packet : List ℕ) (p : IpPacket) → AreBytes packet → ipv4_in packet ≡ Ok p → IsWholePacket p
 ipv4-whole packet p h e =
     unless (nat_lt (length packet) 20) _ _ p (λ long f.
     unless (not (slice_index packet 0 / 16 == 4) || nat_lt (slice_index packet 0 % 16 * 4) 20) _ _ p (λ t g.
@@ -108,35 +108,35 @@ ipv4-whole packet p h e =
     when (u16_at packet 6 % 8192 == 0) _ _ p (λ v l.
     read-of _ (λ carried. Ok (record { source = v4_at packet 12; destination = v4_at packet 16; carried = carried })) p (λ carried is made.
     let enough : 20 ≤ length packet = grind (arith, nat_tests) in
-    subst IsWhole (ok-same made) (record {
+    subst IsWholePacket (ok-same made) (record {
       family = refl;
       source = (octets-long packet 12 4 (omega arith), octets-bytes packet 12 4 h);
       destination = (octets-long packet 16 4 (omega arith), octets-bytes packet 16 4 h);
       carried = found-carried _ _ _ _ carried (bytes-take _ packet h) is;
     })) l) k) g) f) e
 
-ipv6-whole : (packet : List ℕ) (p : IpPacket) → AreBytes packet → ipv6_in packet ≡ Ok p → IsWhole p
+ipv6-whole : (packet : List ℕ) (p : IpPacket) → AreBytes packet → ipv6_in packet ≡ Ok p → IsWholePacket p
 ipv6-whole packet p h e =
     unless (nat_lt (length packet) 40) _ _ p (λ long f.
     when (slice_index packet 0 / 16 == 6) _ _ p (λ t g.
     read-of _ (λ carried. Ok (record { source = v6_at packet 8; destination = v6_at packet 24; carried = carried })) p (λ carried is made.
     let enough : 40 ≤ length packet = grind (arith, nat_tests) in
-    subst IsWhole (ok-same made) (record {
+    subst IsWholePacket (ok-same made) (record {
       family = refl;
       source = (octets-long packet 8 16 (omega arith), octets-bytes packet 8 16 h);
       destination = (octets-long packet 24 16 (omega arith), octets-bytes packet 24 16 h);
       carried = found-carried _ _ _ _ carried (bytes-take _ packet h) is;
     })) g) f) e
 
-framed-whole : (frame : List ℕ) (place : Place) (p : IpPacket) → AreBytes frame → framed_packet_at frame place ≡ Ok p → IsWhole p
+framed-whole : (frame : List ℕ) (place : HeaderPlace) (p : IpPacket) → AreBytes frame → framed_packet_at frame place ≡ Ok p → IsWholePacket p
 framed-whole frame place p h e = when (nat_le (place.at + 0) (length frame)) _ _ p (λ t f. by (place.kind == 0x0800) (place.kind == 0x86dd) f) e
   where
-    by : (t u : Bool) → (if t then ipv4_in (drop place.at frame) else (if u then ipv6_in (drop place.at frame) else Err reason.NotIp)) ≡ Ok p → IsWhole p
+    by : (t u : Bool) → (if t then ipv4_in (drop place.at frame) else (if u then ipv6_in (drop place.at frame) else Err reason.NotIp)) ≡ Ok p → IsWholePacket p
     by true u f = ipv4-whole (drop place.at frame) p (bytes-drop place.at frame h) f
     by false true f = ipv6-whole (drop place.at frame) p (bytes-drop place.at frame h) f
     by false false f = cc
 
-packet-whole : (link : Link) (frame : List ℕ) (p : IpPacket) → AreBytes frame → packet_of link frame ≡ Ok p → IsWhole p
+packet-whole : (link : Link) (frame : List ℕ) (p : IpPacket) → AreBytes frame → packet_of link frame ≡ Ok p → IsWholePacket p
 packet-whole link frame p h e =
     read-of (first_place link frame) _ p (λ first a g.
     read-of _ (λ place. framed_packet_at frame place) p (λ place b k. framed-whole frame place p h k) g) e
@@ -195,22 +195,22 @@ point-of-named [] name p names e = named-of [] name p names e
 point-of-named (q ∷ []) name p names e = let same : q ≡ p = cc e in subst (λ (x : Point). is_name 15 x.ifname ≡ true) same names.0
 point-of-named (q ∷ r ∷ rs) name p names e = named-of (q ∷ r ∷ rs) name p names e
 
-way-named : (points : List Point) (name : Option (List ℕ)) (link : Link) (frame : List ℕ) (p : IpPacket) (w : Way) → AreNamed points → way_of points name link frame p ≡ Some w
+way-named : (points : List Point) (name : Option (List ℕ)) (link : Link) (frame : List ℕ) (p : IpPacket) (w : PacketWay) → AreNamed points → way_of points name link frame p ≡ Some w
     → is_name 15 w.ifname ≡ true
 way-named points name link frame p w names e = by (is_log link) e
   where
-    log : (o : Option Logged) → logged_of frame ≡ o → option_map (λ l. let way : Way = record { heading = record { dir = l.dir; by = evidence.Log; is_contradicted = false }; ifname = l.ifname } in way) o ≡ Some w
+    log : (o : Option Logged) → logged_of frame ≡ o → option_map (λ l. let way : PacketWay = record { heading = record { dir = l.dir; by = evidence.Log; is_contradicted = false }; ifname = l.ifname } in way) o ≡ Some w
         → is_name 15 w.ifname ≡ true
     log None t f = cc
     log (Some l) t f =
         let same : record { heading = record { dir = l.dir; by = evidence.Log; is_contradicted = false }; ifname = l.ifname } ≡ w = cc in
-        subst (λ (x : Way). is_name 15 x.ifname ≡ true) same (logged-named frame l t)
+        subst (λ (x : PacketWay). is_name 15 x.ifname ≡ true) same (logged-named frame l t)
 
-    point-way : (point : Point) (o : Option Heading) → is_name 15 point.ifname ≡ true → option_map (λ heading. let way : Way = record { heading = heading; ifname = point.ifname } in way) o ≡ Some w → is_name 15 w.ifname ≡ true
+    point-way : (point : Point) (o : Option Heading) → is_name 15 point.ifname ≡ true → option_map (λ heading. let way : PacketWay = record { heading = heading; ifname = point.ifname } in way) o ≡ Some w → is_name 15 w.ifname ≡ true
     point-way point None own f = cc
     point-way point (Some heading) own f =
         let same : record { heading = heading; ifname = point.ifname } ≡ w = cc in
-        subst (λ (x : Way). is_name 15 x.ifname ≡ true) same own
+        subst (λ (x : PacketWay). is_name 15 x.ifname ≡ true) same own
 
     at-point : (o : Option Point) → point_of points name ≡ o → option_and_then (λ point. way_at point link frame p) o ≡ Some w → is_name 15 w.ifname ≡ true
     at-point None t f = cc
@@ -222,19 +222,19 @@ way-named points name link frame p w names e = by (is_log link) e
 
 -- ---- so the row can be read
 
-on-link-readable : (points : List Point) (name : Option (List ℕ)) (link : Link) (frame : List ℕ) (second : ℕ) (f : Found) → AreNamed points → AreBytes frame → second ≤ 4294967295
+on-link-readable : (points : List Point) (name : Option (List ℕ)) (link : Link) (frame : List ℕ) (second : ℕ) (f : DirectedPacket) → AreNamed points → AreBytes frame → second ≤ 4294967295
     → found_on_link points name link frame ≡ Ok f → IsReadable (row_from second f)
 on-link-readable points name link frame second f names h late e =
     read-of (packet_of link frame) _ f (λ packet is g. way packet is (way_of points name link frame packet) refl g) e
   where
-    way : (packet : IpPacket) → packet_of link frame ≡ Ok packet → (o : Option Way) → way_of points name link frame packet ≡ o
-        → then_read (ok_or o reason.NeitherWay) (λ w. let found : Found = record { way = w; packet = packet; answer = answer_in link frame } in Ok found) ≡ Ok f
+    way : (packet : IpPacket) → packet_of link frame ≡ Ok packet → (o : Option PacketWay) → way_of points name link frame packet ≡ o
+        → then_read (ok_or o reason.NeitherWay) (λ w. let found : DirectedPacket = record { way = w; packet = packet; answer = answer_in link frame } in Ok found) ≡ Ok f
         → IsReadable (row_from second f)
     way packet is None t g = cc
     way packet is (Some w) t g =
         let whole = packet-whole link frame packet h is in
         let same : record { way = w; packet = packet; answer = answer_in link frame } ≡ f = cc in
-        subst (λ (x : Found). IsReadable (row_from second x)) same (record {
+        subst (λ (x : DirectedPacket). IsReadable (row_from second x)) same (record {
           family = whole.family;
           second = late;
           name = way-named points name link frame packet w names t;
@@ -243,7 +243,7 @@ on-link-readable points name link frame second f names h late e =
           destination = whole.destination;
         })
 
-pub found-readable : (points : List Point) (name : Option (List ℕ)) (link_type : ℕ) (frame : List ℕ) (second : ℕ) (f : Found) → AreNamed points → AreBytes frame → second ≤ 4294967295
+pub found-readable : (points : List Point) (name : Option (List ℕ)) (link_type : ℕ) (frame : List ℕ) (second : ℕ) (f : DirectedPacket) → AreNamed points → AreBytes frame → second ≤ 4294967295
     → found_in_frame points name link_type frame ≡ Ok f → IsReadable (row_from second f)
 found-readable points name link_type frame second f names h late e = by (link_of link_type) e
   where

@@ -16,7 +16,7 @@ use Rattle.pfs_capture_packets.specs.declared.packets.Reason.{Reason}
 use Rattle.pfs_trace.specs.Columns.{header_text}
 use Rattle.pfs_trace.specs.Rows.{packet_row}
 use Rattle.pfs_trace.specs.declared.rows.Row.{Row}
-use Rattle.pfs_capture.specs.Captures.{Seen, frames_from, most_items}
+use Rattle.pfs_capture.specs.Captures.{SeenFrame, frames_from, most_items}
 use Rattle.pfs_capture.specs.Instants.{instant_after, is_earlier, later, start_instant}
 use Rattle.pfs_capture.specs.Merging.{Coming, Comes, Stops, Ends, Given, at_coming, begun_run, behind_run, capture_run, merged, coming_of}
 use Rattle.pfs_capture.specs.Points.{Point}
@@ -25,7 +25,7 @@ use Rattle.pfs_capture.specs.Traces.{frame_text, row_from}
 use Rattle.pfs_capture.specs.declared.faults.TraceStop.{TraceStop}
 use Rattle.pfs_capture.specs.declared.faults.TraceStop.TheVariants as stop
 use Rattle.pfs_capture.specs.declared.instants.Instant.{Instant}
-use Rattle.pfs_capture.specs.declared.sorting.Found.{Found}
+use Rattle.pfs_capture.specs.declared.sorting.DirectedPacket.{DirectedPacket}
 use Rattle.pfs_capture_report.specs.Reported.{CaptureIsReported, IsCapture, TraceIsRead, frames_in, rows_at, rows_of}
 use Rattle.pfs_capture_report.proofs.Founds.{AreNamed, found-readable}
 use Rattle.pfs_capture_files.proofs.Octets.{AreBytes, begun-bytes}
@@ -34,7 +34,7 @@ use Rattle.pfs_capture_report.proofs.Reading.{AreRising, IsReadable, rows-again}
 
 -- ---- the text is that of the rows
 
-text-more : (second : ℕ) (o : Result Found Reason) (text : List ℕ) (rows : List Row) → text ≡ flat_map packet_row rows
+text-more : (second : ℕ) (o : Result DirectedPacket Reason) (text : List ℕ) (rows : List Row) → text ≡ flat_map packet_row rows
     → frame_text second o ++ text ≡ flat_map packet_row (rows_at second o ++ rows)
 text-more second (Ok found) text rows more = ap (λ (t : List ℕ). packet_row (row_from second found) ++ t) more
 text-more second (Err r) text rows more = more
@@ -138,8 +138,8 @@ record AreInOrder (before : Option ℕ) (rows : List Row) : Type 0 where
 abbrev IsBefore : Option ℕ → ℕ → Type 0
 IsBefore before last = (s : ℕ) → last ≤ s → falls before s ≡ false
 
-row-first : (before : Option ℕ) (second : ℕ) (o : Result Found Reason) (rows : List Row) → IsBefore before second
-    → ((f : Found) → o ≡ Ok f → IsReadable (row_from second f)) → ((b : Option ℕ) → IsBefore b second → AreInOrder b rows) → AreInOrder before (rows_at second o ++ rows)
+row-first : (before : Option ℕ) (second : ℕ) (o : Result DirectedPacket Reason) (rows : List Row) → IsBefore before second
+    → ((f : DirectedPacket) → o ≡ Ok f → IsReadable (row_from second f)) → ((b : Option ℕ) → IsBefore b second → AreInOrder b rows) → AreInOrder before (rows_at second o ++ rows)
 row-first before second (Err r) rows early read more = more before early
 row-first before second (Ok f) rows early read more =
     let rest = more (Some second) (λ s h. grind (arith, nat_tests)) in record {
@@ -150,14 +150,14 @@ row-first before second (Ok f) rows early read more =
 -- ---- frames in order
 
 -- a frame whose row can be read, if it has one
-record IsWhole (j : Judged) : Type 0 where
+record IsWholeFrame (j : Judged) : Type 0 where
   within : j.instant.second ≤ 4294967295
-  row : (f : Found) → j.outcome ≡ Ok f → IsReadable (row_from j.instant.second f)
+  row : (f : DirectedPacket) → j.outcome ≡ Ok f → IsReadable (row_from j.instant.second f)
 
 -- frames whose moments do not fall, from this one on
 abbrev AreSorted : Instant → List Judged → Type 0
 AreSorted last [] = ⊤
-AreSorted last (j ∷ js) = (is_earlier j.instant last ≡ false) × IsWhole j × AreSorted j.instant js
+AreSorted last (j ∷ js) = (is_earlier j.instant last ≡ false) × IsWholeFrame j × AreSorted j.instant js
 
 -- of each run
 abbrev AllSorted : Instant → List Run → Type 0
@@ -171,7 +171,7 @@ in-order (j ∷ js) before last early h =
 
 -- ---- the frames of a capture
 
-framed : (points : List Point) (last : Instant) (fs : List Seen) (end : Option TraceStop) → AreNamed points → AreFramesOfBytes fs → last.second ≤ 4294967295
+framed : (points : List Point) (last : Instant) (fs : List SeenFrame) (end : Option TraceStop) → AreNamed points → AreFramesOfBytes fs → last.second ≤ 4294967295
     → AreSorted last (judged_from points last fs end).0
 unfolding judged_from
 framed points last [] end names octets late = tt
@@ -209,7 +209,7 @@ all-earlier last first (r ∷ rs) e h = (sorted-earlier last first r.0 e h.0, al
 
 -- what comes next of runs is not before any frame of them
 abbrev IsNextSorted : Instant → List Run → Coming → Type 0
-IsNextSorted last runs (Comes j rest) = (is_earlier j.instant last ≡ false) × IsWhole j × AllSorted j.instant rest × AllSorted j.instant runs
+IsNextSorted last runs (Comes j rest) = (is_earlier j.instant last ≡ false) × IsWholeFrame j × AllSorted j.instant rest × AllSorted j.instant runs
 IsNextSorted last runs (Stops f) = ⊤
 IsNextSorted last runs Ends = (i : Instant) → AllSorted i runs
 

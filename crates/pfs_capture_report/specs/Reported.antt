@@ -16,10 +16,10 @@ use Rattle.pfs_capture.specs.Merging.{Given, captures_run}
 use Rattle.pfs_capture.specs.Points.{Point}
 use Rattle.pfs_capture.specs.Runs.{Judged}
 use Rattle.pfs_capture.specs.Traces.{row_from, trace_text}
-use Rattle.pfs_capture.specs.declared.sorting.Found.{Found}
+use Rattle.pfs_capture.specs.declared.sorting.DirectedPacket.{DirectedPacket}
 
 -- the row of a frame in its second, if it is a record
-abbrev pub rows_at : ℕ → Result Found Reason → List Row
+abbrev pub rows_at : ℕ → Result DirectedPacket Reason → List Row
 rows_at second (Ok found) = row_from second found ∷ []
 rows_at second (Err r) = []
 

@@ -16,21 +16,21 @@ use Rattle.pfs_trace.specs.declared.faults.TraceFault.TheVariants as fault
 use Rattle.pfs_trace.specs.Traces.{Fields, Trace, events_of}
 use Rattle.pfs_cli_formats.specs.Lines.{row_text}
 use Rattle.pfs_cli_formats.specs.Reports.{end_line_of, lines_of, report, BeginsReport}
-use Rattle.pfs_cli.specs.declared.records.Stop.{Stop}
-use Rattle.pfs_cli.specs.declared.records.Stop.TheVariants as stop
+use Rattle.pfs_cli.specs.declared.records.RecordsStop.{RecordsStop}
+use Rattle.pfs_cli.specs.declared.records.RecordsStop.TheVariants as stop
 use Rattle.pfs_cli.specs.declared.tallies.Tally.{Tally}
-use Rattle.pfs_cli.specs.Turns.{TakesRecord, TellsRows, WritesLine}
+use Rattle.pfs_cli.specs.RecordTurns.{TakesRecord, TellsRows, WritesLine}
 use Rattle.pfs_cli.specs.Tallies.{IsTallyOf, IsWorkOfRefused, LeavesOfRun, tally_of}
 use Rattle.pfs_cli.specs.Tallying.{TalliesRecord, tally_with}
 use Rattle.pfs_cli.proofs.Tallied.{TalliedSoFar, tallied-more, tallied-now, tally-more}
 use Rattle.pfs_cli.proofs.Telling.{Appends-more, EndsRows, SoFar, cut-line, ends-end, ends-limit, ends-record, fault-all, first-lines-begin, limit-all, lines-more, one-more, report-front, told-all}
 
 -- how a run may end, with its tally
-abbrev pub EndsTallied : Bool → Conf → Trace → Option (List ℕ) → Option (List ℕ) → Result Unit Stop → Tally → Type 0
+abbrev pub EndsTallied : Bool → Conf → Trace → Option (List ℕ) → Option (List ℕ) → Result Unit RecordsStop → Tally → Type 0
 EndsTallied counts conf trace before after result tally = (t : List ℕ) × Appends before after t × IsTallyOf counts conf trace t (LeavesOfRun result) tally
 
 -- each run may leave no event
-none-left : (r : Result Unit Stop) → LeavesOfRun r []
+none-left : (r : Result Unit RecordsStop) → LeavesOfRun r []
 none-left (Ok u) = refl
 none-left (Err (stop.Fault f)) = refl
 none-left (Err stop.Source) = tt
@@ -38,7 +38,7 @@ none-left (Err stop.Memory) = tt
 none-left (Err stop.Write) = tt
 
 -- what is written of the rows begins the report
-told-begins : (conf : Conf) (trace : Trace) (t : List ℕ) (r : Result Unit Stop) → TellsRows conf trace t r → BeginsReport conf trace t
+told-begins : (conf : Conf) (trace : Trace) (t : List ℕ) (r : Result Unit RecordsStop) → TellsRows conf trace t r → BeginsReport conf trace t
 told-begins conf trace t (Ok u) told = ([], sym (append-nil t ∙ told.1))
 told-begins conf trace t (Err (stop.Fault f)) told = ([], sym (append-nil t ∙ told.1))
 told-begins conf trace t (Err stop.Source) told = first-lines-begin conf trace t told
@@ -51,7 +51,7 @@ report-own conf es None = (_, refl)
 report-own conf es (Some f) = ([], sym (append-nil (lines_of conf es)))
 
 -- a run that has taken all events
-tallied-all : (counts : Bool) (conf : Conf) (trace : Trace) (before after : Option (List ℕ)) (r : Result Unit Stop) (seen : List Event) (o : Option TraceFault) (tally : Tally)
+tallied-all : (counts : Bool) (conf : Conf) (trace : Trace) (before after : Option (List ℕ)) (r : Result Unit RecordsStop) (seen : List Event) (o : Option TraceFault) (tally : Tally)
     → TalliedSoFar counts conf seen tally → trace ≡ (seen, o) → EndsRows conf trace before after r → EndsTallied counts conf trace before after r tally
 tallied-all counts conf trace before after r seen o tally s all (t, grown, told) =
     let same : trace.0 ≡ seen = ap (λ (q : Trace). q.0) all in (
@@ -71,7 +71,7 @@ tallied-all counts conf trace before after r seen o tally s all (t, grown, told)
 
 -- a run that stops before an event, of which it has written nothing
 tallied-first : {S : Type 0} (counts : Bool) (rem : S → Option (List ℕ)) (conf : Conf) (trace : Trace) (before now : Option (List ℕ)) (rows : ℕ) (m : Machine) (a : Reader S) (tally : Tally)
-    → SoFar counts rem conf trace before now rows m a tally → (r : Result Unit Stop) → ((others : List Event) → LeavesOfRun r others) → EndsTallied counts conf trace before now r tally
+    → SoFar counts rem conf trace before now rows m a tally → (r : Result Unit RecordsStop) → ((others : List Event) → LeavesOfRun r others) → EndsTallied counts conf trace before now r tally
 tallied-first counts rem conf trace before now rows m a tally (h, s) r left = (
   lines_of conf h.seen,
   h.appended,
@@ -91,7 +91,7 @@ pub tallied-source : {S : Type 0} (counts : Bool) (rem : S → Option (List ℕ)
     → SoFar counts rem conf trace before now rows m a tally → EndsTallied counts conf trace before now (Err stop.Source) tally
 tallied-source counts rem conf trace before now rows m a tally so = tallied-first counts rem conf trace before now rows m a tally so (Err stop.Source) (λ others. tt)
 
-pub tallied-end : {S : Type 0} (counts : Bool) (rem : S → Option (List ℕ)) (conf : Conf) (trace : Trace) (before now after : Option (List ℕ)) (rows : ℕ) (m : Machine) (a b : Reader S) (f : Fields) (result : Result Unit Stop) (t : List ℕ) (tally : Tally)
+pub tallied-end : {S : Type 0} (counts : Bool) (rem : S → Option (List ℕ)) (conf : Conf) (trace : Trace) (before now after : Option (List ℕ)) (rows : ℕ) (m : Machine) (a b : Reader S) (f : Fields) (result : Result Unit RecordsStop) (t : List ℕ) (tally : Tally)
     → SoFar counts rem conf trace before now rows m a tally → a.config ≡ default_config → ReadRecord rem a b false f
     → Appends now after t → WritesLine (end_line_of rows m) t result → EndsTallied counts conf trace before after result tally
 tallied-end counts rem conf trace before now after rows m a b f result t tally (h, s) config r grown how =
@@ -106,7 +106,7 @@ tallied-limit counts rem conf trace before now rows m a b f tally (h, s) config 
     (ends-limit rem conf trace before now rows m a b f h config r many)
 
 -- the turn of a record whose event was answered: a part of its line is written, at which memory or the sink failed
-answered : (counts : Bool) (conf : Conf) (trace more : Trace) (before after : Option (List ℕ)) (seen : List Event) (e : Event) (t : List ℕ) (tally : Tally) (r : Result Unit Stop)
+answered : (counts : Bool) (conf : Conf) (trace more : Trace) (before after : Option (List ℕ)) (seen : List Event) (e : Event) (t : List ℕ) (tally : Tally) (r : Result Unit RecordsStop)
     → TalliedSoFar counts conf (seen ++ e ∷ []) tally → trace ≡ (seen ++ (e ∷ more.0), more.1) → ((others : List Event) → LeavesOfRun r others)
     → Appends before after t → BeginsReport conf (seen ++ e ∷ [], trace.1) t → EndsTallied counts conf trace before after r tally
 answered counts conf trace more before after seen e t tally r s all left grown begins = (
@@ -143,7 +143,7 @@ refused counts conf trace more before after seen m e w was tally s holds is adde
   },
 )
 
-pub tallied-record : {S : Type 0} (counts : Bool) (rem : S → Option (List ℕ)) (conf : Conf) (trace : Trace) (before now after : Option (List ℕ)) (rows : ℕ) (m v : Machine) (a b : Reader S) (f : Fields) (stopped : Stop) (t : List ℕ) (was tally : Tally)
+pub tallied-record : {S : Type 0} (counts : Bool) (rem : S → Option (List ℕ)) (conf : Conf) (trace : Trace) (before now after : Option (List ℕ)) (rows : ℕ) (m v : Machine) (a b : Reader S) (f : Fields) (stopped : RecordsStop) (t : List ℕ) (was tally : Tally)
     → SoFar counts rem conf trace before now rows m a was → a.config ≡ default_config → ReadRecord rem a b true f → rows < row_limit
     → Appends now after t → TakesRecord conf (rows + 1) m f t (Err stopped) v → TalliesRecord counts conf (rows + 1) m f (Err stopped) was tally
     → EndsTallied counts conf trace before after (Err stopped) tally
@@ -171,7 +171,7 @@ tallied-record counts rem conf trace before now after rows m v a b f stop.Write 
     (drop k line ++ rest, begins ∙ rw (lines-more conf h.seen rows m e h.count h.holds) (cut-line (lines_of conf h.seen) t line rest k cut))
 
 -- a run that took nothing
-pub tallied-nothing : (counts : Bool) (conf : Conf) (trace : Trace) (tally : Tally) (r : Result Unit Stop) → tally ≡ tally_of [] → LeavesOfRun r trace.0 → IsTallyOf counts conf trace [] (LeavesOfRun r) tally
+pub tallied-nothing : (counts : Bool) (conf : Conf) (trace : Trace) (tally : Tally) (r : Result Unit RecordsStop) → tally ≡ tally_of [] → LeavesOfRun r trace.0 → IsTallyOf counts conf trace [] (LeavesOfRun r) tally
 tallied-nothing counts conf trace tally r none left = record {
   taken = [];
   others = trace.0;
@@ -184,7 +184,7 @@ tallied-nothing counts conf trace tally r none left = record {
 }
 
 -- the tally of a run under a configuration that is this one
-pub tallied-under : (counts : Bool) (conf d : Conf) (fs : List Fields) (before after : Option (List ℕ)) (r : Result Unit Stop) (tally : Tally) → d ≡ conf
+pub tallied-under : (counts : Bool) (conf d : Conf) (fs : List Fields) (before after : Option (List ℕ)) (r : Result Unit RecordsStop) (tally : Tally) → d ≡ conf
     → EndsTallied counts d (events_of d fs) before after r tally → EndsTallied counts conf (events_of conf fs) before after r tally
 tallied-under counts conf d fs before after r tally same ends =
     let P : Conf → Type 0 = λ x. EndsTallied counts x (events_of x fs) before after r tally in

@@ -17,20 +17,20 @@ use Rattle.pfs_conf_values.specs.Configs.{Conf}
 use Rattle.pfs_conf.specs.Kinds.{no_memory}
 use Rattle.pfs_conf.specs.Reads.{Reads}
 use Rattle.pfs_conf.specs.Faults.{IsFault, memory, long, breaks, stops}
-use Rattle.pfs_cli.specs.declared.records.Stop.TheVariants as stop
+use Rattle.pfs_cli.specs.declared.records.RecordsStop.TheVariants as stop
 use Rattle.pfs_cli.specs.Faults.{replay_fault}
 use Rattle.pfs_streams.specs.Feeds.{FeedView, IsSound}
-use Rattle.pfs_streams.specs.Kept.{KeepsEnough, rules_limit}
+use Rattle.pfs_streams.specs.RulesKept.{KeepsEnough, rules_limit}
 use Rattle.pfs_cli.specs.Rules.{AreRefused}
 use Rattle.pfs_cli_formats.specs.Reports.{AreFirstLines, BeginsReport}
-use Rattle.pfs_cli.specs.Turns.{Tells}
-use Rattle.pfs_cli.specs.Halting.{IsHalt}
+use Rattle.pfs_cli.specs.RecordTurns.{Tells}
+use Rattle.pfs_cli.specs.JoinedEnds.{IsHalt}
 use Rattle.pfs_cli.specs.declared.joined.Halt.TheVariants as halt
 use Rattle.pfs_cli.specs.Refusing.{RefusesRules, RefusesText, IsFeedFault}
 use Rattle.pfs_cli.specs.Replays.{Replays}
 use Rattle.pfs_cli.specs.Refusing.{AnswersRun}
 use Rattle.pfs_cli.specs.Tallies.{IsTallyOf, IsTallyOfReplay, LeavesOfReplay, LeavesOfRun, MayHaveNone, tally_of}
-use Rattle.pfs_cli.specs.declared.records.Stop.{Stop}
+use Rattle.pfs_cli.specs.declared.records.RecordsStop.{RecordsStop}
 use Rattle.pfs_cli.specs.declared.tallies.Tally.{Tally}
 use Rattle.pfs_engine_machine.specs.declared.events.Event.{Event}
 
@@ -171,7 +171,7 @@ feed-leaves f others kind = elim kind [
   | inr m ↦ elim m [ inl e ↦ rw e tt | inr e ↦ rw e tt ]
 ]
 
-run-leaves : (outcome : Result Unit Stop) (result : Result Unit ReplayFault) (others : List Event) → AnswersRun outcome result → LeavesOfRun outcome others → LeavesOfReplay result others
+run-leaves : (outcome : Result Unit RecordsStop) (result : Result Unit ReplayFault) (others : List Event) → AnswersRun outcome result → LeavesOfRun outcome others → LeavesOfReplay result others
 run-leaves (Ok u) (Ok v) others answers left = left
 run-leaves (Ok u) (Err f) others answers left = rw answers tt
 run-leaves (Err s) (Ok v) others answers left = absurd answers
@@ -181,7 +181,7 @@ run-leaves (Err stop.Memory) (Err g) others answers left = feed-leaves g others 
 run-leaves (Err stop.Write) (Err g) others answers left = rw answers tt
 
 -- the tally of a run is that of its replay
-pub run-tally : (conf : Conf) (rs ts t : List ℕ) (outcome : Result Unit Stop) (result : Result Unit ReplayFault) (tally : Tally) → Reads rs conf → AnswersRun outcome result
+pub run-tally : (conf : Conf) (rs ts t : List ℕ) (outcome : Result Unit RecordsStop) (result : Result Unit ReplayFault) (tally : Tally) → Reads rs conf → AnswersRun outcome result
     → IsTallyOf true conf (trace_of conf ts) t (LeavesOfRun outcome) tally → IsTallyOfReplay rs ts t result tally
 run-tally conf rs ts t outcome result tally reads answers is = inr (
   conf,

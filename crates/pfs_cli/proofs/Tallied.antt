@@ -11,9 +11,9 @@ use Rattle.pfs_engine_machine.specs.Ways.{machine_after_ways, way}
 use Rattle.pfs_engine.specs.declared.works.Work.{Work}
 use Rattle.pfs_cli.specs.Tallies.{AreWorks, IsTallyOfWorks, IsWorkOf, IsWorkWith, most_of, tally_of, total_of}
 use Rattle.pfs_cli.specs.Tallying.{IsWorkOfTurn, TalliesEvent, TalliesRecord, tally_with}
-use Rattle.pfs_cli.specs.Turns.{TakesEvent}
-use Rattle.pfs_cli.specs.declared.records.Stop.{Stop}
-use Rattle.pfs_cli.specs.declared.records.Stop.TheVariants as stop
+use Rattle.pfs_cli.specs.RecordTurns.{TakesEvent}
+use Rattle.pfs_cli.specs.declared.records.RecordsStop.{RecordsStop}
+use Rattle.pfs_cli.specs.declared.records.RecordsStop.TheVariants as stop
 use Rattle.pfs_cli.specs.declared.tallies.Tally.{Tally}
 use Rattle.pfs_trace.specs.Events.{event_at}
 use Rattle.pfs_trace.specs.Traces.{Fields}
@@ -79,13 +79,13 @@ tallied-now counts conf m [] works tally is = is
 tallied-now counts conf m (e ∷ others) works tally is = inl is
 
 -- the tally of a turn whose event was taken
-tallies-same : (counts : Bool) (conf : Conf) (row : ℕ) (m : Machine) (f : Fields) (e : Event) (r : Result Unit Stop) (before after : Tally) → event_at conf row m.last f ≡ Ok e
+tallies-same : (counts : Bool) (conf : Conf) (row : ℕ) (m : Machine) (f : Fields) (e : Event) (r : Result Unit RecordsStop) (before after : Tally) → event_at conf row m.last f ≡ Ok e
     → TalliesEvent counts conf m e r before after → (d : Event) → event_at conf row m.last f ≡ Ok d → TalliesEvent counts conf m d r before after
 tallies-same counts conf row m f e r before after judged tallies d again =
     let same : e ≡ d = cc in
     subst (λ (x : Event). TalliesEvent counts conf m x r before after) same tallies
 
-pub tallies-event : (counts : Bool) (conf : Conf) (row : ℕ) (m : Machine) (f : Fields) (e : Event) (t : List ℕ) (r : Result Unit Stop) (v : Machine) (before after : Tally) → event_at conf row m.last f ≡ Ok e
+pub tallies-event : (counts : Bool) (conf : Conf) (row : ℕ) (m : Machine) (f : Fields) (e : Event) (t : List ℕ) (r : Result Unit RecordsStop) (v : Machine) (before after : Tally) → event_at conf row m.last f ≡ Ok e
     → TakesEvent conf row m e t r v → TalliesEvent counts conf m e r before after → TalliesRecord counts conf row m f r before after
 tallies-event counts conf row m f e t (Ok u) v before after judged takes tallies = tallies-same counts conf row m f e (Ok u) before after judged tallies
 tallies-event counts conf row m f e t (Err (stop.Fault x)) v before after judged takes tallies = absurd takes.0
@@ -94,7 +94,7 @@ tallies-event counts conf row m f e t (Err stop.Memory) v before after judged ta
 tallies-event counts conf row m f e t (Err stop.Write) v before after judged takes tallies = tallies-same counts conf row m f e (Err stop.Write) before after judged tallies
 
 -- the work of an answered event, however its turn ends
-pub turn-answered : (counts : Bool) (conf : Conf) (m : Machine) (e : Event) (r : Result Unit Stop) (w : Work) → IsWorkOf counts conf m e w → IsWorkOfTurn counts conf m e r w
+pub turn-answered : (counts : Bool) (conf : Conf) (m : Machine) (e : Event) (r : Result Unit RecordsStop) (w : Work) → IsWorkOf counts conf m e w → IsWorkOfTurn counts conf m e r w
 turn-answered counts conf m e (Ok u) w is = is
 turn-answered counts conf m e (Err (stop.Fault x)) w is = is
 turn-answered counts conf m e (Err stop.Source) w is = is
@@ -107,7 +107,7 @@ work-answered counts conf m v e o w same is =
     subst (λ (x : Way). IsWorkWith counts conf m e (Ok x) w) (ap (λ (q : Way × Machine). q.0) same) is
 
 -- a turn under rules that are these
-pub TalliesRecord-rules : (counts : Bool) (conf d : Conf) (row : ℕ) (m : Machine) (f : Fields) (r : Result Unit Stop) (before after : Tally) → d ≡ conf
+pub TalliesRecord-rules : (counts : Bool) (conf d : Conf) (row : ℕ) (m : Machine) (f : Fields) (r : Result Unit RecordsStop) (before after : Tally) → d ≡ conf
     → TalliesRecord counts d row m f r before after → TalliesRecord counts conf row m f r before after
 TalliesRecord-rules counts conf d row m f r before after same tallies =
     let P : Conf → Type 0 = λ x. TalliesRecord counts x row m f r before after in

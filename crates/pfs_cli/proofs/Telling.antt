@@ -24,8 +24,8 @@ use Rattle.pfs_engine.specs.Views.{View}
 use Rattle.pfs_streams.specs.Sinks.{SinkView, NotFlushed, OwesNoFlush}
 use Rattle.pfs_trace.specs.declared.faults.TraceFault.{TraceFault}
 use Rattle.pfs_trace.specs.declared.faults.TraceFault.TheVariants as fault
-use Rattle.pfs_cli.specs.declared.records.Stop.{Stop}
-use Rattle.pfs_cli.specs.declared.records.Stop.TheVariants as stop
+use Rattle.pfs_cli.specs.declared.records.RecordsStop.{RecordsStop}
+use Rattle.pfs_cli.specs.declared.records.RecordsStop.TheVariants as stop
 use Rattle.pfs_trace.specs.Columns.{is_header}
 use Rattle.pfs_trace.specs.Events.{event_at}
 use Rattle.pfs_cli_formats.specs.Lines.{row_text}
@@ -37,7 +37,7 @@ use Rattle.pfs_cli.specs.Tallies.{LeavesOfRun, tally_of}
 use Rattle.pfs_cli.specs.Tallying.{TalliesEvent}
 use Rattle.pfs_cli.specs.declared.tallies.Tally.{Tally}
 use Rattle.pfs_cli.proofs.Tallied.{TalliedSoFar, tallied-more, tallied-none}
-use Rattle.pfs_cli.specs.Turns.{Tells, TellsRows, WantsMemory, WritesLine, TakesEvent, TakesRecord}
+use Rattle.pfs_cli.specs.RecordTurns.{Tells, TellsRows, WantsMemory, WritesLine, TakesEvent, TakesRecord}
 use Rattle.pfs_trace.proofs.Rest.{records_left-more, records_left-end}
 use Rattle.pfs_cli_formats.proofs.Runs.{machine_after_ways-more, lines_of-more, lines_of-none, outcomes-front, lines_from-front}
 use Rattle.pfs_trace.proofs.Stepping.{last-way}
@@ -172,15 +172,15 @@ so_far-more counts rem conf trace before now after rows m v a b f e t was tally 
     )
 
 -- how a run may end
-abbrev pub Ends : Conf → Trace → Option (List ℕ) → Option (List ℕ) → Result Unit Stop → Type 0
+abbrev pub Ends : Conf → Trace → Option (List ℕ) → Option (List ℕ) → Result Unit RecordsStop → Type 0
 Ends conf trace before after result = (t : List ℕ) × Appends before after t × Tells conf trace t result
 
 -- and its rows
-abbrev pub EndsRows : Conf → Trace → Option (List ℕ) → Option (List ℕ) → Result Unit Stop → Type 0
+abbrev pub EndsRows : Conf → Trace → Option (List ℕ) → Option (List ℕ) → Result Unit RecordsStop → Type 0
 EndsRows conf trace before after result = (t : List ℕ) × Appends before after t × TellsRows conf trace t result
 
 -- what is told of the rows is told of the trace
-pub rows-told : (conf : Conf) (trace : Trace) (t : List ℕ) (r : Result Unit Stop) → TellsRows conf trace t r → Tells conf trace t r
+pub rows-told : (conf : Conf) (trace : Trace) (t : List ℕ) (r : Result Unit RecordsStop) → TellsRows conf trace t r → Tells conf trace t r
 rows-told conf trace t (Ok u) told = told
 rows-told conf trace t (Err (stop.Fault f)) told = told
 rows-told conf trace t (Err stop.Source) told = told
@@ -220,7 +220,7 @@ cut-end text t line k e =
     let m : take k line ++ drop k line ≡ line = take-append-drop k line in
     ap (λ (l : List ℕ). text ++ l) (sym m) ∙ rw (← e) (simp append_assoc)
 
-pub ends-end : {S : Type 0} (rem : S → Option (List ℕ)) (conf : Conf) (trace : Trace) (before now after : Option (List ℕ)) (rows : ℕ) (m : Machine) (a b : Reader S) (f : Fields) (result : Result Unit Stop) (t : List ℕ)
+pub ends-end : {S : Type 0} (rem : S → Option (List ℕ)) (conf : Conf) (trace : Trace) (before now after : Option (List ℕ)) (rows : ℕ) (m : Machine) (a b : Reader S) (f : Fields) (result : Result Unit RecordsStop) (t : List ℕ)
     → ToldSoFar rem conf trace before now rows m a → a.config ≡ default_config → ReadRecord rem a b false f
     → Appends now after t → WritesLine (end_line_of rows m) t result → EndsRows conf trace before after result
 ends-end rem conf trace before now after rows m a b f (Ok u) t h config r grown how =
@@ -316,7 +316,7 @@ fault-all rem conf trace before now rows m a b f u h config r few judged =
     h.split ∙ rw (next, events_from-fault conf rows m.last f (records_left default_config b.state z) u few judged) (ap (λ (es : List Event). (es, Some u)) (append-nil h.seen))
 
 -- the turn of a record that does not come to its end
-pub ends-record : {S : Type 0} (rem : S → Option (List ℕ)) (conf : Conf) (trace : Trace) (before now after : Option (List ℕ)) (rows : ℕ) (m v : Machine) (a b : Reader S) (f : Fields) (stopped : Stop) (t : List ℕ)
+pub ends-record : {S : Type 0} (rem : S → Option (List ℕ)) (conf : Conf) (trace : Trace) (before now after : Option (List ℕ)) (rows : ℕ) (m v : Machine) (a b : Reader S) (f : Fields) (stopped : RecordsStop) (t : List ℕ)
     → ToldSoFar rem conf trace before now rows m a → a.config ≡ default_config → ReadRecord rem a b true f → rows < row_limit
     → Appends now after t → TakesRecord conf (rows + 1) m f t (Err stopped) v → EndsRows conf trace before after (Err stopped)
 ends-record rem conf trace before now after rows m v a b f (stop.Fault u) t h config r few grown how =
@@ -356,7 +356,7 @@ pub record Running {S W : Type 0} (counts : Bool) (rem : S → Option (List ℕ)
       → SoFar counts rem first.config (events_from first.config 0 None (records_left default_config begun.state xs)) before now rows v.machine rdr tally
 
 -- a turn under rules that are these
-pub TakesRecord-rules : (conf d : Conf) (row : ℕ) (m : Machine) (f : Fields) (t : List ℕ) (r : Result Unit Stop) (v : Machine) → d ≡ conf → TakesRecord d row m f t r v → TakesRecord conf row m f t r v
+pub TakesRecord-rules : (conf d : Conf) (row : ℕ) (m : Machine) (f : Fields) (t : List ℕ) (r : Result Unit RecordsStop) (v : Machine) → d ≡ conf → TakesRecord d row m f t r v → TakesRecord conf row m f t r v
 TakesRecord-rules conf d row m f t r v same takes =
     let P : Conf → Type 0 = λ x. TakesRecord x row m f t r v in
     subst P same takes
@@ -381,7 +381,7 @@ trace-rest rem a b f xs config source r header =
     (z, at_z, λ conf. rw next (events_of-header conf f (records_left default_config b.state z) header))
 
 -- of a trace whose header is not as it must be nothing is written or taken
-abbrev pub HasNoRows : Conf → Trace → Result Unit Stop → Type 0
+abbrev pub HasNoRows : Conf → Trace → Result Unit RecordsStop → Type 0
 HasNoRows conf trace result = Tells conf trace [] result × LeavesOfRun result trace.0
 
 no-header : (conf : Conf) (trace : Trace) → trace ≡ ([], Some (fault.Columns 0)) → HasNoRows conf trace (Err (stop.Fault (fault.Columns 0)))
@@ -398,7 +398,7 @@ pub told-empty : {S : Type 0} (rem : S → Option (List ℕ)) (conf : Conf) (a b
 told-empty rem conf a b f xs config source r = no-header conf _ (rw (read-end rem a b f xs config source r) (events_of-none conf))
 
 -- a run under a configuration that is this one
-pub ends-under : (conf d : Conf) (fs : List Fields) (before after : Option (List ℕ)) (r : Result Unit Stop) → d ≡ conf → Ends d (events_of d fs) before after r → Ends conf (events_of conf fs) before after r
+pub ends-under : (conf d : Conf) (fs : List Fields) (before after : Option (List ℕ)) (r : Result Unit RecordsStop) → d ≡ conf → Ends d (events_of d fs) before after r → Ends conf (events_of conf fs) before after r
 ends-under conf d fs before after r same ends =
     let P : Conf → Type 0 = λ x. Ends x (events_of x fs) before after r in
     subst P same ends
@@ -421,7 +421,7 @@ memory-lines conf trace t (inl (k, lines, more)) = (k, lines)
 memory-lines conf trace t (inr none) = subst (AreFirstLines conf trace) (sym none) (no-lines conf trace)
 
 -- a record whose event was taken
-pub takes-event : (conf : Conf) (row : ℕ) (m : Machine) (f : Fields) (e : Event) (t : List ℕ) (r : Result Unit Stop) (v : Machine) → event_at conf row m.last f ≡ Ok e
+pub takes-event : (conf : Conf) (row : ℕ) (m : Machine) (f : Fields) (e : Event) (t : List ℕ) (r : Result Unit RecordsStop) (v : Machine) → event_at conf row m.last f ≡ Ok e
     → TakesEvent conf row m e t r v → TakesRecord conf row m f t r v
 takes-event conf row m f e t (Ok u) v judged takes = (e, judged, takes)
 takes-event conf row m f e t (Err (stop.Fault x)) v judged takes = absurd takes.0

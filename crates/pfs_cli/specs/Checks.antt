@@ -3,7 +3,7 @@ use Rattle.std.specs.Prelude.{◌≡◌, ◌++◌, ◌<◌, ◌≤◌, ◌+◌, 
 use Rattle.std.specs.Fmt.{decimal}
 use Rattle.std.specs.Io.KnownBytes.{Appends}
 use Rattle.pfs_streams.specs.Feeds.{FeedView, IsSound, IsSpent, bound_of, read_failures, unread}
-use Rattle.pfs_streams.specs.Kept.{rules_limit}
+use Rattle.pfs_streams.specs.RulesKept.{rules_limit}
 use Rattle.pfs_streams.specs.Sinks.{SinkView, FlushedOnce, OwesNoFlush, bytes_held, write_failures}
 use Rattle.pfs_conf_values.specs.Configs.{Conf, entry_count_of}
 use Rattle.pfs_conf.specs.Reads.{Reads}

@@ -6,12 +6,12 @@ use Rattle.pfs_conf_values.specs.Configs.{Conf}
 use Rattle.pfs_trace.specs.Reading.{records_left}
 use Rattle.pfs_trace.specs.Traces.{Fields, events_from, events_of}
 use Rattle.pfs_cli.specs.Tallies.{LeavesOfRun}
-use Rattle.pfs_cli.specs.Turns.{Tells}
-use Rattle.pfs_cli.specs.declared.records.Stop.{Stop}
+use Rattle.pfs_cli.specs.RecordTurns.{Tells}
+use Rattle.pfs_cli.specs.declared.records.RecordsStop.{RecordsStop}
 
 -- of a trace with these records the reader is at those after the header, whose events are those of the trace; or the run ends so,
 -- nothing is written, and no event is left out that a run takes which ends so
-abbrev pub ReadsHeader : {S : Type 0} → (S → Option (List ℕ)) → List Fields → Reader S → Result Unit Stop → Type 0
+abbrev pub ReadsHeader : {S : Type 0} → (S → Option (List ℕ)) → List Fields → Reader S → Result Unit RecordsStop → Type 0
 ReadsHeader remaining records reader (Ok u) =
     (xs : List ℕ) × (source_of remaining reader ≡ Some xs)
     × ((conf : Conf) → events_of conf records ≡ events_from conf 0 None (records_left default_config (reader_state reader) xs))

@@ -1,11 +1,11 @@
 pub mod Checks
 pub mod Faults
-pub mod Halting
 pub mod Headers
+pub mod JoinedEnds
 pub mod Performing
+pub mod RecordTurns
 pub mod Refusing
 pub mod Replays
 pub mod Rules
 pub mod Tallies
 pub mod Tallying
-pub mod Turns

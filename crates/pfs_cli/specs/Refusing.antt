@@ -7,8 +7,8 @@ use Rattle.pfs_cli.specs.declared.faults.ReplayFault.{ReplayFault}
 use Rattle.pfs_cli.specs.declared.faults.ReplayFault.TheVariants as fault
 use Rattle.pfs_conf_values.specs.Configs.{Conf}
 use Rattle.pfs_conf.specs.Reads.{Reads}
-use Rattle.pfs_cli.specs.declared.records.Stop.{Stop}
-use Rattle.pfs_cli.specs.declared.records.Stop.TheVariants as stop
+use Rattle.pfs_cli.specs.declared.records.RecordsStop.{RecordsStop}
+use Rattle.pfs_cli.specs.declared.records.RecordsStop.TheVariants as stop
 use Rattle.pfs_cli.specs.Faults.{replay_fault}
 use Rattle.pfs_cli.specs.Rules.{AreRefused}
 
@@ -48,14 +48,14 @@ TellsRulesAlone rules (Ok u) = ⊥
 TellsRulesAlone rules (Err f) = RefusesText rules f
 
 -- how a run that stopped is reported: a faulty record by its fault; where memory was refused as that, or by what failed of its feed
-abbrev pub AnswersStop : Stop → ReplayFault → Type 0
+abbrev pub AnswersStop : RecordsStop → ReplayFault → Type 0
 AnswersStop (stop.Fault f) answer = answer ≡ replay_fault f
 AnswersStop stop.Source answer = IsFeedFault answer
 AnswersStop stop.Memory answer = IsFeedFault answer
 AnswersStop stop.Write answer = answer ≡ fault.Write
 
 -- the same of how a run ended
-abbrev pub AnswersRun : Result Unit Stop → Result Unit ReplayFault → Type 0
+abbrev pub AnswersRun : Result Unit RecordsStop → Result Unit ReplayFault → Type 0
 AnswersRun (Err stopped) (Err answer) = AnswersStop stopped answer
 AnswersRun (Err stopped) (Ok u) = ⊥
 AnswersRun (Ok u) (Err answer) = answer ≡ fault.Write

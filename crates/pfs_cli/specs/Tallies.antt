@@ -14,8 +14,8 @@ use Rattle.pfs_trace.specs.Traces.{Trace, trace_of}
 use Rattle.pfs_cli_formats.specs.Reports.{BeginsReport}
 use Rattle.pfs_cli.specs.declared.faults.ReplayFault.{ReplayFault}
 use Rattle.pfs_cli.specs.declared.faults.ReplayFault.TheVariants as fault
-use Rattle.pfs_cli.specs.declared.records.Stop.{Stop}
-use Rattle.pfs_cli.specs.declared.records.Stop.TheVariants as stop
+use Rattle.pfs_cli.specs.declared.records.RecordsStop.{RecordsStop}
+use Rattle.pfs_cli.specs.declared.records.RecordsStop.TheVariants as stop
 use Rattle.pfs_cli.specs.declared.tallies.Tally.{Tally}
 
 -- ---- tallies
@@ -77,7 +77,7 @@ pub record IsTallyOf (counts : Bool) (conf : Conf) (trace : Trace) (text : List 
   pub told : IsTallyOfWorks counts conf (machine_after_ways conf (start conf) taken) others works tally
 
 -- a run takes all events of its trace, unless it stops before a faulty record or the end
-abbrev pub LeavesOfRun : Result Unit Stop → List Event → Type 0
+abbrev pub LeavesOfRun : Result Unit RecordsStop → List Event → Type 0
 LeavesOfRun (Ok u) others = others ≡ []
 LeavesOfRun (Err (stop.Fault f)) others = others ≡ []
 LeavesOfRun (Err _) others = Unit {0}

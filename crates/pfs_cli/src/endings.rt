@@ -7,13 +7,13 @@ ghost use Rattle.pfs_streams.specs.Sinks.{FlushedOnce, bytes_held, write_failure
 ghost use Rattle.pfs_conf_values.specs.Configs.{Conf};
 ghost use Rattle.pfs_conf.specs.declared.faults.LoadFault.{LoadFault};
 ghost use Rattle.pfs_conf.specs.Reads.{Reads};
-ghost use Rattle.pfs_cli.specs.Turns.{PassedOn, Tells};
+ghost use Rattle.pfs_cli.specs.RecordTurns.{PassedOn, Tells};
 ghost use Rattle.pfs_cli.specs.Refusing.{AnswersRun, AnswersStop, IsFeedFault, RefusesRules, RefusesText};
 ghost use Rattle.pfs_trace.specs.Traces.{trace_of};
 ghost use Rattle.pfs_cli.specs.Replays.{Replays, ShowsLines};
 
 use crate::faults::{ReplayFault, of_trace};
-use crate::records::Stop;
+use crate::records::RecordsStop;
 use pfs_streams::{Feed, Sink};
 use std::io::Write;
 
@@ -48,7 +48,7 @@ pub(crate) fn rules_fault<R>(fault: ReplayFault, feed: &Feed<R>) -> ReplayFault
 }
 
 /// The fault of a run over this feed that stopped.
-pub(crate) fn fault_at<R>(stop: Stop, feed: &Feed<R>) -> ReplayFault
+pub(crate) fn fault_at<R>(stop: RecordsStop, feed: &Feed<R>) -> ReplayFault
     ensures told { (conf : Conf) (rs : List ℕ) (ts : List ℕ) (t : List ℕ) → Reads rs conf → Tells conf (trace_of conf ts) t (Err stop) → Replays rs ts t (Err result) }
     ensures no_rules { (f : LoadFault) → result ≢ ReplayFault.Rules f }
     ensures read { result ≡ ReplayFault.Read → 0 < read_failures feed.now }
@@ -57,20 +57,20 @@ pub(crate) fn fault_at<R>(stop: Stop, feed: &Feed<R>) -> ReplayFault
     ensures answers { AnswersStop stop result }
 {
     match stop {
-        Stop::Fault(fault) => of_trace(fault),
-        Stop::Source => feed_fault(feed),
-        Stop::Memory => feed_fault(feed),
-        Stop::Write => ReplayFault::Write,
+        RecordsStop::Fault(fault) => of_trace(fault),
+        RecordsStop::Source => feed_fault(feed),
+        RecordsStop::Memory => feed_fault(feed),
+        RecordsStop::Write => ReplayFault::Write,
     }
 }
 
 /// Flushes a report that is written whole, or returns why it is not.
 pub(crate) fn finish<R, W: Write>(
-    outcome: Result<(), Stop>,
+    outcome: Result<(), RecordsStop>,
     feed: &Feed<R>,
     out: &mut Sink<W>,
 ) -> Result<(), ReplayFault>
-    requires failed { outcome ≡ Err (Stop.Write) → 0 < write_failures out.old }
+    requires failed { outcome ≡ Err (RecordsStop.Write) → 0 < write_failures out.old }
     requires passed_on { PassedOn out.old outcome }
     ensures kept { Keeps (bytes_held W.contents out.old) (bytes_held W.contents out.new) }
     ensures told { (conf : Conf) (rs : List ℕ) (ts : List ℕ) (t : List ℕ) → Reads rs conf → Tells conf (trace_of conf ts) t outcome → Replays rs ts t result }

@@ -8,14 +8,14 @@ ghost use Rattle.pfs_conf.specs.declared.faults.LoadFault.{LoadFault};
 ghost use Rattle.pfs_cli.specs.Rules.{AreRefused};
 ghost use Rattle.pfs_cli.specs.Replays.{Replays, ShowsLines, WaitsForRead};
 ghost use Rattle.pfs_cli.specs.Refusing.{RefusesRules};
-ghost use Rattle.pfs_cli.specs.Turns.{PassedOn};
-ghost use Rattle.pfs_cli.specs.Halting.{IsHalt, RefusesWithin, TalliesWithin, TellsWithin};
+ghost use Rattle.pfs_cli.specs.RecordTurns.{PassedOn};
+ghost use Rattle.pfs_cli.specs.JoinedEnds.{IsHalt, RefusesWithin, TalliesWithin, TellsWithin};
 ghost use Rattle.pfs_cli.specs.Tallies.{IsTallyOfReplay, tally_of};
 ghost use Rattle.pfs_streams.specs.Joined.{split_joined};
 
 use crate::endings::{feed_fault, finish, rules_fault};
 use crate::faults::ReplayFault;
-use crate::records::Stop;
+use crate::records::RecordsStop;
 use crate::replays::FIRST_READ;
 use crate::reports::write_report;
 use crate::rules::load_config;
@@ -38,7 +38,7 @@ fn tell_joined<S: Read + Drop, W: Write>(
     source: S,
     tally: &mut Tally,
     out: &mut Sink<W>,
-) -> Result<Result<(), Stop>, Halt>
+) -> Result<Result<(), RecordsStop>, Halt>
     requires passed_on { OwesNoFlush out.old }
     requires none { tally.old ≡ tally_of [] }
     ensures tells { IfOk result (λ outcome. (xs : List ℕ) → S.remaining source ≡ Some xs →
@@ -49,7 +49,7 @@ fn tell_joined<S: Read + Drop, W: Write>(
     ensures refuses { IfErr result (λ h. (xs : List ℕ) → S.remaining source ≡ Some xs → RefusesWithin (split_joined xs) h) }
     ensures kinds { IfErr result IsHalt }
     ensures unwritten { OnErr result (out.new ≡ out.old) }
-    ensures fails { result ≡ Ok (Err Stop.Write) → 0 < write_failures out.new }
+    ensures fails { result ≡ Ok (Err RecordsStop.Write) → 0 < write_failures out.new }
     ensures passed_on { IfOk result (PassedOn out.new) }
     ensures flushes { NotFlushed out.old out.new }
 {

@@ -20,7 +20,7 @@ pub use performing::perform;
 pub use pfs_cli_jobs::{Job, Request, job, request};
 pub use pfs_conf::{Kind, LoadFault};
 pub use pfs_streams::{Feed, Sink, sink_of};
-pub use records::Stop;
+pub use records::RecordsStop;
 pub use replays::replay;
 pub use reports::write_report_over;
 pub use tallies::Tally;

@@ -5,7 +5,7 @@ ghost use Rattle.std.specs.Io.KnownBytes.{Appends};
 ghost use Rattle.pfs_streams.specs.Feeds.{bound_of, unread, has_ended, IsFresh, IsSound, IsSpent, reads_of, read_failures};
 ghost use Rattle.pfs_streams.specs.Sinks.{FlushedOnce, OwesNoFlush, bytes_held, write_failures};
 ghost use Rattle.pfs_conf.specs.declared.faults.LoadFault.{LoadFault};
-ghost use Rattle.pfs_streams.specs.Kept.{rules_limit};
+ghost use Rattle.pfs_streams.specs.RulesKept.{rules_limit};
 ghost use Rattle.pfs_cli.specs.Rules.{AreRefused};
 ghost use Rattle.pfs_cli.specs.Refusing.{HasNoRules, TellsRulesAlone};
 ghost use Rattle.pfs_cli.specs.Replays.{ShowsLines, WaitsForRead};

@@ -15,7 +15,7 @@ ghost use Rattle.pfs_cli_formats.specs.Reports.{end_line_of};
 ghost use Rattle.pfs_cli.specs.Headers.{ReadsHeader};
 ghost use Rattle.pfs_cli.specs.Tallies.{IsTallyOf, LeavesOfRun, tally_of};
 ghost use Rattle.pfs_cli.specs.Tallying.{TalliesEvent, TalliesRecord};
-ghost use Rattle.pfs_cli.specs.Turns.{PassedOn, Tells, TellsRows, WritesLine, TakesEvent, TakesRecord};
+ghost use Rattle.pfs_cli.specs.RecordTurns.{PassedOn, Tells, TellsRows, WritesLine, TakesEvent, TakesRecord};
 ghost use Rattle.pfs_trace.specs.Reading.{records_of, records_left};
 ghost use Rattle.pfs_trace.specs.Traces.{events_of, events_from};
 
@@ -32,7 +32,7 @@ use std::io::{Read, Write};
 
 /// Why the records stop before their end.
 #[derive(Clone, Copy, Debug, PartialEq, Eq)]
-pub enum Stop {
+pub enum RecordsStop {
     /// A record is faulty.
     Fault(TraceFault),
     /// The source gave no record: a read failed, or memory was refused.
@@ -44,15 +44,15 @@ pub enum Stop {
 }
 
 /// Writes a line.
-fn send<W: Write>(line: &[u8], out: &mut Sink<W>) -> Result<(), Stop>
+fn send<W: Write>(line: &[u8], out: &mut Sink<W>) -> Result<(), RecordsStop>
     ensures writes { (t : List ℕ) × Appends (bytes_held W.contents out.old) (bytes_held W.contents out.new) t × WritesLine line.now t result }
-    ensures fails { result ≡ Err (Stop.Write) → 0 < failures_of out.new }
+    ensures fails { result ≡ Err (RecordsStop.Write) → 0 < failures_of out.new }
     ensures passed_on { PassedOn out.new result }
     ensures flushes { NotFlushed out.old out.new }
 {
     match write_whole(out, line) {
         Ok(()) => Ok(()),
-        Err(_) => Err(Stop::Write),
+        Err(_) => Err(RecordsStop::Write),
     }
 }
 
@@ -62,17 +62,17 @@ fn write_row<W: Write>(
     way: &Way,
     line: &mut Vec<u8>,
     out: &mut Sink<W>,
-) -> Result<(), Stop>
+) -> Result<(), RecordsStop>
     requires passed_on { OwesNoFlush out.old }
     ensures writes { (t : List ℕ) × Appends (bytes_held W.contents out.old) (bytes_held W.contents out.new) t × WritesLine (row_text row way.now) t result }
-    ensures fails { result ≡ Err (Stop.Write) → 0 < failures_of out.new }
+    ensures fails { result ≡ Err (RecordsStop.Write) → 0 < failures_of out.new }
     ensures passed_on { PassedOn out.new result }
     ensures flushes { NotFlushed out.old out.new }
 {
     line.clear();
     match push_way(line, row, way) {
         Ok(()) => send(line.as_slice(), out),
-        Err(_) => Err(Stop::Memory),
+        Err(_) => Err(RecordsStop::Memory),
     }
 }
 
@@ -87,18 +87,22 @@ fn end_line<H: Store>(rows: u64, engine: &Engine<H>) -> EndLine
 }
 
 /// Writes the last line.
-fn write_end<W: Write>(end: EndLine, room: &mut Vec<u8>, out: &mut Sink<W>) -> Result<(), Stop>
+fn write_end<W: Write>(
+    end: EndLine,
+    room: &mut Vec<u8>,
+    out: &mut Sink<W>,
+) -> Result<(), RecordsStop>
     requires passed_on { OwesNoFlush out.old }
     ensures writes { (t : List ℕ) × Appends (bytes_held W.contents out.old) (bytes_held W.contents out.new) t
         × WritesLine (end_text end.rows end.held.states end.held.nodes end.held.entries) t result }
-    ensures fails { result ≡ Err (Stop.Write) → 0 < failures_of out.new }
+    ensures fails { result ≡ Err (RecordsStop.Write) → 0 < failures_of out.new }
     ensures passed_on { PassedOn out.new result }
     ensures flushes { NotFlushed out.old out.new }
 {
     room.clear();
     match push_end(room, &end) {
         Ok(()) => send(room.as_slice(), out),
-        Err(_) => Err(Stop::Memory),
+        Err(_) => Err(RecordsStop::Memory),
     }
 }
 
@@ -110,7 +114,7 @@ fn take_event<H: Store, W: Write>(
     tally: &mut Tally,
     line: &mut Vec<u8>,
     out: &mut Sink<W>,
-) -> Result<(), Stop>
+) -> Result<(), RecordsStop>
     requires passed_on { OwesNoFlush out.old }
     requires order { ForSome engine.old.machine.last (λ m. m ≤ event.now.time) }
     requires moment { event.now.time < 2 ^ 32 }
@@ -121,7 +125,7 @@ fn take_event<H: Store, W: Write>(
     ensures takes { (t : List ℕ) × Appends (bytes_held W.contents out.old) (bytes_held W.contents out.new) t
         × TakesEvent engine.old.config row engine.old.machine event.now t result engine.new.machine }
     ensures tallies { TalliesEvent H.counts engine.old.config engine.old.machine event.now result tally.old tally.new }
-    ensures fails { result ≡ Err (Stop.Write) → 0 < failures_of out.new }
+    ensures fails { result ≡ Err (RecordsStop.Write) → 0 < failures_of out.new }
     ensures passed_on { PassedOn out.new result }
     ensures flushes { NotFlushed out.old out.new }
 {
@@ -129,7 +133,7 @@ fn take_event<H: Store, W: Write>(
     tally.add(&engine.work());
     match answer {
         Ok(way) => write_row(row, &way, line, out),
-        Err(_) => Err(Stop::Memory),
+        Err(_) => Err(RecordsStop::Memory),
     }
 }
 
@@ -141,7 +145,7 @@ fn take_record<H: Store, W: Write>(
     tally: &mut Tally,
     line: &mut Vec<u8>,
     out: &mut Sink<W>,
-) -> Result<(), Stop>
+) -> Result<(), RecordsStop>
     requires passed_on { OwesNoFlush out.old }
     requires room { engine.old.taken + 1 < run_limit }
     ensures config { engine.new.config ≡ engine.old.config }
@@ -149,13 +153,13 @@ fn take_record<H: Store, W: Write>(
     ensures takes { (t : List ℕ) × Appends (bytes_held W.contents out.old) (bytes_held W.contents out.new) t
         × TakesRecord engine.old.config row engine.old.machine (fields_of fields.now) t result engine.new.machine }
     ensures tallies { TalliesRecord H.counts engine.old.config row engine.old.machine (fields_of fields.now) result tally.old tally.new }
-    ensures fails { result ≡ Err (Stop.Write) → 0 < failures_of out.new }
+    ensures fails { result ≡ Err (RecordsStop.Write) → 0 < failures_of out.new }
     ensures passed_on { PassedOn out.new result }
     ensures flushes { NotFlushed out.old out.new }
 {
     match &read_event(row, engine.last(), engine.config(), fields) {
         Ok(event) => take_event(row, event, engine, tally, line, out),
-        Err(fault) => Err(Stop::Fault(*fault)),
+        Err(fault) => Err(RecordsStop::Fault(*fault)),
     }
 }
 
@@ -165,7 +169,7 @@ fn next_record<S: Read, W>(
     reader: &mut Reader<S>,
     fields: &mut ByteRecord,
     _out: &Sink<W>,
-) -> Result<bool, Stop>
+) -> Result<bool, RecordsStop>
     requires passed_on { OwesNoFlush _out.now }
     requires plain { reader_trim reader.old ≡ trim.None }
     requires ready { Ready reader.old }
@@ -173,11 +177,11 @@ fn next_record<S: Read, W>(
     ensures reads { IfOk result (λ found. ReadRecord S.remaining reader.old reader.new found (fields_of fields.new)) }
     ensures ready { OnOk result (Ready reader.new) }
     ensures flexible { OnOk result (is_flexible reader.new ≡ true) }
-    ensures source { IfErr result (λ stop. (stop ≡ Stop.Source) × (has_failed reader.new ≡ true)) }
+    ensures source { IfErr result (λ stop. (stop ≡ RecordsStop.Source) × (has_failed reader.new ≡ true)) }
 {
     let found = match reader.read_byte_record(fields) {
         Ok(found) => found,
-        Err(_) => return Err(Stop::Source),
+        Err(_) => return Err(RecordsStop::Source),
     };
     Ok(found)
 }
@@ -187,7 +191,7 @@ fn read_header<S: Read, W>(
     reader: &mut Reader<S>,
     fields: &mut ByteRecord,
     out: &Sink<W>,
-) -> Result<(), Stop>
+) -> Result<(), RecordsStop>
     requires passed_on { OwesNoFlush out.now }
     requires plain { reader_trim reader.old ≡ trim.None }
     requires ready { Ready reader.old }
@@ -199,18 +203,18 @@ fn read_header<S: Read, W>(
     ensures flexible { OnOk result (is_flexible reader.new ≡ true) }
     ensures header { (xs : List ℕ) → source_of S.remaining reader.old ≡ Some xs →
         ReadsHeader S.remaining (records_left default_config (reader_state reader.old) xs) reader.new result }
-    ensures source { result ≡ Err (Stop.Source) → has_failed reader.new ≡ true }
-    ensures writes_none { result ≢ Err (Stop.Write) }
+    ensures source { result ≡ Err (RecordsStop.Source) → has_failed reader.new ≡ true }
+    ensures writes_none { result ≢ Err (RecordsStop.Write) }
 {
     match next_record(reader, fields, out) {
         Ok(true) => {}
-        Ok(false) => return Err(Stop::Fault(TraceFault::Columns(0))),
+        Ok(false) => return Err(RecordsStop::Fault(TraceFault::Columns(0))),
         Err(stop) => return Err(stop),
     }
     if has_columns(fields) {
         Ok(())
     } else {
-        Err(Stop::Fault(TraceFault::Columns(0)))
+        Err(RecordsStop::Fault(TraceFault::Columns(0)))
     }
 }
 
@@ -222,7 +226,7 @@ fn tell_rows<H: Store, S: Read, W: Write>(
     tally: &mut Tally,
     line: &mut Vec<u8>,
     out: &mut Sink<W>,
-) -> Result<(), Stop>
+) -> Result<(), RecordsStop>
     requires plain { reader_trim reader.old ≡ trim.None }
     requires ready { Ready reader.old }
     requires config { reader_config reader.old ≡ default_config }
@@ -237,10 +241,10 @@ fn tell_rows<H: Store, S: Read, W: Write>(
     ensures tallies { (xs : List ℕ) → source_of S.remaining reader.old ≡ Some xs →
         ((t : List ℕ) × Appends (bytes_held W.contents out.old) (bytes_held W.contents out.new) t
         × IsTallyOf H.counts engine.old.config (events_from engine.old.config 0 None (records_left default_config (reader_state reader.old) xs)) t (LeavesOfRun result) tally.new) }
-    ensures fails { result ≡ Err (Stop.Write) → 0 < failures_of out.new }
+    ensures fails { result ≡ Err (RecordsStop.Write) → 0 < failures_of out.new }
     ensures passed_on { PassedOn out.new result }
     ensures flushes { NotFlushed out.old out.new }
-    ensures source { result ≡ Err (Stop.Source) → has_failed reader.new ≡ true }
+    ensures source { result ≡ Err (RecordsStop.Source) → has_failed reader.new ≡ true }
 {
     for rows in 0..=ROW_LIMIT {
         match next_record(reader, fields, out) {
@@ -249,7 +253,7 @@ fn tell_rows<H: Store, S: Read, W: Write>(
             Err(stop) => return Err(stop),
         }
         if rows == ROW_LIMIT {
-            return Err(Stop::Fault(TraceFault::TooManyRows));
+            return Err(RecordsStop::Fault(TraceFault::TooManyRows));
         }
         match take_record(rows + 1, fields, engine, tally, line, out) {
             Ok(()) => {}
@@ -267,7 +271,7 @@ pub(crate) fn tell_records<H: Store, S: Read + Drop, W: Write>(
     engine: &mut Engine<H>,
     tally: &mut Tally,
     out: &mut Sink<W>,
-) -> Result<(), Stop>
+) -> Result<(), RecordsStop>
     requires passed_on { OwesNoFlush out.old }
     requires first { engine.old.machine ≡ start engine.old.config }
     requires taken { engine.old.taken ≡ 0 }
@@ -278,7 +282,7 @@ pub(crate) fn tell_records<H: Store, S: Read + Drop, W: Write>(
     ensures tallies { (xs : List ℕ) → S.remaining source ≡ Some xs →
         ((t : List ℕ) × Appends (bytes_held W.contents out.old) (bytes_held W.contents out.new) t
         × IsTallyOf H.counts engine.old.config (events_of engine.old.config (records_of xs)) t (LeavesOfRun result) tally.new) }
-    ensures fails { result ≡ Err (Stop.Write) → 0 < failures_of out.new }
+    ensures fails { result ≡ Err (RecordsStop.Write) → 0 < failures_of out.new }
     ensures passed_on { PassedOn out.new result }
     ensures flushes { NotFlushed out.old out.new }
 {
@@ -287,7 +291,7 @@ pub(crate) fn tell_records<H: Store, S: Read + Drop, W: Write>(
         .from_reader(alloc, source);
     // With a header row given, which is empty, the reader keeps no copy of the first record.
     if reader.set_byte_headers(ByteRecord::new(alloc)).is_err() {
-        return Err(Stop::Memory);
+        return Err(RecordsStop::Memory);
     }
     let mut fields = ByteRecord::new(alloc);
     let mut line = Vec::new(alloc);

@@ -7,9 +7,9 @@ ghost use Rattle.pfs_trace.specs.Reading.{records_of};
 ghost use Rattle.pfs_trace.specs.Traces.{events_of};
 ghost use Rattle.pfs_store_contract.specs.Worlds.{empty_world};
 ghost use Rattle.pfs_cli.specs.Tallies.{IsTallyOf, LeavesOfRun, tally_of};
-ghost use Rattle.pfs_cli.specs.Turns.{PassedOn, Tells};
+ghost use Rattle.pfs_cli.specs.RecordTurns.{PassedOn, Tells};
 
-use crate::records::{Stop, tell_records};
+use crate::records::{RecordsStop, tell_records};
 use crate::tallies::Tally;
 use pfs_conf_values::Config;
 use pfs_engine::Engine;
@@ -45,7 +45,7 @@ pub fn write_report_over<H: Store + Drop, S: Read + Drop, W: Write>(
     source: S,
     tally: &mut Tally,
     out: &mut Sink<W>,
-) -> Result<(), Stop>
+) -> Result<(), RecordsStop>
     requires empty { H.world store ≡ empty_world }
     requires made_for { H.config store ≡ config }
     requires passed_on { OwesNoFlush out.old }
@@ -55,14 +55,14 @@ pub fn write_report_over<H: Store + Drop, S: Read + Drop, W: Write>(
     ensures tallies { (xs : List ℕ) → S.remaining source ≡ Some xs →
         ((t : List ℕ) × Appends (bytes_held W.contents out.old) (bytes_held W.contents out.new) t
         × IsTallyOf H.counts config (events_of config (records_of xs)) t (LeavesOfRun result) tally.new) }
-    ensures fails { result ≡ Err (Stop.Write) → 0 < write_failures out.new }
+    ensures fails { result ≡ Err (RecordsStop.Write) → 0 < write_failures out.new }
     ensures passed_on { PassedOn out.new result }
     ensures flushes { NotFlushed out.old out.new }
 {
     *tally = Tally::none();
     match Engine::new(alloc, config, store) {
         Ok(mut engine) => tell_records(alloc, source, &mut engine, tally, out),
-        Err(_) => Err(Stop::Memory),
+        Err(_) => Err(RecordsStop::Memory),
     }
 }
 
@@ -73,7 +73,7 @@ pub(crate) fn write_report<S: Read + Drop, W: Write>(
     source: S,
     tally: &mut Tally,
     out: &mut Sink<W>,
-) -> Result<(), Stop>
+) -> Result<(), RecordsStop>
     requires passed_on { OwesNoFlush out.old }
     requires none { tally.old ≡ tally_of [] }
     ensures tells { (xs : List ℕ) → S.remaining source ≡ Some xs →
@@ -82,12 +82,12 @@ pub(crate) fn write_report<S: Read + Drop, W: Write>(
     ensures tallies { (xs : List ℕ) → S.remaining source ≡ Some xs →
         ((t : List ℕ) × Appends (bytes_held W.contents out.old) (bytes_held W.contents out.new) t
         × IsTallyOf true config (events_of config (records_of xs)) t (LeavesOfRun result) tally.new) }
-    ensures fails { result ≡ Err (Stop.Write) → 0 < write_failures out.new }
+    ensures fails { result ≡ Err (RecordsStop.Write) → 0 < write_failures out.new }
     ensures passed_on { PassedOn out.new result }
     ensures flushes { NotFlushed out.old out.new }
 {
     match TraceStore::new(alloc, &config) {
         Ok(store) => write_report_over(alloc, config, store, source, tally, out),
-        Err(_) => Err(Stop::Memory),
+        Err(_) => Err(RecordsStop::Memory),
     }
 }

@@ -2,7 +2,7 @@
 
 ghost use Rattle.std.specs.Prelude.{◌≡◌, ◌≢◌, Some, Err, ◌<◌, ◌≤◌, ◌+◌, ℕ, List, true, IfOk, IfErr, length, drop};
 ghost use Rattle.pfs_streams.specs.Feeds.{IsSound, IsSpent, bound_of, unread, has_ended, read_failures};
-ghost use Rattle.pfs_streams.specs.Kept.{KeepsEnough, rules_limit};
+ghost use Rattle.pfs_streams.specs.RulesKept.{KeepsEnough, rules_limit};
 ghost use Rattle.pfs_conf.specs.Reads.{Reads};
 ghost use Rattle.pfs_cli.specs.Refusing.{IsFeedFault, RefusesRules, RefusesText, fault_of};
 

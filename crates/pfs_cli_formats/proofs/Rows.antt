@@ -29,7 +29,7 @@ said (outcome.Expire removed) rest = refl
 said (outcome.Add became) rest = simp append_assoc
 said (outcome.Delete removed) rest = refl
 said (outcome.Killed killed) rest = refl
-said (outcome.Held h) rest = simp append_assoc
+said (outcome.HeldAnswer h) rest = simp append_assoc
 
 mark-parts : (rule : Option RuleNo) → mark_text rule ≡ rule_sign rule ++ number_text rule
 mark-parts (Some r) = refl

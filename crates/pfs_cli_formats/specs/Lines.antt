@@ -39,7 +39,7 @@ overload_word a = value_of_addition (codes "added") (codes "held") (codes "full"
 -- what became of an entry that was to be added
 abbrev pub entered_word : Entered → List ℕ
 entered_word entered.New = codes "added"
-entered_word entered.Held = codes "held"
+entered_word entered.AlreadyThere = codes "held"
 entered_word entered.Conflict = codes "conflict"
 entered_word entered.Full = codes "full"
 
@@ -69,7 +69,7 @@ outcome_text (outcome.Expire removed) = codes "expire - removed=" ++ decimal rem
 outcome_text (outcome.Add became) = codes "add - " ++ entered_word became
 outcome_text (outcome.Delete removed) = codes "delete - removed=" ++ decimal removed
 outcome_text (outcome.Killed killed) = codes "kill - killed=" ++ decimal killed
-outcome_text (outcome.Held h) = codes "held - " ++ amounts_text h.states h.nodes h.entries
+outcome_text (outcome.HeldAnswer h) = codes "held - " ++ amounts_text h.states h.nodes h.entries
 
 -- what came of a packet where it leaves, behind what came of it first
 abbrev pub second_text : Option Outcome → List ℕ

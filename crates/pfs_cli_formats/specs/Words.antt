@@ -26,7 +26,7 @@ word_of (outcome.Expire removed) = codes "expire"
 word_of (outcome.Add became) = codes "add"
 word_of (outcome.Delete removed) = codes "delete"
 word_of (outcome.Killed killed) = codes "kill"
-word_of (outcome.Held h) = codes "held"
+word_of (outcome.HeldAnswer h) = codes "held"
 
 -- the rule by which it came: none for a record that is no packet, and for a packet that no rule matched or was asked for
 abbrev pub rule_by : Outcome → Option RuleNo
@@ -48,7 +48,7 @@ rule_by (outcome.Expire removed) = None
 rule_by (outcome.Add became) = None
 rule_by (outcome.Delete removed) = None
 rule_by (outcome.Killed killed) = None
-rule_by (outcome.Held h) = None
+rule_by (outcome.HeldAnswer h) = None
 
 -- a line of killed states continues with the overload and how many were killed, one of a command with what
 -- came of it, and one of a question with how much is held
@@ -58,7 +58,7 @@ note_text (outcome.Expire removed) = codes " removed=" ++ decimal removed
 note_text (outcome.Add became) = codes " " ++ entered_word became
 note_text (outcome.Delete removed) = codes " removed=" ++ decimal removed
 note_text (outcome.Killed killed) = codes " killed=" ++ decimal killed
-note_text (outcome.Held h) = codes " " ++ amounts_text h.states h.nodes h.entries
+note_text (outcome.HeldAnswer h) = codes " " ++ amounts_text h.states h.nodes h.entries
 note_text _ = []
 
 -- `@` comes before a rule's number; `-` is written where there is no rule

@@ -111,7 +111,7 @@ fn push_note(out: &mut Vec<u8>, outcome: &Outcome) -> Result<(), AllocError>
         ),
         Outcome::Add(became) => out.extend_from_slice(entered_name(became).as_bytes()),
         Outcome::Killed(killed) => push_named(out, b" killed=", killed),
-        Outcome::Held(held) => push_amounts(out, &held),
+        Outcome::HeldAnswer(held) => push_amounts(out, &held),
         _ => Ok(()),
     }
 }
@@ -121,7 +121,7 @@ fn overload_name(overload: Option<Added>) -> &'static str
 {
     match overload {
         Some(Added::New) => "added",
-        Some(Added::Held) => "held",
+        Some(Added::AlreadyThere) => "held",
         Some(Added::Full) => "full",
         None => "none",
     }
@@ -132,7 +132,7 @@ fn entered_name(became: Entered) -> &'static str
 {
     match became {
         Entered::New => " added",
-        Entered::Held => " held",
+        Entered::AlreadyThere => " held",
         Entered::Conflict => " conflict",
         Entered::Full => " full",
     }
@@ -159,7 +159,7 @@ fn rule(outcome: &Outcome) -> Option<RuleNo>
         | Outcome::Add(_)
         | Outcome::Delete(_)
         | Outcome::Killed(_)
-        | Outcome::Held(_) => None,
+        | Outcome::HeldAnswer(_) => None,
     }
 }
 
@@ -201,6 +201,6 @@ fn lead(outcome: &Outcome) -> &'static str
         Outcome::Add(_) => " add -",
         Outcome::Delete(_) => " delete -",
         Outcome::Killed(_) => " kill -",
-        Outcome::Held(_) => " held -",
+        Outcome::HeldAnswer(_) => " held -",
     }
 }

@@ -30,11 +30,11 @@ abbrev pub pfsrc_app : App
 pfsrc_app = with_subcommand (with_subcommand (with_subcommand program_app check_app.top) show_app.top) replay_app.top
 
 -- a subcommand with its entries
-abbrev pub Found : Type 0
-Found = Option (Text × List Row)
+abbrev pub SubcommandGiven : Type 0
+SubcommandGiven = Option (Text × List Row)
 
 -- the job that a subcommand names; standard input gives rules or a trace, not both
-abbrev pub JobIs : Found → Job → Type 0
+abbrev pub JobIs : SubcommandGiven → Job → Type 0
 JobIs found job.Joined = found ≡ None
 JobIs found (job.Check rules) = (rows : List Row) × (found ≡ Some (codes "check", rows)) × (first_of (codes "RULES") rows ≡ Some rules.now)
 JobIs found (job.Show rules) = (rows : List Row) × (found ≡ Some (codes "show", rows)) × (first_of (codes "RULES") rows ≡ Some rules.now)
@@ -42,14 +42,14 @@ JobIs found (job.Replay rules trace) = (rows : List Row) × (found ≡ Some (cod
     × (is_standard rules.now && is_standard trace.now ≡ false)
 
 -- a job by lines, by the entries before a subcommand and by those after it: a replay alone can be one
-abbrev pub ByLines : List Row → Found → Job → Bool → Type 0
+abbrev pub ByLines : List Row → SubcommandGiven → Job → Bool → Type 0
 ByLines rows found job.Joined given = ByLinesIn rows given
 ByLines rows found (job.Check name) given = given ≡ false
 ByLines rows found (job.Show name) given = given ≡ false
 ByLines rows found (job.Replay name other) given = (name : Text) (inner : List Row) → found ≡ Some (name, inner) → ByLinesIn inner given
 
 -- what a command line asks for
-abbrev pub RequestIs : List Row → Found → Request → Type 0
+abbrev pub RequestIs : List Row → SubcommandGiven → Request → Type 0
 RequestIs rows found r = JobIs found r.job × ByLines rows found r.job r.by_lines
 
 -- the names of the files that a job reads, where it names them and they do not stand for standard input

@@ -37,7 +37,7 @@ use Rattle.pfs_conf_options.proofs.ReadLaws.{resolved_are}
 use Rattle.pfs_conf.specs.declared.phrases.RuleText.{RuleText}
 use Rattle.pfs_conf.specs.declared.phrases.AnchorText.{AnchorText}
 use Rattle.pfs_conf.specs.Statements.{name_host, number_host, number_side, name_overload, number_overload, filter_said, name_hosts, state_options, action_of, default_flags, name_rule, rule_action, rule_said, anchor_said, keeps_on_block, is_full, rule_breaks, anchor_breaks, cookies_break, translates_family, translates_no_way, with_family}
-use Rattle.pfs_conf.specs.Within.{IsTableName, AreParameters, IsRuleText, IsAnchorText, MayBeQuick}
+use Rattle.pfs_conf.specs.PhraseBounds.{IsTableName, AreParameters, IsRuleText, IsAnchorText, MayBeQuick}
 use Rattle.pfs_conf_filters.specs.Grammar.{may_translate, statement_of}
 
 -- ---- tables
@@ -112,7 +112,7 @@ first_kept true r more e = absurd cc
 first_kept false r more e = (refl, e)
 
 -- of a rule that breaks none
-record IsKept (d : Drafted) (r : RuleText) : Type 0 where
+record BreaksNone (d : Drafted) (r : RuleText) : Type 0 where
   proto : lacks_proto r.parameters ≡ false
   alone : has_overload_alone (state_options r.clauses.state) ≡ false
   connections : has_global_connections (state_options r.clauses.state) ≡ false
@@ -122,7 +122,7 @@ record IsKept (d : Drafted) (r : RuleText) : Type 0 where
   family : translates_family r ≡ false
   room : is_full d ≡ false
 
-kept : (d : Drafted) (r : RuleText) → rule_breaks d r ≡ None → IsKept d r
+kept : (d : Drafted) (r : RuleText) → rule_breaks d r ≡ None → BreaksNone d r
 kept d r e =
     let a = first_kept (lacks_proto r.parameters) load_rule.PortWithoutProto _ e in
     let b = first_kept (keeps_on_block r.verb r.clauses.state) load_rule.StateOnBlock _ a.1 in
@@ -209,7 +209,7 @@ host_family host.Any d = refl
 host_family (host.Prefix p b) d = refl
 host_family (host.Table n b) d = refl
 
-translating_kept : (d : Drafted) (r : RuleText) → IsRuleText r → IsKept d r → IsTranslating (rule_said r d)
+translating_kept : (d : Drafted) (r : RuleText) → IsRuleText r → BreaksNone d r → IsTranslating (rule_said r d)
 translating_kept d r k h =
     let hosts = r.parameters.hosts in
     let t = r.clauses.translation in

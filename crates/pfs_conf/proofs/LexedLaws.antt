@@ -8,7 +8,7 @@ use Rattle.pfs_conf_tokens.specs.Lexis.{is_word_byte, is_space, mark_key, run_of
 use Rattle.pfs_conf_tokens.specs.Grammar.{Passes, stays, over}
 use Rattle.pfs_conf_tokens.specs.Reading.{Reader}
 use Rattle.pfs_conf_tokens.proofs.Laws.{Reach, Online}
-use Rattle.pfs_conf.specs.Within.{IsLexed, AreLexed, none, more}
+use Rattle.pfs_conf.specs.PhraseBounds.{IsLexed, AreLexed, none, more}
 
 mark_lexed : (line b : ℕ) → IsLexed (token line (mark_key b) (b ∷ []))
 mark_lexed line b = by_key (mark_key b) (marks b)

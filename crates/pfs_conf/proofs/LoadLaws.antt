@@ -4,7 +4,7 @@ use Rattle.std.specs.Prelude.{IfOk, IfErr, MatchResult}
 use Rattle.pfs_conf_tokens.specs.Tokens.{Tok, head}
 use Rattle.pfs_conf_tokens.specs.Reading.{ends_text, Refused, stop, broken, up_to_all}
 use Rattle.pfs_conf_tokens.specs.Lexis.{text_limit, tokens_of}
-use Rattle.pfs_conf_tokens.specs.Giving.{refusal_at, GivesOrMemory}
+use Rattle.pfs_conf_tokens.specs.TokenResults.{refusal_at, GivesOrMemory}
 use Rattle.pfs_conf_tokens.specs.declared.refusals.LoadRule.{LoadRule}
 use Rattle.pfs_conf_tokens.specs.declared.refusals.Why.{Why}
 use Rattle.pfs_conf_tokens.specs.declared.refusals.Refusal.TheVariants as refusal
@@ -22,13 +22,13 @@ use Rattle.pfs_conf.specs.Places.{IsBegun}
 use Rattle.pfs_conf.specs.Stopping.{fault_told, kind_of}
 use Rattle.pfs_conf.specs.Grammar.{TextOf}
 use Rattle.pfs_conf.specs.Faults.{Statements, none, before, Breaks, at_rule, at_anchor, at_cookies, at_end, StopsAt, IsFault}
-use Rattle.pfs_conf.specs.Giving.{Comes}
+use Rattle.pfs_conf.specs.ReaderResults.{Comes}
 use Rattle.pfs_conf.specs.Statements.{nothing}
 use Rattle.pfs_conf.specs.Reading.{statement_at, statements_at, text_at}
 use Rattle.pfs_conf.specs.Reads.{Reads}
 use Rattle.pfs_conf.specs.Answers.{IsReported}
 use Rattle.pfs_conf.specs.Faults as faults
-use Rattle.pfs_conf.specs.Loads.{IsFaultRead, long, memory, breaks, stops, IsLoad}
+use Rattle.pfs_conf.specs.LoadResults.{IsFaultRead, long, memory, breaks, stops, IsLoad}
 use Rattle.pfs_conf.proofs.OnlineLaws.{online_text, statement_shrinks}
 use Rattle.pfs_conf.proofs.BreakLaws.{text_breaks_is}
 use Rattle.pfs_conf.proofs.PhraseLaws.{text_is}

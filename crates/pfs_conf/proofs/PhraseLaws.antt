@@ -11,7 +11,7 @@ use Rattle.pfs_conf_tokens.specs.declared.refusals.Refusal.{Refusal}
 use Rattle.pfs_conf_tokens.specs.declared.refusals.Why.TheVariants as why
 use Rattle.pfs_conf_tokens.specs.Keys.{ends_line, is_word_key}
 use Rattle.pfs_conf_tokens.specs.Grammar.{Word, Perhaps, absent, present, Until, ends, goes, UpTo, Passes}
-use Rattle.pfs_conf_tokens.specs.Giving.{Gives}
+use Rattle.pfs_conf_tokens.specs.TokenResults.{Gives}
 use Rattle.pfs_conf_tokens.proofs.Laws.{chain_ok, ok_parts, not_refused, taking, inside}
 use Rattle.pfs_conf_tokens.proofs.ReaderLaws.{line_end_key, ends_text_key, word_is, ended_is, perhaps_is, until_is, up_to_is}
 use Rattle.pfs_conf_tokens.proofs.WordKeys.{key_of_Anchor}
@@ -53,7 +53,7 @@ use Rattle.pfs_conf.specs.declared.progress.Progress.{Progress}
 use Rattle.pfs_conf.specs.Grammar.{ClauseOf, flags, state, RuleOf, names_anchor, AnchorNameOf, unnamed, named, AnchorOf, NewTableOf, StatementOf, blank, set, table, rule, anchor, close, TextOf, cookies, extra, translation}
 use Rattle.pfs_conf.specs.Statements.{nothing, no_clauses, state_options, with_rule, with_anchor, with_definition, rule_breaks, anchor_breaks, text_breaks, with_cookies, cookies_break}
 use Rattle.pfs_conf.specs.Reading.{with_draft, anchor_closed, told, clause_by, clause_at, rule_text_at, rule_line_at, anchor_named, anchor_name_at, brace_by, brace_at, anchor_parts_at, anchor_text_at, anchor_at, set_at, open_by, angle_by, new_table_named, new_name_by, new_name_at, definition_at, statement_by, statement_at, all_closed, told_of, statements_at, text_at, cookies_line_at, setting_line_at, set_by, extra_act}
-use Rattle.pfs_conf.specs.Within.{AreLexed, more, IsRuleText, IsAnchorText, AreExtras}
+use Rattle.pfs_conf.specs.PhraseBounds.{AreLexed, more, IsRuleText, IsAnchorText, AreExtras}
 use Rattle.pfs_conf_values.specs.LoadRules.{IsTranslation}
 use Rattle.pfs_conf_values.specs.Translations.{translates_by}
 use Rattle.pfs_conf.proofs.WithinLaws.{word_lexed, name_is, flags_within, parameters_within, extra_within, translation_within, marks_within, passes_lexed}

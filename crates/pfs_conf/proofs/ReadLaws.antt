@@ -8,7 +8,7 @@ use Rattle.pfs_conf_tokens.specs.declared.refusals.LoadRule.{LoadRule}
 use Rattle.pfs_conf_tokens.specs.Keys.{ends_line}
 use Rattle.pfs_conf_tokens.specs.Reading.{ends_text, Refused, broken, stay, chain, done}
 use Rattle.pfs_conf_tokens.specs.Grammar.{Word, Perhaps, absent, present, Until, ends, goes, UpTo}
-use Rattle.pfs_conf_tokens.proofs.ReaderLaws.{word_head, ended_reads, perhaps_reads, Reads, until_reads, up_to_reads}
+use Rattle.pfs_conf_tokens.proofs.ReaderLaws.{word_head, ended_reads, perhaps_reads, ReadsSteps, until_reads, up_to_reads}
 use Rattle.pfs_conf_values.specs.Configs.{Conf}
 use Rattle.pfs_conf_settings.specs.Drafts.{Drafted, conf_of_draft}
 use Rattle.pfs_conf_values.specs.declared.filters.FlagTest.{FlagTest}
@@ -77,7 +77,7 @@ clauses_head : {v : Verb} (Q : Key → Type 0) → Q key.Flags → Q key.Tag →
 clauses_head Q a t n g r x y b c e l (ends w) = subst Q (sym (word_head w).0) l
 clauses_head Q a t n g r x y b c e l (goes q u) = clause_head Q a t n g r x y b c e q
 
-clauses_read : (v : Verb) (p : Parameters) → Reads key.LineEnd ends_line ends_clause (ClauseOf v) (clause_at v p)
+clauses_read : (v : Verb) (p : Parameters) → ReadsSteps key.LineEnd ends_line ends_clause (ClauseOf v) (clause_at v p)
 clauses_read v p = record {
   closes = refl;
   close_follows = refl;
@@ -270,7 +270,7 @@ statement_begins (rule r q e) = (verb_key q.verb (λ k. ends_text k ≡ false) r
 statement_begins (anchor a q e l) = rw (word_head q.word).0 (refl, refl)
 statement_begins (close more w l) = rw (word_head w).0 (refl, refl)
 
-statements_read_up : Reads key.End ends_text any_key StatementOf statement_at
+statements_read_up : ReadsSteps key.End ends_text any_key StatementOf statement_at
 statements_read_up = record { closes = refl; close_follows = refl; begins = λ s. statement_begins s; reads = λ s f. statement_reads s; shrinks = statement_shrinks }
 
 pub statements_read : {ts : List Tok} {p : Progress} {left : List Tok} → UpTo key.End StatementOf nothing ts p left → statements_at ts ≡ Ok (p, left)

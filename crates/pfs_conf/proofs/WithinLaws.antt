@@ -38,7 +38,7 @@ use Rattle.pfs_conf_filters.specs.Sides.{side_not_given, source_of, destination_
 use Rattle.pfs_addr_values.specs.declared.packets.Dir.{Dir}
 use Rattle.pfs_conf_filters.specs.declared.phrases.Marks.{Marks}
 use Rattle.pfs_conf_settings.proofs.RoutePhrases.{network_within}
-use Rattle.pfs_conf.specs.Within.{IsLexed, AreLexed, more, IsTableName, AreParameters, AreExtras, MayBeQuick}
+use Rattle.pfs_conf.specs.PhraseBounds.{IsLexed, AreLexed, more, IsTableName, AreParameters, AreExtras, MayBeQuick}
 use Rattle.pfs_conf_values.specs.LoadRules.{AreNatPorts, IsNatTo, IsRdrTo, IsTranslation}
 use Rattle.pfs_conf_values.specs.declared.translations.NatPorts.{NatPorts}
 use Rattle.pfs_conf_values.specs.declared.translations.NatTo.{NatTo}

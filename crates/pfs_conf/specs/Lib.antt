@@ -4,10 +4,10 @@ pub mod Stopping
 pub mod Statements
 pub mod Grammar
 pub mod Reading
-pub mod Giving
-pub mod Within
+pub mod ReaderResults
+pub mod PhraseBounds
 pub mod Places
 pub mod Reads
 pub mod Faults
 pub mod Answers
-pub mod Loads
+pub mod LoadResults

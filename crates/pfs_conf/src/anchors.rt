@@ -2,14 +2,14 @@
 
 ghost use Rattle.std.specs.Prelude.{◌≡◌, IfOk, OnOk, None, false};
 ghost use Rattle.pfs_conf_tokens.specs.Reading.{perhaps};
-ghost use Rattle.pfs_conf_tokens.specs.Giving.{Gives};
+ghost use Rattle.pfs_conf_tokens.specs.TokenResults.{Gives};
 ghost use Rattle.pfs_conf_filters.specs.Reading.{begins_flags, flags_at};
 ghost use Rattle.pfs_conf_values.specs.Order.{repeats_by};
 ghost use Rattle.pfs_conf.specs.Grammar.{names_anchor};
 ghost use Rattle.pfs_conf.specs.Statements.{anchor_breaks, with_anchor};
 ghost use Rattle.pfs_conf.specs.Reading.{anchor_at, anchor_name_at, anchor_parts_at, anchor_text_at, brace_at, repeats_head};
-ghost use Rattle.pfs_conf.specs.Giving.{Comes, IsAtDepth};
-ghost use Rattle.pfs_conf.specs.Within.{AreLexed, IsAnchorText};
+ghost use Rattle.pfs_conf.specs.ReaderResults.{Comes, IsAtDepth};
+ghost use Rattle.pfs_conf.specs.PhraseBounds.{AreLexed, IsAnchorText};
 
 use crate::breaking::anchor_breaks;
 use crate::numbering::number_anchor;

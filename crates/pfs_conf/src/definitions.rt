@@ -1,11 +1,11 @@
 //! Definitions of tables, and the statements that set options, to the end of the line.
 
 ghost use Rattle.std.specs.Prelude.{◌≡◌, IfOk, OnOk, true};
-ghost use Rattle.pfs_conf_tokens.specs.Giving.{Gives};
+ghost use Rattle.pfs_conf_tokens.specs.TokenResults.{Gives};
 ghost use Rattle.pfs_addr_values.specs.Names.{is_name};
 ghost use Rattle.pfs_conf.specs.Statements.{with_definition};
 ghost use Rattle.pfs_conf.specs.Reading.{cookies_line_at, set_at, setting_line_at, definition_at, new_name_at};
-ghost use Rattle.pfs_conf.specs.Giving.{Comes, IsAtDepth};
+ghost use Rattle.pfs_conf.specs.ReaderResults.{Comes, IsAtDepth};
 
 use crate::breaking::cookies_break;
 use crate::progress::Progress;

@@ -6,7 +6,7 @@ ghost use Rattle.pfs_conf_tokens.specs.declared.refusals.LoadRule.{LoadRule};
 ghost use Rattle.pfs_conf_values.specs.Configs.{Conf};
 ghost use Rattle.pfs_conf.specs.Kinds.{fault, kind_of_rule, no_memory};
 ghost use Rattle.pfs_conf.specs.Faults.{Breaks, IsFault};
-ghost use Rattle.pfs_conf.specs.Loads.{IsLoad};
+ghost use Rattle.pfs_conf.specs.LoadResults.{IsLoad};
 ghost use Rattle.pfs_conf.specs.Reads.{Reads};
 ghost use Rattle.pfs_conf.specs.Answers.{IsReported, IsTooLong};
 

@@ -3,7 +3,7 @@
 ghost use Rattle.std.specs.Prelude.{◌≡◌, IfOk, OnOk, IfSome};
 ghost use Rattle.pfs_conf_values.specs.LoadRules.{IsHost, IsSide};
 ghost use Rattle.pfs_conf.specs.Statements.{action_of, anchor_said, came_said, default_flags, name_host, name_overload, name_rule, name_hosts, number_host, number_overload, number_side, passing, rule_said, state_options};
-ghost use Rattle.pfs_conf.specs.Within.{IsAnchorText, IsRuleText, IsTableName};
+ghost use Rattle.pfs_conf.specs.PhraseBounds.{IsAnchorText, IsRuleText, IsTableName};
 
 use crate::phrases::{AnchorText, RuleText};
 use pfs_addr_values::{Flags, NoMemory};

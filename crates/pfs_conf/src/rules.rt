@@ -3,11 +3,11 @@
 ghost use Rattle.std.specs.Prelude.{◌≡◌, IfOk, OnOk, None};
 ghost use Rattle.pfs_conf_tokens.specs.Keys.{ends_line};
 ghost use Rattle.pfs_conf_tokens.specs.Reading.{act, until_all};
-ghost use Rattle.pfs_conf_tokens.specs.Giving.{Gives};
+ghost use Rattle.pfs_conf_tokens.specs.TokenResults.{Gives};
 ghost use Rattle.pfs_conf.specs.Statements.{no_clauses, rule_breaks, with_rule};
 ghost use Rattle.pfs_conf.specs.Reading.{clause_at, rule_text_at, rule_line_at, state_act, translation_act};
-ghost use Rattle.pfs_conf.specs.Giving.{Comes, IsAtDepth};
-ghost use Rattle.pfs_conf.specs.Within.{AreLexed, IsRuleText};
+ghost use Rattle.pfs_conf.specs.ReaderResults.{Comes, IsAtDepth};
+ghost use Rattle.pfs_conf.specs.PhraseBounds.{AreLexed, IsRuleText};
 
 use crate::breaking::rule_breaks;
 use crate::numbering::number_rule;

@@ -2,12 +2,12 @@
 
 ghost use Rattle.std.specs.Prelude.{◌≡◌, ◌≤◌, None, OnOk};
 ghost use Rattle.pfs_conf_settings.specs.Drafts.{conf_of_draft};
-ghost use Rattle.pfs_conf_tokens.specs.Giving.{GivesOrMemory};
+ghost use Rattle.pfs_conf_tokens.specs.TokenResults.{GivesOrMemory};
 ghost use Rattle.pfs_conf_tokens.specs.Reading.{ended};
 ghost use Rattle.pfs_conf.specs.Reading.{anchor_closed, statement_at, statements_at, text_at};
-ghost use Rattle.pfs_conf.specs.Giving.{Comes, IsAtDepth};
+ghost use Rattle.pfs_conf.specs.ReaderResults.{Comes, IsAtDepth};
 ghost use Rattle.pfs_conf.specs.Statements.{text_breaks};
-ghost use Rattle.pfs_conf.specs.Within.{AreLexed};
+ghost use Rattle.pfs_conf.specs.PhraseBounds.{AreLexed};
 
 use crate::anchors::anchor;
 use crate::breaking::text_breaks;

@@ -1,7 +1,7 @@
 //! Hosts and their ports, and the parameters as a whole.
 
 ghost use Rattle.std.specs.Prelude.{◌≡◌};
-ghost use Rattle.pfs_conf_tokens.specs.Giving.{Gives};
+ghost use Rattle.pfs_conf_tokens.specs.TokenResults.{Gives};
 ghost use Rattle.pfs_conf_filters.specs.Reading.{place_at, host_at, side_host_at, side_at, from_part_at, to_part_at, hosts_at, parameters_at};
 
 use crate::heads::head;

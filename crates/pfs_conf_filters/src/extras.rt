@@ -1,7 +1,7 @@
 //! What a rule has behind its parameters, beside `flags` and its state.
 
 ghost use Rattle.std.specs.Prelude.{◌≡◌, true};
-ghost use Rattle.pfs_conf_tokens.specs.Giving.{Gives};
+ghost use Rattle.pfs_conf_tokens.specs.TokenResults.{Gives};
 ghost use Rattle.pfs_conf_tokens.specs.Reading.{on_front};
 ghost use Rattle.pfs_conf_filters.specs.Grammar.{no_extras};
 ghost use Rattle.pfs_conf_filters.specs.Reading.{asked_by, asks_both, extra_at, received_on_at, tag_at, tagged_at};

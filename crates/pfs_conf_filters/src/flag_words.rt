@@ -1,7 +1,7 @@
 //! `flags`, and the sets of flags that it asks for.
 
 ghost use Rattle.std.specs.Prelude.{◌≡◌, ◌==◌, length};
-ghost use Rattle.pfs_conf_tokens.specs.Giving.{Gives};
+ghost use Rattle.pfs_conf_tokens.specs.TokenResults.{Gives};
 ghost use Rattle.pfs_conf_filters.specs.Values.{flag_test_of, exactly};
 ghost use Rattle.pfs_conf_filters.specs.Reading.{flags_at};
 

@@ -2,7 +2,7 @@
 
 ghost use Rattle.std.specs.Prelude.{◌≡◌};
 ghost use Rattle.pfs_conf_tokens.specs.Reading.{closes_parens, until_all, next_of, on_front};
-ghost use Rattle.pfs_conf_tokens.specs.Giving.{Gives};
+ghost use Rattle.pfs_conf_tokens.specs.TokenResults.{Gives};
 ghost use Rattle.pfs_conf_filters.specs.Reading.{verb_at, policy_at, dir_at, log_item_at, log_list_at, log_at, quick_at, rule_marks_by, marks_at, on_at, on_part_at, family_part_at, head_at};
 
 use crate::phrases::{Head, Marks, Statement, Verb};

@@ -1,7 +1,7 @@
 //! Protocols and ports.
 
 ghost use Rattle.std.specs.Prelude.{◌≡◌, ◌<◌};
-ghost use Rattle.pfs_conf_tokens.specs.Giving.{Gives};
+ghost use Rattle.pfs_conf_tokens.specs.TokenResults.{Gives};
 ghost use Rattle.pfs_conf_tokens.specs.Words.{key_of_text};
 ghost use Rattle.pfs_conf_tokens.specs.Numbers.{number_written};
 ghost use Rattle.pfs_conf_filters.specs.Values.{port_of, port_by, port_numbered, one_port, port_range, ports_of};

@@ -1,7 +1,7 @@
 //! What a rule translates, as it is written.
 
 ghost use Rattle.std.specs.Prelude.{◌≡◌};
-ghost use Rattle.pfs_conf_tokens.specs.Giving.{Gives};
+ghost use Rattle.pfs_conf_tokens.specs.TokenResults.{Gives};
 ghost use Rattle.pfs_conf_filters.specs.Reading.{address_at, given_ports_at, nat_ports_at, nat_to_at, port_part_at, rdr_to_at, translation_at, with_nat_at, with_rdr_at};
 
 use crate::services::{one_port_part, ports_word};

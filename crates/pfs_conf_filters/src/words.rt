@@ -2,7 +2,7 @@
 
 ghost use Rattle.std.specs.Prelude.{◌≡◌};
 ghost use Rattle.pfs_conf_tokens.specs.Tokens.{head};
-ghost use Rattle.pfs_conf_tokens.specs.Giving.{Gives};
+ghost use Rattle.pfs_conf_tokens.specs.TokenResults.{Gives};
 ghost use Rattle.pfs_conf_filters.specs.Values.{may_name_interface};
 ghost use Rattle.pfs_conf_filters.specs.Reading.{interface_at, tag_name_at};
 

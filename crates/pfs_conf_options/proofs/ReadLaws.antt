@@ -1,6 +1,6 @@
 -- What a state clause that is read keeps, and that its options, resolved, are such as a configuration has.
 use Rattle.pfs_conf_tokens.specs.declared.refusals.Refusal.{Refusal}
-use Rattle.pfs_conf_tokens.specs.Giving.{Gives}
+use Rattle.pfs_conf_tokens.specs.TokenResults.{Gives}
 use Rattle.pfs_conf_options.specs.Reading.{state_at}
 use Rattle.pfs_conf_options.proofs.PhraseLaws.{state_is}
 use Rattle.std.proofs.Common.{Result, Ok, Err, IfOk, ◌≡◌, ℕ, ◌<◌, ◌≤◌, Bool, true, false, cond, List, Option, Some, None, is_some, is_none, IfSome, refl, sym, subst, ◌∙◌, arith, ◌&&◌, ◌||◌, not, ◌==◌, slice_index_or, slice_set, length-set, inl, inr}

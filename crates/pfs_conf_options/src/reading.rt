@@ -3,7 +3,7 @@
 
 ghost use Rattle.std.specs.Prelude.{◌≡◌, ◌<◌, ◌≤◌, IfOk, IfSome, MatchBool, Ok, Err, Some};
 ghost use Rattle.pfs_conf_tokens.specs.Reading.{Reader, closes_parens, act, chain, done, once, take, until_all, next_of, list_all, number_at};
-ghost use Rattle.pfs_conf_tokens.specs.Giving.{Gives};
+ghost use Rattle.pfs_conf_tokens.specs.TokenResults.{Gives};
 ghost use Rattle.pfs_conf_options.specs.Options.{rule_place, options_given, proxied};
 ghost use Rattle.pfs_conf_options.specs.Bounds.{AreRead};
 ghost use Rattle.pfs_conf_values.specs.Bounds.{greatest_timeout};

@@ -57,7 +57,7 @@ use Rattle.pfs_conf_round_trip.proofs.Numbers.{ports_again, ports_word}
 use Rattle.pfs_conf_round_trip.proofs.PrefixWords.{address_again, address_plain, address_word, prefix_again, prefix_plain, prefix_word}
 use Rattle.pfs_addr.proofs.ProtocolLaws.{no_word, proto_again, proto_known}
 use Rattle.pfs_conf_round_trip.proofs.Pieces.{all_append, at, mark, text_append, word, word_between}
-use Rattle.pfs_conf.specs.Within.{MayBeQuick}
+use Rattle.pfs_conf.specs.PhraseBounds.{MayBeQuick}
 
 -- a word that says a value
 says : {A : Type 0} (value : Tok → Option A) (line : ℕ) (w more : List ℕ) (x : A) → is_word_text w ≡ true → breaks more ≡ true → value (token line (key_of_text w) w) ≡ Some x

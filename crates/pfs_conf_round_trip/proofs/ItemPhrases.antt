@@ -44,7 +44,7 @@ use Rattle.pfs_conf_values.specs.declared.filters.Tagged.{Tagged}
 use Rattle.pfs_conf_filters.specs.declared.phrases.Extras.{Extras}
 use Rattle.pfs_conf_filters.specs.declared.phrases.Verb.{Verb}
 use Rattle.pfs_conf_filters.specs.Reading.{interface, tag_test}
-use Rattle.pfs_conf.specs.Within.{MayBeQuick}
+use Rattle.pfs_conf.specs.PhraseBounds.{MayBeQuick}
 
 -- ---- rules
 

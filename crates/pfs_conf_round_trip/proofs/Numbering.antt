@@ -50,14 +50,14 @@ numbered (t ∷ tables) (suc i) h lt =
     cond-true (not (bytes_eq name t.name)) (1 + place_in name tables) 0 (ap not other) ∙ omega (arith, at)
 
 -- tables with names of their own, which numbers reach
-pub record AreNumbered (tables : List TableDef) : Type 0 where
+pub record AreTablesNumbered (tables : List TableDef) : Type 0 where
   pub names : IsDistinct bytes_eq (table_names tables)
   pub few : length tables ≤ 4294967295
 
 number_small : (place n : ℕ) → place ≡ n → n ≤ 4294967295 → table_number place ≡ n
 number_small place n e h = omega arith
 
-pub numbered_so : (tables : List TableDef) (i : ℕ) → AreNumbered tables → i < length tables → table_number (place_in (name_in (slice_get tables i)) tables) ≡ i
+pub numbered_so : (tables : List TableDef) (i : ℕ) → AreTablesNumbered tables → i < length tables → table_number (place_in (name_in (slice_get tables i)) tables) ≡ i
 numbered_so tables i h lt = let few = h.few in number_small (place_in (name_in (slice_get tables i)) tables) i (numbered tables i h.names lt) (omega arith)
 
 or_left : (a b : Bool) → a ≡ true → (a || b) ≡ true

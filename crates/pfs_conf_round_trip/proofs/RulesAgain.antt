@@ -37,7 +37,7 @@ use Rattle.pfs_conf.specs.Statements.{action_of, anchor_breaks, anchor_said, fil
 use Rattle.pfs_conf_show.specs.Filters.{has_no_ports, is_any_host, is_every_side}
 use Rattle.pfs_conf_round_trip.proofs.Said.{host_said, hosts_said, options_said, overload_said, parameters_said, side_said, state_said, table_said, track_said}
 use Rattle.pfs_conf_round_trip.proofs.StatementsSaid.{anchor_phrase, rule_phrase, verb_said}
-use Rattle.pfs_conf_round_trip.proofs.Numbering.{AreNumbered, drafted, named_again, numbered_so}
+use Rattle.pfs_conf_round_trip.proofs.Numbering.{AreTablesNumbered, drafted, named_again, numbered_so}
 
 -- ---- hosts
 
@@ -71,7 +71,7 @@ record AreAll (tables : List TableDef) (d : Drafted) : Type 0 where
   number : (t : TableNo) → t.0 < length tables → number_of_table (table_said tables t) d ≡ t.0
   name : (t : TableNo) → t.0 < length tables → with_name (table_said tables t) d ≡ d
 
-are_all : (profile : Profile) (syncookies : Syncookies) (routes : List Route) (limits : Limits) (timeouts : List (Option ℕ)) (tables : List TableDef) (items : List Item) → AreNumbered tables
+are_all : (profile : Profile) (syncookies : Syncookies) (routes : List Route) (limits : Limits) (timeouts : List (Option ℕ)) (tables : List TableDef) (items : List Item) → AreTablesNumbered tables
     → AreAll tables (drafted profile syncookies routes limits timeouts tables items)
 are_all profile syncookies routes limits timeouts tables items h = record {
   number = λ t lt. numbered_so tables t.0 h lt;
@@ -183,7 +183,7 @@ action_name tables d k (action.Keep o) h = overload_name tables d k o.overload h
 -- ---- statements
 
 -- the line of a rule means the rule again
-pub rule_again : (profile : Profile) (syncookies : Syncookies) (routes : List Route) (limits : Limits) (timeouts : List (Option ℕ)) (tables : List TableDef) (items : List Item) (r : Rule) → AreNumbered tables
+pub rule_again : (profile : Profile) (syncookies : Syncookies) (routes : List Route) (limits : Limits) (timeouts : List (Option ℕ)) (tables : List TableDef) (items : List Item) (r : Rule) → AreTablesNumbered tables
     → IsRule (length tables) r → rule_said (rule_phrase tables r) (drafted profile syncookies routes limits timeouts tables items) ≡ r
 rule_again profile syncookies routes limits timeouts tables items r distinct h =
     let d = drafted profile syncookies routes limits timeouts tables items in
@@ -199,20 +199,20 @@ rule_again profile syncookies routes limits timeouts tables items r distinct h =
     ruled f a = record { quick = r.quick; filter = f; came = r.came; tag = r.tag; translation = r.translation; action = a }
 
 -- and names no other table
-pub rule_name : (profile : Profile) (syncookies : Syncookies) (routes : List Route) (limits : Limits) (timeouts : List (Option ℕ)) (tables : List TableDef) (items : List Item) (r : Rule) → AreNumbered tables
+pub rule_name : (profile : Profile) (syncookies : Syncookies) (routes : List Route) (limits : Limits) (timeouts : List (Option ℕ)) (tables : List TableDef) (items : List Item) (r : Rule) → AreTablesNumbered tables
     → IsRule (length tables) r → name_rule (rule_phrase tables r) (drafted profile syncookies routes limits timeouts tables items) ≡ drafted profile syncookies routes limits timeouts tables items
 rule_name profile syncookies routes limits timeouts tables items r distinct h =
     let d = drafted profile syncookies routes limits timeouts tables items in
     let k = are_all profile syncookies routes limits timeouts tables items distinct in
     ap (name_overload (state_options (state_said tables r.action)).overload) (hosts_name tables d k r.filter h.filter) ∙ action_name tables d k r.action h.action
 
-pub anchor_again : (profile : Profile) (syncookies : Syncookies) (routes : List Route) (limits : Limits) (timeouts : List (Option ℕ)) (tables : List TableDef) (items : List Item) (a : Anchor) → AreNumbered tables
+pub anchor_again : (profile : Profile) (syncookies : Syncookies) (routes : List Route) (limits : Limits) (timeouts : List (Option ℕ)) (tables : List TableDef) (items : List Item) (a : Anchor) → AreTablesNumbered tables
     → IsAnchor (length tables) a → anchor_said (anchor_phrase tables a) (drafted profile syncookies routes limits timeouts tables items) ≡ a
 anchor_again profile syncookies routes limits timeouts tables items a distinct h =
     let d = drafted profile syncookies routes limits timeouts tables items in
     ap (λ (f : Filter). record { name = a.name; quick = a.quick; filter = f }) (filter_again tables d (are_all profile syncookies routes limits timeouts tables items distinct) a.quick a.filter h.filter)
 
-pub anchor_name : (profile : Profile) (syncookies : Syncookies) (routes : List Route) (limits : Limits) (timeouts : List (Option ℕ)) (tables : List TableDef) (items : List Item) (a : Anchor) → AreNumbered tables
+pub anchor_name : (profile : Profile) (syncookies : Syncookies) (routes : List Route) (limits : Limits) (timeouts : List (Option ℕ)) (tables : List TableDef) (items : List Item) (a : Anchor) → AreTablesNumbered tables
     → IsAnchor (length tables) a → name_hosts (anchor_phrase tables a).parameters.hosts (drafted profile syncookies routes limits timeouts tables items) ≡ drafted profile syncookies routes limits timeouts tables items
 anchor_name profile syncookies routes limits timeouts tables items a distinct h =
     hosts_name tables (drafted profile syncookies routes limits timeouts tables items) (are_all profile syncookies routes limits timeouts tables items distinct) a.filter h.filter
@@ -231,14 +231,14 @@ same_global (Some scope.Rule) = refl
 same_global (Some scope.Global) = refl
 
 -- the load rules of options
-record AreKept (tables : List TableDef) (a : Action) : Type 0 where
+record AreLoadRulesKept (tables : List TableDef) (a : Action) : Type 0 where
   state : keeps_on_block (verb_said a) (state_said tables a) ≡ false
   overload : has_overload_alone (state_options (state_said tables a)) ≡ false
   connections : has_global_connections (state_options (state_said tables a)) ≡ false
   retention : has_global_retention (state_options (state_said tables a)) ≡ false
   pair : has_broken_rule_pair (state_options (state_said tables a)) ≡ false
 
-are_kept : (tables : List TableDef) (a : Action) → IsAction (length tables) a → AreKept tables a
+are_kept : (tables : List TableDef) (a : Action) → IsAction (length tables) a → AreLoadRulesKept tables a
 are_kept tables action.Match h = record { state = refl; overload = refl; connections = refl; retention = refl; pair = refl }
 are_kept tables action.Block h = record { state = refl; overload = refl; connections = refl; retention = refl; pair = refl }
 are_kept tables action.Pass h = record { state = refl; overload = refl; connections = refl; retention = refl; pair = refl }

@@ -38,13 +38,13 @@ use Rattle.pfs_conf_round_trip.proofs.StatementsSaid.{anchor_phrase, rule_phrase
 use Rattle.pfs_conf_round_trip.proofs.FilterPhrases.{angle_closes, angle_names, angle_opens}
 use Rattle.pfs_conf_round_trip.proofs.ItemPhrases.{anchor_reads, rule_reads}
 use Rattle.pfs_conf_round_trip.proofs.Names.{key_of_word, name_again}
-use Rattle.pfs_conf_round_trip.proofs.Numbering.{AreNumbered, drafted, next_new, next_table}
+use Rattle.pfs_conf_round_trip.proofs.Numbering.{AreTablesNumbered, drafted, next_new, next_table}
 use Rattle.pfs_conf_round_trip.proofs.Pieces.{at, line_end, mark, word_space}
 use Rattle.pfs_conf_round_trip.proofs.RulesAgain.{anchor_again, anchor_kept, anchor_name, rule_again, rule_kept, rule_name}
 use Rattle.pfs_conf_round_trip.proofs.TablePhrases.{parts_read}
 
 -- from here on there are statements up to the end of the text, each anchor is closed, and then this has been said
-pub record Ends (whole : Drafted) (p : Progress) (ts : List Tok) : Type 0 where
+pub record EndsSaid (whole : Drafted) (p : Progress) (ts : List Tok) : Type 0 where
   pub said : Progress
   pub left : List Tok
   pub statements : UpTo key.End StatementOf p ts said left
@@ -52,7 +52,7 @@ pub record Ends (whole : Drafted) (p : Progress) (ts : List Tok) : Type 0 where
   pub says : said.draft ≡ whole
 
 -- a statement in front
-pub stated : {whole : Drafted} {p q : Progress} {ts mid : List Tok} → StatementOf p ts q mid → Ends whole q mid → Ends whole p ts
+pub stated : {whole : Drafted} {p q : Progress} {ts mid : List Tok} → StatementOf p ts q mid → EndsSaid whole q mid → EndsSaid whole p ts
 stated s e = record { said = e.said; left = e.left; statements = steps s e.statements; all_closed = e.all_closed; says = e.says }
 
 -- how far reading is
@@ -61,7 +61,7 @@ reached d depth lines = record { draft = d; depth = depth; lines = lines }
 
 -- from every line on, whatever the lines before
 abbrev pub EndsFrom : Drafted → Drafted → ℕ → List ℕ → Type 0
-EndsFrom whole d depth text = (line : ℕ) (lines : List ℕ) → Ends whole (reached d depth lines) (tokens 0 false line text)
+EndsFrom whole d depth text = (line : ℕ) (lines : List ℕ) → EndsSaid whole (reached d depth lines) (tokens 0 false line text)
 
 -- ---- tables
 
@@ -99,15 +99,15 @@ pub tables_read : (whole : Drafted) (profile : Profile) (syncookies : Syncookies
     → IsDistinct bytes_eq (table_names (before ++ rest)) → EndsFrom whole (drafted profile syncookies routes limits timeouts (before ++ rest) []) 0 more
     → EndsFrom whole (drafted profile syncookies routes limits timeouts before []) 0 (flat_map table_text rest ++ more)
 tables_read whole profile syncookies routes limits timeouts before [] more h distinct e line lines =
-    subst (λ (z : List TableDef). Ends whole (reached (drafted profile syncookies routes limits timeouts z []) 0 lines) (tokens 0 false line more)) (append-nil before) (e line lines)
+    subst (λ (z : List TableDef). EndsSaid whole (reached (drafted profile syncookies routes limits timeouts z []) 0 lines) (tokens 0 false line more)) (append-nil before) (e line lines)
 tables_read whole profile syncookies routes limits timeouts before (t ∷ rest) more h distinct e line lines =
     let joined : (before ++ t ∷ []) ++ rest ≡ before ++ t ∷ rest = append_assoc before (t ∷ []) rest in
     let D : List TableDef → Type 0 = λ z. IsDistinct bytes_eq (table_names z) in
     let E : List TableDef → Type 0 = λ z. EndsFrom whole (drafted profile syncookies routes limits timeouts z []) 0 more in
     let left = flat_map table_text rest ++ more in
     let others = tables_read whole profile syncookies routes limits timeouts (before ++ t ∷ []) rest more (All-tail IsTable t rest h) (subst D (sym joined) distinct) (subst E (sym joined) e) (suc line) lines in
-    let S : Drafted → Type 0 = λ z. Ends whole (reached z 0 lines) (tokens 0 false (suc line) left) in
-    let P : List ℕ → Type 0 = λ z. Ends whole (reached (drafted profile syncookies routes limits timeouts before []) 0 lines) (tokens 0 false line z) in
+    let S : Drafted → Type 0 = λ z. EndsSaid whole (reached z 0 lines) (tokens 0 false (suc line) left) in
+    let P : List ℕ → Type 0 = λ z. EndsSaid whole (reached (drafted profile syncookies routes limits timeouts before []) 0 lines) (tokens 0 false line z) in
     subst P (sym (append_assoc (table_text t) (flat_map table_text rest) more))
     (stated (table_reads (drafted profile syncookies routes limits timeouts before []) t line lines left (All-head IsTable t rest h) (next_new profile syncookies routes limits timeouts before rest t distinct))
     (subst S (sym (next_table profile syncookies routes limits timeouts before rest t distinct)) others))
@@ -136,7 +136,7 @@ end_reads d line lines = record { said = reached d 0 lines; left = tokens 0 fals
 
 -- the line of an item is read, and the item is appended to the others
 item_line : (profile : Profile) (syncookies : Syncookies) (routes : List Route) (limits : Limits) (timeouts : List (Option ℕ)) (tables : List TableDef) (before : List Item) (i : Item) (line : ℕ) (lines : List ℕ) (more : List ℕ)
-    → All IsTable tables → AreNumbered tables → IsItem (length tables) i → length before < 10000 → repeats_name i before ≡ false
+    → All IsTable tables → AreTablesNumbered tables → IsItem (length tables) i → length before < 10000 → repeats_name i before ≡ false
     → (ls : List ℕ) × StatementOf (reached (drafted profile syncookies routes limits timeouts tables before) i.depth lines) (tokens 0 false line (what_text tables i.what ++ more))
     (reached (drafted profile syncookies routes limits timeouts tables (before ++ i ∷ [])) (next_depth i) ls) (tokens 0 false (suc line) more)
 item_line profile syncookies routes limits timeouts tables before i line lines more t names h few fresh = go i.depth i.what h fresh
@@ -169,7 +169,7 @@ item_line profile syncookies routes limits timeouts tables before i line lines m
 
 -- the items that are left, after those that are read
 pub items_read : (profile : Profile) (syncookies : Syncookies) (routes : List Route) (limits : Limits) (timeouts : List (Option ℕ)) (tables : List TableDef) (before rest : List Item) (depth : ℕ) → All IsTable tables
-    → AreNumbered tables → All (IsItem (length tables)) rest → length (before ++ rest) ≤ 10000 → IsPreorder depth rest → AreNamedOnce before rest
+    → AreTablesNumbered tables → All (IsItem (length tables)) rest → length (before ++ rest) ≤ 10000 → IsPreorder depth rest → AreNamedOnce before rest
     → EndsFrom (drafted profile syncookies routes limits timeouts tables (before ++ rest)) (drafted profile syncookies routes limits timeouts tables before) depth (items_text tables depth rest)
 items_read profile syncookies routes limits timeouts tables before [] depth t names h few order once line lines =
     let whole = drafted profile syncookies routes limits timeouts tables (before ++ []) in
@@ -177,7 +177,7 @@ items_read profile syncookies routes limits timeouts tables before [] depth t na
     let none : depth - depth ≡ 0 = omega arith in
     let E : ℕ → Type 0 = λ z. EndsFrom whole d z [] in
     let D : List Item → Type 0 = λ z. EndsFrom (drafted profile syncookies routes limits timeouts tables z) d 0 [] in
-    let P : List ℕ → Type 0 = λ z. Ends whole (reached d depth lines) (tokens 0 false line z) in
+    let P : List ℕ → Type 0 = λ z. EndsSaid whole (reached d depth lines) (tokens 0 false line z) in
     subst P (append-nil (braces_text depth))
     (braces_read whole d depth depth [] (omega arith) (subst E (sym none) (subst D (sym (append-nil before)) (end_reads d))) line lines)
 items_read profile syncookies routes limits timeouts tables before (i ∷ rest) depth t names h few order once line lines =

@@ -35,11 +35,11 @@ use Rattle.pfs_conf_show.specs.Settings.{profile_text, routes_text, syncookies_t
 use Rattle.pfs_conf_show.specs.Tables.{table_text}
 use Rattle.pfs_conf_show.specs.Texts.{items_text, text_of}
 use Rattle.pfs_conf_round_trip.specs.Again.{CanBeSaid}
-use Rattle.pfs_conf_round_trip.proofs.Numbering.{AreNumbered, drafted}
+use Rattle.pfs_conf_round_trip.proofs.Numbering.{AreTablesNumbered, drafted}
 use Rattle.pfs_conf_round_trip.proofs.RoutePhrases.{route_line, routes_line}
 use Rattle.pfs_conf_round_trip.proofs.SettingPhrases.{AreGiven, SettingLine, limits_line, profile_line, set_all, timeouts_line, value_in}
 use Rattle.pfs_conf_round_trip.proofs.SyncookiePhrases.{adaptive_line, always_line}
-use Rattle.pfs_conf_round_trip.proofs.Statements.{Ends, EndsFrom, items_read, reached, stated, tables_read}
+use Rattle.pfs_conf_round_trip.proofs.Statements.{EndsSaid, EndsFrom, items_read, reached, stated, tables_read}
 
 -- ---- timeouts
 
@@ -167,10 +167,10 @@ routes_read whole p s (r ∷ q ∷ routes) limits timeouts more h e line lines =
     stated (setting_read d (drafted p s (r ∷ q ∷ routes) limits timeouts [] []) lines _ _ (routes_line d r q routes line more refl h)) (e (suc line) lines)
 
 -- its tables have numbers
-numbered_tables : (conf : Conf) → IsConfig conf → AreNumbered conf.tables
+numbered_tables : (conf : Conf) → IsConfig conf → AreTablesNumbered conf.tables
 numbered_tables conf h = let most = h.limits.tables in let few = h.few_tables in record { names = h.names; few = omega arith }
 
-text_ends : (conf : Conf) → IsConfig conf → timeout_of conf name.AdaptiveEnd ≤ 4294967295 → Ends (whole conf) nothing (tokens_of (text_of conf))
+text_ends : (conf : Conf) → IsConfig conf → timeout_of conf name.AdaptiveEnd ≤ 4294967295 → EndsSaid (whole conf) nothing (tokens_of (text_of conf))
 text_ends conf h end =
     let items = items_text conf.tables 0 conf.items in
     let tables = flat_map table_text conf.tables ++ items in
@@ -185,7 +185,7 @@ text_ends conf h end =
     (routes_read (whole conf) conf.profile conf.syncookies conf.routes conf.limits (all_set conf.timeouts) tables h.routes
     (tables_read (whole conf) conf.profile conf.syncookies conf.routes conf.limits (all_set conf.timeouts) [] conf.tables items h.tables h.names
     (items_read conf.profile conf.syncookies conf.routes conf.limits (all_set conf.timeouts) conf.tables [] conf.items 0 h.tables (numbered_tables conf h) h.items h.few_items h.preorder h.anchors)))) in
-    let E : Drafted → Type 0 = λ z. Ends (whole conf) (reached z 0 []) (tokens 0 false 3 behind) in
+    let E : Drafted → Type 0 = λ z. EndsSaid (whole conf) (reached z 0 []) (tokens 0 false 3 behind) in
     stated (setting_read empty_draft (limited conf) [] _ _ (limits_line empty_draft conf.limits 1 timeouts h.limits))
     (stated (setting_read (limited conf) (set_all timeout_names (value_in conf.timeouts) (limited conf)) [] _ _ (timeouts_line (limited conf) conf.timeouts 2 behind (are_given conf h end)))
     (subst E (sym (settings_set conf)) (read 3 [])))

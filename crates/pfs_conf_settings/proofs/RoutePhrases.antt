@@ -5,7 +5,7 @@ use Rattle.std.specs.Str.{bytes_eq}
 use Rattle.pfs_conf_tokens.specs.declared.refusals.Refusal.{Refusal}
 use Rattle.pfs_conf_tokens.specs.declared.refusals.Why.{Why}
 use Rattle.pfs_conf_tokens.specs.declared.refusals.Why.TheVariants as why
-use Rattle.pfs_conf_tokens.specs.Giving.{Gives}
+use Rattle.pfs_conf_tokens.specs.TokenResults.{Gives}
 use Rattle.pfs_conf_tokens.specs.Tokens.{Tok}
 use Rattle.pfs_conf_tokens.specs.Keys.{is_word_key}
 use Rattle.pfs_conf_tokens.specs.Reading.{act, chain, done}

@@ -5,9 +5,9 @@ use Rattle.pfs_conf_tokens.specs.declared.keys.Key.{Key}
 use Rattle.pfs_conf_tokens.specs.declared.refusals.ReadError.{ReadError}
 use Rattle.pfs_conf_tokens.specs.declared.refusals.ReadError.TheVariants as error
 use Rattle.pfs_conf_tokens.specs.Reading.{Reader, until_all, up_to_all}
-use Rattle.pfs_conf_tokens.specs.Giving.{refusal_at}
+use Rattle.pfs_conf_tokens.specs.TokenResults.{refusal_at}
 use Rattle.pfs_conf_tokens.proofs.Laws.{until_fails, up_to_fails}
-use Rattle.pfs_conf_settings.specs.Extending.{Extends}
+use Rattle.pfs_conf_settings.specs.AdditionResults.{Extends}
 
 pub extends_fails : {A : Type 0} (stops : Key → Bool) (step : A → Reader A) (a : A) (ts left : List Tok) (after : A) (e : ReadError)
     → stops (head ts).key ≡ false → Extends (Err e) left after (step a ts) → Extends (Err e) left after (until_all stops step a ts)

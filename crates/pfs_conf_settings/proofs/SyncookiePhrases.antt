@@ -4,7 +4,7 @@ use Rattle.std.proofs.lemmas.Bool.{leb-true, le-leb, ltb-true}
 use Rattle.pfs_conf_tokens.specs.declared.keys.Key.{Key}
 use Rattle.pfs_conf_tokens.specs.declared.keys.Key.TheVariants as key
 use Rattle.pfs_conf_tokens.specs.declared.refusals.Refusal.{Refusal}
-use Rattle.pfs_conf_tokens.specs.Giving.{Gives}
+use Rattle.pfs_conf_tokens.specs.TokenResults.{Gives}
 use Rattle.pfs_conf_tokens.specs.Tokens.{Tok, head}
 use Rattle.pfs_conf_tokens.specs.Reading.{rest, act, chain, comma_at, comma_by, done, stay}
 use Rattle.pfs_conf_tokens.specs.Numbers.{number_written, split_around}

@@ -9,7 +9,7 @@ use Rattle.pfs_conf_tokens.specs.Reading.{rest, closes_braces, Act, take, stay, 
 use Rattle.pfs_conf_tokens.specs.Keys.{ends_line, is_word_key}
 use Rattle.pfs_conf_tokens.specs.Grammar.{WordOf, Word, skip_lines}
 use Rattle.pfs_conf_tokens.proofs.Laws.{ok_parts, chain_ok, not_refused}
-use Rattle.pfs_conf_tokens.proofs.ReaderLaws.{closes_braces_key, line_end_key, word_head, word_is, list_is, list_reads, ReadsList, no_comma, skip_head, up_to_is, up_to_reads, Reads}
+use Rattle.pfs_conf_tokens.proofs.ReaderLaws.{closes_braces_key, line_end_key, word_head, word_is, list_is, list_reads, ReadsList, no_comma, skip_head, up_to_is, up_to_reads, ReadsSteps}
 use Rattle.pfs_conf_tokens.proofs.LineLaws.{skip_stays}
 use Rattle.pfs_addr_values.specs.Prefixes.{Network}
 use Rattle.pfs_addr.specs.Texts.{prefix_of}
@@ -233,7 +233,7 @@ part_reads (constant w f) = let h = word_head w in rw (h.0, f, h.1) refl
 part_reads (counters w f) = let h = word_head w in rw (h.0, f, h.1) refl
 part_reads (entries w f es) = let h = word_head w in rw (h.0, f, h.1, entries_read es) refl
 
-parts_readable : Reads key.LineEnd ends_line anything PartOf part_at
+parts_readable : ReadsSteps key.LineEnd ends_line anything PartOf part_at
 unfolding anything
 parts_readable = record { closes = refl; close_follows = refl; begins = part_begins; reads = λ q f. part_reads q; shrinks = part_shrinks }
 

@@ -1,6 +1,6 @@
+pub mod AdditionResults
+pub mod DraftResults
 pub mod Drafts
-pub mod Draws
-pub mod Extending
 pub mod Invariants
 pub mod Namings
 pub mod RouteGrammar

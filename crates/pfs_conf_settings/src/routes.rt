@@ -1,7 +1,7 @@
 //! A route: what packets to some addresses leave by.
 
 ghost use Rattle.std.specs.Prelude.{◌≡◌, IfOk};
-ghost use Rattle.pfs_conf_tokens.specs.Giving.{Gives};
+ghost use Rattle.pfs_conf_tokens.specs.TokenResults.{Gives};
 ghost use Rattle.pfs_conf_values.specs.Routes.{IsRoute};
 ghost use Rattle.pfs_conf_settings.specs.RouteGrammar.{interface_named, is_no_interface};
 ghost use Rattle.pfs_conf_settings.specs.Routes.{leaving_at, leaving_name_at, prefix_at, route_at};

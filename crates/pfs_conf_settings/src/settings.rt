@@ -2,9 +2,9 @@
 
 ghost use Rattle.std.specs.Prelude.{◌≡◌, ◌≤◌, Some, IfOk};
 ghost use Rattle.pfs_conf_tokens.specs.Reading.{closes_braces, act, number_at, until_all, next_of};
-ghost use Rattle.pfs_conf_tokens.specs.Giving.{Gives};
-ghost use Rattle.pfs_conf_settings.specs.Draws.{Draws};
-ghost use Rattle.pfs_conf_settings.specs.Extending.{Extends};
+ghost use Rattle.pfs_conf_tokens.specs.TokenResults.{Gives};
+ghost use Rattle.pfs_conf_settings.specs.DraftResults.{Draws};
+ghost use Rattle.pfs_conf_settings.specs.AdditionResults.{Extends};
 ghost use Rattle.pfs_conf_settings.specs.Routes.{routed_at};
 ghost use Rattle.pfs_conf_settings.specs.Settings.{timeout_named, bounded_at, least_value, greatest_value, limit_statement, timeout_statement, limit_at, profile_at, time_at, setting_at, lined_setting_at, some_settings_at, settings_at};
 

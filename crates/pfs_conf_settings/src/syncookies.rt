@@ -1,7 +1,7 @@
 //! What follows `set syncookies`.
 
 ghost use Rattle.std.specs.Prelude.{◌≡◌, ◌≤◌, IfOk};
-ghost use Rattle.pfs_conf_tokens.specs.Giving.{Gives};
+ghost use Rattle.pfs_conf_tokens.specs.TokenResults.{Gives};
 ghost use Rattle.pfs_conf_settings.specs.Drafts.{has_broken_shares};
 ghost use Rattle.pfs_conf_settings.specs.Syncookies.{shares_closed_at, end_share_at, share_at, share_of, share_written, shares_at, start_share_at, start_within, syncookies_at};
 

@@ -3,9 +3,9 @@
 ghost use Rattle.std.specs.Prelude.{◌≡◌, [], Some};
 ghost use Rattle.pfs_conf_tokens.specs.Keys.{ends_line};
 ghost use Rattle.pfs_conf_tokens.specs.Reading.{chain, closes_braces, done, list_all, next_of, until_all, up_to_all};
-ghost use Rattle.pfs_conf_tokens.specs.Giving.{GivesOrMemory};
+ghost use Rattle.pfs_conf_tokens.specs.TokenResults.{GivesOrMemory};
 ghost use Rattle.pfs_conf_settings.specs.Tables.{entry_at, lined_entry_at, braced_entries_at, is_same_sign, part_at, parts_at};
-ghost use Rattle.pfs_conf_settings.specs.Extending.{Extends};
+ghost use Rattle.pfs_conf_settings.specs.AdditionResults.{Extends};
 
 use crate::entries::EntryDraft;
 use pfs_addr::parse_prefix;

@@ -309,7 +309,7 @@ pub up_to_is : {A : Type 0} (closer : Key) (stops : Key → Bool) (Step : A → 
 up_to_is closer stops Step step closing is a ts c left e = up_to_turns closer stops Step step closing is (suc (length ts)) a ts c left e
 
 -- what makes steps readable up to a token: `follow` are the keys before which a step is read
-pub record Reads {A : Type 0} (closer : Key) (stops : Key → Bool) (follow : Key → Bool) (Step : A → List Tok → A → List Tok → Type 0) (step : A → List Tok → Result (A × List Tok) Refused) : Type 0 where
+pub record ReadsSteps {A : Type 0} (closer : Key) (stops : Key → Bool) (follow : Key → Bool) (Step : A → List Tok → A → List Tok → Type 0) (step : A → List Tok → Result (A × List Tok) Refused) : Type 0 where
   pub closes : stops closer ≡ true
   pub close_follows : follow closer ≡ true
   pub begins : {a b : A} {ts left : List Tok} → Step a ts b left → (stops (head ts).key ≡ false) × (follow (head ts).key ≡ true)
@@ -317,13 +317,13 @@ pub record Reads {A : Type 0} (closer : Key) (stops : Key → Bool) (follow : Ke
   pub shrinks : (a : A) → Shrinks (step a)
 
 pub until_follows : {A : Type 0} {closer : Key} {stops : Key → Bool} {follow : Key → Bool} {Step : A → List Tok → A → List Tok → Type 0} {step : A → Reader A} {a c : A} {ts left : List Tok}
-    → Reads closer stops follow Step step → Until closer Step a ts c left → follow (head ts).key ≡ true
+    → ReadsSteps closer stops follow Step step → Until closer Step a ts c left → follow (head ts).key ≡ true
 until_follows r (ends w) = rw (word_head w).0 r.close_follows
 until_follows r (goes s u) = (r.begins s).1
 
 -- steps up to a closing token are read up to it
 pub until_reads : {A : Type 0} {closer : Key} {stops : Key → Bool} {follow : Key → Bool} {Step : A → List Tok → A → List Tok → Type 0} {step : A → Reader A} {a c : A} {ts left : List Tok}
-    → Reads closer stops follow Step step → Until closer Step a ts c left → until_all stops step a ts ≡ Ok (c, left)
+    → ReadsSteps closer stops follow Step step → Until closer Step a ts c left → until_all stops step a ts ≡ Ok (c, left)
 until_reads {stops = stops} {step = step} {a = a} {ts = ts} r (ends w) =
     let h = word_head w in
     let e : stops (head ts).key ≡ true = rw h.0 r.closes in
@@ -332,13 +332,13 @@ until_reads {stops = stops} {step = step} {a = a} {ts = ts} r (goes {b = b} {mid
     until_goes_on stops step a b ts mid r.shrinks (r.begins s).0 (r.reads s (until_follows r u)) ∙ until_reads r u
 
 pub up_to_follows : {A : Type 0} {closer : Key} {stops : Key → Bool} {follow : Key → Bool} {Step : A → List Tok → A → List Tok → Type 0} {step : A → Reader A} {a c : A} {ts left : List Tok}
-    → Reads closer stops follow Step step → UpTo closer Step a ts c left → follow (head ts).key ≡ true
+    → ReadsSteps closer stops follow Step step → UpTo closer Step a ts c left → follow (head ts).key ≡ true
 up_to_follows r (stands e) = rw e r.close_follows
 up_to_follows r (steps s u) = (r.begins s).1
 
 -- steps up to a token that stays are read up to it
 pub up_to_reads : {A : Type 0} {closer : Key} {stops : Key → Bool} {follow : Key → Bool} {Step : A → List Tok → A → List Tok → Type 0} {step : A → Reader A} {a c : A} {ts left : List Tok}
-    → Reads closer stops follow Step step → UpTo closer Step a ts c left → up_to_all stops step a ts ≡ Ok (c, left)
+    → ReadsSteps closer stops follow Step step → UpTo closer Step a ts c left → up_to_all stops step a ts ≡ Ok (c, left)
 up_to_reads {stops = stops} {step = step} {a = a} {ts = ts} r (stands g) =
     let e : stops (head ts).key ≡ true = rw g r.closes in
     up_to_stops stops step a ts e
@@ -401,7 +401,7 @@ next_begins r (plain q) = let b = r.begins q in (b.0, b.1)
 next_begins r (comma w q) = rw (word_head w).0 (r.comma_goes, r.comma_follows)
 
 pub next_items_read : {A : Type 0} {closer : Key} {stops : Key → Bool} {follow : Key → Bool} {Item : A → List Tok → A → List Tok → Type 0} {item : A → Reader A}
-    → ReadsList closer stops follow Item item → Reads closer stops follow (NextOf Item) (next_of item)
+    → ReadsList closer stops follow Item item → ReadsSteps closer stops follow (NextOf Item) (next_of item)
 next_items_read {item = item} r = record { closes = r.closes; close_follows = r.close_follows; begins = λ q. next_begins r q; reads = λ q f. next_reads r q f; shrinks = next_shrinks item r.shrinks }
 
 -- a list is read

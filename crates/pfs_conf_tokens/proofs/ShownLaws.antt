@@ -62,13 +62,13 @@ run_word [] (b ∷ bs) h e = let f : is_word_byte b ≡ false = not-true (is_wor
 run_word (b ∷ w) more h e = let p = and_parts (is_word_byte b) (list_all is_word_byte w) h in rw p.0 (ap suc (run_word w more p.1 e))
 
 -- a byte of a word separates nothing, and begins no comment and no continued line
-record Plain (b : ℕ) (more : List ℕ) : Type 0 where
+record PlainByte (b : ℕ) (more : List ℕ) : Type 0 where
   space : is_space b ≡ false
   line : (b == 10) ≡ false
   comment : (b == 35) ≡ false
   joined : (b == 92 && in_front 10 more) ≡ false
 
-word_plain : (b : ℕ) (more : List ℕ) → is_word_byte b ≡ true → Plain b more
+word_plain : (b : ℕ) (more : List ℕ) → is_word_byte b ≡ true → PlainByte b more
 word_plain b more e =
     let p = and_parts (leb 33 b && leb b 126) (not (is_mark b || b == 35 || b == 34 || b == 92)) e in
     let q = and_parts (leb 33 b) (leb b 126) p.0 in
@@ -198,7 +198,7 @@ split_around_append byte front behind e =
 
 -- ---- marks, spaces, quoted names, line ends
 
-mark_plain : (b : ℕ) (more : List ℕ) → is_mark b ≡ true → Plain b more
+mark_plain : (b : ℕ) (more : List ℕ) → is_mark b ≡ true → PlainByte b more
 mark_plain b more e = record {
   space = grind (arith, nat_tests);
   line = grind (arith, nat_tests);

@@ -7,5 +7,5 @@ pub mod Scanning
 pub mod Numbers
 pub mod Reading
 pub mod Values
-pub mod Giving
+pub mod TokenResults
 pub mod Grammar

@@ -4,7 +4,7 @@ ghost use Rattle.std.specs.Prelude.{◌≡◌, ◌<◌, ◌==◌, length, positi
 ghost use Rattle.pfs_conf_tokens.specs.Numbers.{number_written, split_around};
 ghost use Rattle.pfs_conf_tokens.specs.Reading.{number_at};
 ghost use Rattle.pfs_conf_tokens.specs.Grammar.{skip_lines};
-ghost use Rattle.pfs_conf_tokens.specs.Giving.{Gives};
+ghost use Rattle.pfs_conf_tokens.specs.TokenResults.{Gives};
 
 use crate::cursors::Cursor;
 use crate::keys::Key;

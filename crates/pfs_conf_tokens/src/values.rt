@@ -2,7 +2,7 @@
 
 ghost use Rattle.std.specs.Prelude.{◌≡◌, Option};
 ghost use Rattle.pfs_conf_tokens.specs.Reading.{act};
-ghost use Rattle.pfs_conf_tokens.specs.Giving.{Gives};
+ghost use Rattle.pfs_conf_tokens.specs.TokenResults.{Gives};
 ghost use Rattle.pfs_conf_tokens.specs.Values.{table_name_at, valued};
 
 use crate::cursors::Cursor;

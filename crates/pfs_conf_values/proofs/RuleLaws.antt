@@ -73,8 +73,8 @@ rule_at_IsRule conf sound n r h = by (slice_get conf.items n) refl
 pub options_of-AreOptions : (conf : Conf) → IsConfig conf → (n : ℕ) → AreOptions (length conf.tables) (options_of conf n)
 options_of-AreOptions conf sound n = by (rule_at conf n) refl
   where
-    Kept : Option Rule → Type 0
-    Kept o = AreOptions (length conf.tables) (unwrap_or (option_and_then (λ (r : Rule). options_in r.action) o) no_options)
+    OptionsKept : Option Rule → Type 0
+    OptionsKept o = AreOptions (length conf.tables) (unwrap_or (option_and_then (λ (r : Rule). options_in r.action) o) no_options)
 
     in_action : (a : Action) → IsAction (length conf.tables) a → AreOptions (length conf.tables) (unwrap_or (options_in a) no_options)
     in_action action.Match k = no_options_AreOptions (length conf.tables)

@@ -11,11 +11,11 @@ use std::marker::Model;
 
 /// A key, as the table of a set has it. Clauses see the key.
 #[derive(Debug, Clone, Copy, PartialEq, Eq, Hash)]
-pub(crate) struct Entry {
+pub(crate) struct KeyEntry {
     key: FlowKey,
 }
 
-impl Model for Entry {
+impl Model for KeyEntry {
     ghost use Rattle.pfs_addr_values.specs.declared.packets.FlowKey.{FlowKey};
 
     ghost Value = { FlowKey };
@@ -28,7 +28,7 @@ impl Model for Entry {
 /// A set of keys. Clauses see it as a finite set.
 #[derive(Drop)]
 pub(crate) struct KeySet {
-    table: IndexSet<Entry, RulesHasher>,
+    table: IndexSet<KeyEntry, RulesHasher>,
 }
 
 impl Model for KeySet {
@@ -72,7 +72,7 @@ impl KeySet {
     pub(crate) fn has(&self, key: &FlowKey) -> bool
         ensures { result ≡ contains self.now key.now }
     {
-        self.table.contains(&Entry { key: *key })
+        self.table.contains(&KeyEntry { key: *key })
     }
 
     /// The key comes, if it is not there. `NoMemory` where memory for it is refused; nothing changes then.
@@ -81,7 +81,7 @@ impl KeySet {
         ensures err { OnErr result (self.new ≡ self.old) }
         ensures no_memory { contains self.old key.now ≡ true → IsOk result }
     {
-        self.table.insert(Entry { key: *key })?;
+        self.table.insert(KeyEntry { key: *key })?;
         Ok(())
     }
 
@@ -90,6 +90,6 @@ impl KeySet {
         ensures was { result ≡ contains self.old key.now }
         ensures after { self.new ≡ remove self.old key.now }
     {
-        self.table.swap_remove(&Entry { key: *key })
+        self.table.swap_remove(&KeyEntry { key: *key })
     }
 }

@@ -6,32 +6,32 @@ use pfs_conf_values::RulesHasher;
 use std::test::Fail;
 
 #[derive(Clone, Copy)]
-enum Act {
+enum CookieAct {
     Give,
     Take,
     Turn,
 }
 
 /// What is done, to which key, what a take answers, how many are out then, and whether the key has one
-const ROWS: &[(Act, u16, bool, u64, bool)] = &[
-    (Act::Take, 1, false, 0, false),
-    (Act::Turn, 1, false, 0, false),
-    (Act::Give, 1, false, 1, true),
-    (Act::Give, 1, false, 1, true),
-    (Act::Give, 2, false, 2, true),
-    (Act::Take, 1, true, 1, false),
-    (Act::Take, 1, false, 1, false),
-    (Act::Give, 3, false, 2, true),
+const ROWS: &[(CookieAct, u16, bool, u64, bool)] = &[
+    (CookieAct::Take, 1, false, 0, false),
+    (CookieAct::Turn, 1, false, 0, false),
+    (CookieAct::Give, 1, false, 1, true),
+    (CookieAct::Give, 1, false, 1, true),
+    (CookieAct::Give, 2, false, 2, true),
+    (CookieAct::Take, 1, true, 1, false),
+    (CookieAct::Take, 1, false, 1, false),
+    (CookieAct::Give, 3, false, 2, true),
     // Both stay for one turn. A key that gets another is under the secret in use, and stays for the next.
-    (Act::Turn, 3, false, 2, true),
-    (Act::Give, 2, false, 2, true),
-    (Act::Give, 4, false, 3, true),
-    (Act::Turn, 3, false, 2, false),
-    (Act::Take, 2, true, 1, false),
-    (Act::Turn, 4, false, 0, false),
-    (Act::Give, 4, false, 1, true),
-    (Act::Turn, 4, false, 1, true),
-    (Act::Turn, 4, false, 0, false),
+    (CookieAct::Turn, 3, false, 2, true),
+    (CookieAct::Give, 2, false, 2, true),
+    (CookieAct::Give, 4, false, 3, true),
+    (CookieAct::Turn, 3, false, 2, false),
+    (CookieAct::Take, 2, true, 1, false),
+    (CookieAct::Turn, 4, false, 0, false),
+    (CookieAct::Give, 4, false, 1, true),
+    (CookieAct::Turn, 4, false, 1, true),
+    (CookieAct::Turn, 4, false, 0, false),
 ];
 
 /// A connection by the port of its client; every other one is over IPv6
@@ -57,9 +57,9 @@ fn a_key_has_one_cookie_for_two_turns(rt: HostRuntime) -> Result<(), Fail> {
     for &(act, port, had, out, has) in ROWS {
         let key = key(port);
         match act {
-            Act::Give => cookies.give(&key)?,
-            Act::Take => assert!(rt; cookies.take(&key) == had),
-            Act::Turn => cookies.turn(),
+            CookieAct::Give => cookies.give(&key)?,
+            CookieAct::Take => assert!(rt; cookies.take(&key) == had),
+            CookieAct::Turn => cookies.turn(),
         }
         assert!(rt; cookies.out() == out);
         assert!(rt; cookies.has(&key) == has);

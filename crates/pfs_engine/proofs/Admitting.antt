@@ -8,7 +8,7 @@ use Rattle.pfs_conf_values.specs.declared.items.Rule.{Rule}
 use Rattle.pfs_conf_values.specs.declared.items.RuleNo.{RuleNo}
 use Rattle.pfs_store_contract.specs.Admission.{is_answered, limit_met, world_after_admission}
 use Rattle.pfs_store_contract.specs.Worlds.{World}
-use Rattle.pfs_engine_machine.specs.Machine.{Held, answer_of_action, answer_of_limits, answer_of_rule, held_of, outcome_of_new, answer_of_keys}
+use Rattle.pfs_engine_machine.specs.Machine.{MachineContents, answer_of_action, answer_of_limits, answer_of_rule, held_of, outcome_of_new, answer_of_keys}
 use Rattle.pfs_engine.specs.Packets.{NeedsNoneAt, NeedsNoneAtLimits, NeedsNoneBy}
 use Rattle.pfs_store_contract.specs.Calls.{packet_limit, IsAskedFree}
 use Rattle.pfs_store_contract.specs.declared.records.Limit.{Limit}
@@ -16,14 +16,14 @@ use Rattle.pfs_addr_values.specs.declared.addresses.Addr.{Addr}
 use Rattle.pfs_engine_machine.specs.Sides.{are_free}
 use Rattle.pfs_engine_machine.proofs.Leading.{led_on}
 
-pub told_limits : (conf : Conf) (h : Held) (p going : PacketView) (cookie : Bool) (now : ℕ) (rule : RuleNo) (r : Rule) (o : StateOptions)
+pub told_limits : (conf : Conf) (h : MachineContents) (p going : PacketView) (cookie : Bool) (now : ℕ) (rule : RuleNo) (r : Rule) (o : StateOptions)
     → rule_at conf rule.0 ≡ Some r → r.action ≡ action.Keep o
     → answer_of_limits conf h p going cookie now rule.0 (packet_limit conf h.world p rule.0) ≡ answer_of_rule conf h p going cookie now (Some rule.0)
 told_limits conf h p going cookie now rule r o found keeps =
     let decides : (rule_of conf rule.0).action ≡ action.Keep o = ap (λ (x : Option Rule). (unwrap_or x no_rule).action) found ∙ keeps in
     sym (ap (answer_of_action conf h p going cookie now rule.0) decides)
 
-pub free_limits : (conf : Conf) (h : Held) (p going : PacketView) (rule : RuleNo) (r : Rule) (o : StateOptions)
+pub free_limits : (conf : Conf) (h : MachineContents) (p going : PacketView) (rule : RuleNo) (r : Rule) (o : StateOptions)
     → rule_at conf rule.0 ≡ Some r → r.action ≡ action.Keep o
     → NeedsNoneBy conf h p going (Some rule.0) → NeedsNoneAtLimits conf h.world p going rule.0 (packet_limit conf h.world p rule.0)
 free_limits conf h p going rule r o found keeps none =
@@ -35,7 +35,7 @@ asked_free conf w p going rule None none = tt
 asked_free conf w p going rule (Some l) none = none
 
 -- the same packet, where the world is the same
-pub keys_are_limits : (conf store_conf : Conf) (h : Held) (v : World) (p going : PacketView) (cookie : Bool) (now rule : ℕ) (source : Addr) → store_conf ≡ conf → source ≡ p.source.addr
+pub keys_are_limits : (conf store_conf : Conf) (h : MachineContents) (v : World) (p going : PacketView) (cookie : Bool) (now rule : ℕ) (source : Addr) → store_conf ≡ conf → source ≡ p.source.addr
     → limit_met store_conf h.world rule source ≡ None → v ≡ h.world
     → answer_of_keys conf (held_of v h.tables) p going cookie now rule (are_free v p going)
     ≡ answer_of_limits conf h p going cookie now rule (packet_limit conf h.world p rule)

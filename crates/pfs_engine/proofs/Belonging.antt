@@ -18,13 +18,13 @@ use Rattle.pfs_store_contract.specs.Worlds.{World}
 use Rattle.pfs_store_contract.specs.declared.records.State.{State}
 use Rattle.pfs_store_contract.specs.declared.records.StateNo.{StateNo}
 use Rattle.pfs_store_contract.specs.declared.records.Touched.{Touched}
-use Rattle.pfs_engine_machine.specs.Kept.{IsKept, Rise}
+use Rattle.pfs_engine_machine.specs.MachineInvariants.{IsKept, Rise}
 use Rattle.pfs_engine_machine.specs.Looks.{states_beside}
-use Rattle.pfs_engine_machine.specs.Machine.{Held, answer_of_key, answer_of_state, held_of, going_from, going_of_state}
+use Rattle.pfs_engine_machine.specs.Machine.{MachineContents, answer_of_key, answer_of_state, held_of, going_from, going_of_state}
 use Rattle.pfs_engine_machine.specs.Refusals.{is_tcp}
-use Rattle.pfs_engine.specs.Held.{HeldView, Holds, view_of}
+use Rattle.pfs_engine.specs.Contents.{ContentsView, IsHeldAfter, view_of}
 use Rattle.pfs_engine.specs.Packets.{answer_of_touch}
-use Rattle.pfs_engine.specs.Rooms.{HasRoomFor}
+use Rattle.pfs_engine.specs.OverloadRoom.{HasRoomFor}
 use Rattle.pfs_engine_machine.proofs.Counts.{count-map}
 use Rattle.pfs_engine_machine.proofs.Renewals.{renewed-same}
 use Rattle.pfs_engine_machine.proofs.KeptHandshakes.{proto_of_completed}
@@ -38,7 +38,7 @@ pub found_state : (o : Option State) (number : StateNo) → option_map state_num
 found_state None number e = cc
 found_state (Some s) number e = let same : state_number s ≡ number = cc in (s, refl, ap (λ (n : StateNo). n.0) same)
 
-pub room_after : (conf store_conf : Conf) (m : Held) (p : PacketView) (now : ℕ) (number : StateNo) (t : Touched) (rule : RuleNo) (tables : Holdings)
+pub room_after : (conf store_conf : Conf) (m : MachineContents) (p : PacketView) (now : ℕ) (number : StateNo) (t : Touched) (rule : RuleNo) (tables : Holdings)
     → IsKept conf m now → option_map state_number (state_for m.world p) ≡ Some number
     → option_map state_rule (state_for m.world p) ≡ Some rule
     → Some t ≡ option_map (renewal_of store_conf m.world p now) (state_for m.world p)
@@ -92,12 +92,12 @@ beside_after profile store_conf w after p now number t e is touch_is =
     ∙ (others-after profile s.dir s.source s.number p now w.states ∙ sym (ap (states_beside profile w) found)))
 
 -- what is not told of a packet that completes no handshake, the answer does not ask
-told_where : (conf : Conf) (h : Held) (number now : ℕ) (done : Bool) (t : Touched) → t.completed ≡ done → answer_of_touch conf h number now (told_at done t) ≡ answer_of_touch conf h number now t
+told_where : (conf : Conf) (h : MachineContents) (number now : ℕ) (done : Bool) (t : Touched) → t.completed ≡ done → answer_of_touch conf h number now (told_at done t) ≡ answer_of_touch conf h number now t
 told_where conf h number now true t e = refl
 told_where conf h number now false t e = rw e refl
 
 -- what a packet of the state makes of the machine is what comes of its touch
-pub told_after : (conf store_conf : Conf) (m : Held) (after : World) (p : PacketView) (cookie : Bool) (now : ℕ) (number : StateNo) (t : Touched) → store_conf ≡ conf
+pub told_after : (conf store_conf : Conf) (m : MachineContents) (after : World) (p : PacketView) (cookie : Bool) (now : ℕ) (number : StateNo) (t : Touched) → store_conf ≡ conf
     → option_map state_number (state_for m.world p) ≡ Some number → after ≡ world_touched store_conf m.world p now (state_for m.world p)
     → Some t ≡ option_map (renewal_of store_conf m.world p now) (state_for m.world p)
     → answer_of_touch conf (held_of after m.tables) number.0 now t ≡ answer_of_key conf m p cookie now
@@ -126,7 +126,7 @@ rises_after conf w after p now o r is = subst (λ (v : World). Rise 0 v.states v
     by (Some s) = Rise-map (numbered_state_after s.number p now) (λ (t : State). (renewed-same s.number p now t).number) 0 w.made w.states r
 
 -- how it goes on
-pub going_on : (conf store_conf : Conf) (m : Held) (p : PacketView) (cookie : Bool) (now : ℕ) (number : StateNo) (t : Touched) (key : Option FlowKey)
+pub going_on : (conf store_conf : Conf) (m : MachineContents) (p : PacketView) (cookie : Bool) (now : ℕ) (number : StateNo) (t : Touched) (key : Option FlowKey)
     → option_map state_number (state_for m.world p) ≡ Some number
     → Some t ≡ option_map (renewal_of store_conf m.world p now) (state_for m.world p)
     → key ≡ option_and_then (onward_key p.dir) (state_for m.world p)
@@ -143,6 +143,6 @@ going_on conf store_conf m p cookie now number t key e touch_is key_is =
 -- ---- what is held, opened after room was made
 
 -- it has the configuration, and holds what was held before
-pub opened : {X : Type 0} (before roomy : HeldView X) (conf : Conf) (store : X) (w : World) (holdings : Holdings) → view_of conf store w holdings ≡ roomy → Holds before roomy before.held
+pub opened : {X : Type 0} (before roomy : ContentsView X) (conf : Conf) (store : X) (w : World) (holdings : Holdings) → view_of conf store w holdings ≡ roomy → IsHeldAfter before roomy before.held
     → (conf ≡ before.config) × (held_of w holdings.entries ≡ before.held)
-opened {X = X} before roomy conf store w holdings is same = (ap (λ (v : HeldView X). v.config) is ∙ same.config, ap (λ (v : HeldView X). v.held) is ∙ same.held)
+opened {X = X} before roomy conf store w holdings is same = (ap (λ (v : ContentsView X). v.config) is ∙ same.config, ap (λ (v : ContentsView X). v.held) is ∙ same.held)

@@ -14,8 +14,8 @@ use Rattle.pfs_store_contract.specs.Worlds.{World}
 use Rattle.pfs_store_contract.specs.declared.records.Limit.{Limit}
 use Rattle.pfs_store_contract.specs.declared.records.State.{State}
 use Rattle.pfs_engine_machine.specs.Guards.{Guard, asked, brings_cookie, gets_cookie}
-use Rattle.pfs_engine_machine.specs.Machine.{Held, Machine, machine_at_moment, answer_behind_guard, answer_to_packet, answer_of_action, answer_of_exceeded, answer_of_key, answer_of_limits, answer_of_rule, answer_of_state, deciding_rule, exceeded_of, held_behind_guard, held_for, held_of, outcome_of_held, outcome_of_new, packet_ruled, answer_of_keys, answer_of_loss, losing_rule}
-use Rattle.pfs_engine_machine.specs.Kept.{moment_of}
+use Rattle.pfs_engine_machine.specs.Machine.{MachineContents, Machine, machine_at_moment, answer_behind_guard, answer_to_packet, answer_of_action, answer_of_exceeded, answer_of_key, answer_of_limits, answer_of_rule, answer_of_state, deciding_rule, exceeded_of, held_behind_guard, held_for, held_of, outcome_of_held, outcome_of_new, packet_ruled, answer_of_keys, answer_of_loss, losing_rule}
+use Rattle.pfs_engine_machine.specs.MachineInvariants.{moment_of}
 use Rattle.pfs_engine_machine.specs.Refusals.{IsFree, IsFreeOf}
 use Rattle.pfs_engine_machine.specs.Runs.{IsRefusedIn, NeedsMemory, without_memory}
 use Rattle.pfs_engine_machine.specs.declared.events.Command.{Command}
@@ -29,7 +29,7 @@ use Rattle.pfs_engine.specs.Calls.{answer_at_last, met_held}
 use Rattle.pfs_engine.specs.Packets.{NeedsNone, NeedsNoneAt, NeedsNoneBehindGuard, NeedsNoneBy, NeedsNoneOf, NeedsNoneUnless, NeedsNoneAtLimits, NeedsNoneUnlessLost}
 use Rattle.pfs_engine_machine.specs.Sides.{state_for, are_free}
 
-free_keys : (conf : Conf) (m : Held) (p going : PacketView) (cookie : Bool) (now rule : ℕ) (free : Bool)
+free_keys : (conf : Conf) (m : MachineContents) (p going : PacketView) (cookie : Bool) (now rule : ℕ) (free : Bool)
     → IsFree conf m.world p (answer_of_keys conf m p going cookie now rule free).0 → free ≡ false
 free_keys conf m p going cookie now rule true none = by (cookie || is_answered conf rule p) none
   where
@@ -38,29 +38,29 @@ free_keys conf m p going cookie now rule true none = by (cookie || is_answered c
     by false none = elim none [ ]
 free_keys conf m p going cookie now rule false none = refl
 
-free_limit : (conf : Conf) (m : Held) (p going : PacketView) (cookie : Bool) (now rule : ℕ) (limit : Option Limit)
+free_limit : (conf : Conf) (m : MachineContents) (p going : PacketView) (cookie : Bool) (now rule : ℕ) (limit : Option Limit)
     → IsFree conf m.world p (answer_of_limits conf m p going cookie now rule limit).0 → NeedsNoneAtLimits conf m.world p going rule limit
 free_limit conf m p going cookie now rule None free = free_keys conf m p going cookie now rule (are_free m.world p going) free
 free_limit conf m p going cookie now rule (Some l) free = free
 
-free_action : (conf : Conf) (m : Held) (p going : PacketView) (cookie : Bool) (now rule : ℕ) (what : Action)
+free_action : (conf : Conf) (m : MachineContents) (p going : PacketView) (cookie : Bool) (now rule : ℕ) (what : Action)
     → IsFree conf m.world p (answer_of_action conf m p going cookie now rule what).0 → NeedsNoneAt conf m p going rule what
 free_action conf m p going cookie now rule action.Match free = tt
 free_action conf m p going cookie now rule action.Block free = tt
 free_action conf m p going cookie now rule action.Pass free = tt
 free_action conf m p going cookie now rule (action.Keep o) free = free_limit conf m p going cookie now rule (packet_limit conf m.world p rule) free
 
-free_rule : (conf : Conf) (m : Held) (p going : PacketView) (cookie : Bool) (now : ℕ) (rule : Option ℕ)
+free_rule : (conf : Conf) (m : MachineContents) (p going : PacketView) (cookie : Bool) (now : ℕ) (rule : Option ℕ)
     → IsFree conf m.world p (answer_of_rule conf m p going cookie now rule).0 → NeedsNoneBy conf m p going rule
 free_rule conf m p going cookie now None free = tt
 free_rule conf m p going cookie now (Some rule) free = free_action conf m p going cookie now rule (rule_of conf rule).action free
 
-free_loss : (conf : Conf) (m : Held) (p going : PacketView) (cookie : Bool) (now : ℕ) (decides loses : Option ℕ)
+free_loss : (conf : Conf) (m : MachineContents) (p going : PacketView) (cookie : Bool) (now : ℕ) (decides loses : Option ℕ)
     → IsFree conf m.world p (answer_of_loss conf m p going cookie now decides loses).0 → NeedsNoneUnlessLost conf m p going decides loses
 free_loss conf m p going cookie now decides None free = free_rule conf m p going cookie now decides free
 free_loss conf m p going cookie now decides (Some rule) free = tt
 
-free_state : (conf : Conf) (m : Held) (p : PacketView) (cookie : Bool) (now : ℕ) (found : Option State)
+free_state : (conf : Conf) (m : MachineContents) (p : PacketView) (cookie : Bool) (now : ℕ) (found : Option State)
     → IsFree conf m.world p (answer_of_state conf m p cookie now found).0 → NeedsNone conf m p cookie found
 free_state conf m p cookie now None free =
     free_loss conf m p (packet_ruled conf m (asked p cookie)) cookie now (deciding_rule conf m (asked p cookie)) (losing_rule conf m (asked p cookie)) free
@@ -76,10 +76,10 @@ free_state conf m p cookie now (Some s) free = by (is_taken p s) (is_asking p s)
     by true false None of = of
     by false asks None of = of
 
-needs_none : (conf : Conf) (m : Held) (p : PacketView) (cookie : Bool) (now : ℕ) → IsFree conf m.world p (answer_of_key conf m p cookie now).0 → NeedsNoneOf conf m p cookie
+needs_none : (conf : Conf) (m : MachineContents) (p : PacketView) (cookie : Bool) (now : ℕ) → IsFree conf m.world p (answer_of_key conf m p cookie now).0 → NeedsNoneOf conf m p cookie
 needs_none conf m p cookie now free = free_state conf m p cookie now (state_for m.world p) free
 
-pub needs_none_behind_guard : (conf : Conf) (g : Guard) (h : Held) (p : PacketView) (now : ℕ)
+pub needs_none_behind_guard : (conf : Conf) (g : Guard) (h : MachineContents) (p : PacketView) (now : ℕ)
     → IsFree conf (held_behind_guard conf g h p now).world p (answer_behind_guard conf g h p now).0 → NeedsNoneBehindGuard conf g h p now
 needs_none_behind_guard conf g h p now = by (gets_cookie conf g h.world p)
   where

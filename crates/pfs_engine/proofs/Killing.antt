@@ -9,7 +9,7 @@ use Rattle.pfs_store_contract.specs.Handshakes.{flush_of, goes_with, over_rate, 
 use Rattle.pfs_store_contract.specs.Leaving.{world_without}
 use Rattle.pfs_store_contract.specs.Worlds.{World}
 use Rattle.pfs_store_contract.specs.declared.records.Touched.{Touched}
-use Rattle.pfs_engine_machine.specs.Machine.{Held, addition_of, answer_of_exceeded, exceeded_of, held_of, outcome_of_held, tables_after_addition}
+use Rattle.pfs_engine_machine.specs.Machine.{MachineContents, addition_of, answer_of_exceeded, exceeded_of, held_of, outcome_of_held, tables_after_addition}
 use Rattle.pfs_engine_machine.specs.declared.events.Exceeded.{Exceeded}
 use Rattle.pfs_engine_machine.specs.declared.events.Outcome.{Outcome}
 use Rattle.pfs_engine_machine.specs.declared.events.Outcome.TheVariants as outcome
@@ -23,12 +23,12 @@ use Rattle.pfs_conf_values.specs.declared.items.RuleNo.{RuleNo}
 use Rattle.pfs_store_contract.proofs.LeavingLaws.{without-twice}
 use Rattle.pfs_store_contract.specs.Calls.{other_than}
 use Rattle.pfs_store_contract.specs.declared.records.State.{State}
-use Rattle.pfs_engine_machine.specs.Kept.{Rise}
+use Rattle.pfs_engine_machine.specs.MachineInvariants.{Rise}
 use Rattle.pfs_engine.specs.Meters.{stays_beside}
 use Rattle.pfs_engine_machine.proofs.Counts.{count-rest}
 
 -- by the options of the rule, the limits, what became of the source, and what was killed
-pub told_of_kill : (conf : Conf) (h : Held) (number now : ℕ) (t : Touched) (o : StateOptions) (limits : Exceeded) (added : Option Added) (killed : ℕ) (after : World)
+pub told_of_kill : (conf : Conf) (h : MachineContents) (number now : ℕ) (t : Touched) (o : StateOptions) (limits : Exceeded) (added : Option Added) (killed : ℕ) (after : World)
     (tables : List (List Entry)) → t.completed ≡ true → options_of conf t.rule.0 ≡ o
     → exceeded_of (exceeds_maximum o.max_src_conn t.connections) (over_rate o.max_src_conn_rate t.score.value) ≡ Some limits
     → added ≡ addition_of conf h.tables t.source o.overload
@@ -38,7 +38,7 @@ pub told_of_kill : (conf : Conf) (h : Held) (number now : ℕ) (t : Touched) (o 
     → (outcome.Kill t.rule limits added killed, held_of after tables) ≡ answer_of_touch conf h number now t
 told_of_kill conf h number now t o limits added killed after tables completed options exceeded a b c d =
     let limits_by : StateOptions → Option Exceeded = λ r. exceeded_of (exceeds_maximum r.max_src_conn t.connections) (over_rate r.max_src_conn_rate t.score.value) in
-    let answer_by : StateOptions → Outcome × Held = λ r. (
+    let answer_by : StateOptions → Outcome × MachineContents = λ r. (
       outcome.Kill t.rule limits (addition_of conf h.tables t.source r.overload) (length (filter (goes_with conf.profile (flush_of r.overload) number t.dir t.rule t.source) h.world.states)),
       held_of (world_without conf h.world (stays_at_kill conf.profile (flush_of r.overload) number t.dir t.rule t.source) now) (tables_after_addition conf h.tables t.source now r.overload),
     ) in

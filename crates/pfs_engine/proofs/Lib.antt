@@ -2,7 +2,7 @@ mod Admitting
 mod Belonging
 mod Due
 mod Free
-mod Keeping
+mod KeptByCalls
 mod Killing
 mod Metering
 mod Numbered

@@ -6,7 +6,7 @@ use Rattle.pfs_conf_values.specs.Configs.{Conf}
 use Rattle.pfs_store_contract.specs.Calls.{state_number}
 use Rattle.pfs_store_contract.specs.declared.records.State.{State}
 use Rattle.pfs_engine_machine.specs.Looks.{AreLooks, AreLooksBehind, states_beside}
-use Rattle.pfs_engine_machine.specs.Machine.{Held}
+use Rattle.pfs_engine_machine.specs.Machine.{MachineContents}
 use Rattle.pfs_engine_machine.specs.Visits.{AreVisits}
 use Rattle.pfs_engine_machine.specs.declared.events.Outcome.{Outcome}
 use Rattle.pfs_engine.specs.Meters.{AreFirstLooks, AreMetersOf}
@@ -32,7 +32,7 @@ where_refused : {E : Type 0} (r : Result Outcome E) (first : ℕ) → OnErr r (f
 where_refused (Ok o) first = tt
 where_refused (Err x) first = refl
 
-pub meters_by_rules : {E : Type 0} (counts : Bool) (conf : Conf) (h met : Held) (p : PacketView) (cookie : Bool) (answer : Result Outcome E) (first compared : ℕ)
+pub meters_by_rules : {E : Type 0} (counts : Bool) (conf : Conf) (h met : MachineContents) (p : PacketView) (cookie : Bool) (answer : Result Outcome E) (first compared : ℕ)
     → state_for met.world p ≡ None → AreVisits conf met p cookie None compared → AreFirstLooks counts conf h.world p first
     → IfOk answer (λ o. AreLooks conf 0 o 0) → AreMetersOf counts conf h met p cookie answer compared first
 meters_by_rules counts conf h met p cookie answer first compared none visits firsts no_looks = record {

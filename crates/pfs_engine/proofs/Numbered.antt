@@ -12,8 +12,8 @@ use Rattle.pfs_store_contract.specs.Calls.{state_number}
 use Rattle.pfs_store_contract.specs.Worlds.{World, holds_number, state_numbered, inner_key, state_inside, state_with}
 use Rattle.pfs_store_contract.specs.declared.records.State.{State}
 use Rattle.pfs_store_contract.specs.declared.records.StateNo.{StateNo}
-use Rattle.pfs_engine_machine.specs.Kept.{IsKept, IsPlain, Rise}
-use Rattle.pfs_engine_machine.specs.Machine.{Held}
+use Rattle.pfs_engine_machine.specs.MachineInvariants.{IsKept, IsPlain, Rise}
+use Rattle.pfs_engine_machine.specs.Machine.{MachineContents}
 use Rattle.pfs_engine_machine.specs.Sides.{met_key, state_for, are_free}
 use Rattle.pfs_engine_machine.proofs.Keys.{found-by}
 use Rattle.pfs_engine_machine.proofs.Numbers.{Rise-alone}
@@ -50,13 +50,13 @@ found-any p (y ∷ ys) x e = go (p y) e (found-any p ys x)
     go false e rest = rest e
 
 -- the state of a packet, by its number
-numbered-state : (conf : Conf) (h : Held) (p : PacketView) (now : ℕ) (s : State) → IsKept conf h now → state_for h.world p ≡ Some s → state_numbered s.number h.world ≡ Some s
+numbered-state : (conf : Conf) (h : MachineContents) (p : PacketView) (now : ℕ) (s : State) → IsKept conf h now → state_for h.world p ≡ Some s → state_numbered s.number h.world ≡ Some s
 numbered-state conf h p now s k found =
     let there = sym (found-by h.world p) ∙ found in
     let test : State → Bool = λ t. same_key (met_key p t) (key_of p) in
     by-number test s h.world.states (Rise-alone test s 0 h.world.made h.world.states k.numbers there) there
 
-pub numbered-found : (conf : Conf) (h : Held) (p : PacketView) (now : ℕ) (number : StateNo) → IsKept conf h now → option_map state_number (state_for h.world p) ≡ Some number
+pub numbered-found : (conf : Conf) (h : MachineContents) (p : PacketView) (now : ℕ) (number : StateNo) → IsKept conf h now → option_map state_number (state_for h.world p) ≡ Some number
     → state_numbered number.0 h.world ≡ state_for h.world p
 numbered-found conf h p now number k e = by (state_for h.world p) refl e
   where
@@ -66,7 +66,7 @@ numbered-found conf h p now number k e = by (state_for h.world p) refl e
         let same : state_number s ≡ number = cc in
         ap (λ (n : StateNo). state_numbered n.0 h.world) (sym same) ∙ numbered-state conf h p now s k f
 
-pub number-held : (conf : Conf) (h : Held) (p : PacketView) (now : ℕ) (number : StateNo) → IsKept conf h now → option_map state_number (state_for h.world p) ≡ Some number
+pub number-held : (conf : Conf) (h : MachineContents) (p : PacketView) (now : ℕ) (number : StateNo) → IsKept conf h now → option_map state_number (state_for h.world p) ≡ Some number
     → holds_number h.world.states number.0 ≡ true
 number-held conf h p now number k e = by (state_for h.world p) refl e
   where
@@ -123,7 +123,7 @@ plain-found conf key (s ∷ ss) none all =
     rw (own, rest) refl
 
 -- one that meets no state, and goes on under its own key, makes one whose keys are free
-pub plain-free : (conf : Conf) (h : Held) (p going : PacketView) (now : ℕ) → IsKept conf h now → state_for h.world p ≡ None → key_of going ≡ key_of p → translates conf ≡ false
+pub plain-free : (conf : Conf) (h : MachineContents) (p going : PacketView) (now : ℕ) → IsKept conf h now → state_for h.world p ≡ None → key_of going ≡ key_of p → translates conf ≡ false
     → are_free h.world p going ≡ true
 plain-free conf h p going now k fresh same none =
     ap (λ (x : FlowKey). is_none (state_with (wire_side p.dir (key_of p) x) h.world) && is_none (state_inside (inner_side p.dir (key_of p) x) h.world)) same

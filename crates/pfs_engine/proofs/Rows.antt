@@ -60,7 +60,7 @@ of-packet (arrival.Packet p) is = refl
 of-packet arrival.Skip is = absurd is
 of-packet (arrival.Table table done) is = absurd is
 of-packet (arrival.Kill hosts) is = absurd is
-of-packet arrival.Held is = absurd is
+of-packet arrival.HeldQuery is = absurd is
 
 packets-both : (conf : Conf) (m : Machine) (r f : Event) → Some f ≡ second_of_record conf m r → IsPacket f.what
     → packets_in (events_of_record conf m r) ≡ packets_of (first_event conf m r).what + 1
@@ -124,7 +124,7 @@ first-arrival conf w (arrival.Packet p) none = ap (λ (q : PacketView). arrival.
 first-arrival conf w arrival.Skip alone = refl
 first-arrival conf w (arrival.Table table done) alone = refl
 first-arrival conf w (arrival.Kill hosts) alone = refl
-first-arrival conf w arrival.Held alone = refl
+first-arrival conf w arrival.HeldQuery alone = refl
 
 pub alone-first : (conf : Conf) (m : Machine) (r : Event) → GoesAlone conf r.what → first_event conf m r ≡ r
 alone-first conf m r alone = ap (λ (what : Arrival). record r { what = what }) (first-arrival conf (machine_at_moment conf m r.time).held.world r.what alone)
@@ -139,7 +139,7 @@ second-none conf o None (arrival.Packet p) none = refl
 second-none conf o going arrival.Skip alone = refl
 second-none conf o going (arrival.Table table done) alone = refl
 second-none conf o going (arrival.Kill hosts) alone = refl
-second-none conf o going arrival.Held alone = refl
+second-none conf o going arrival.HeldQuery alone = refl
 
 pub alone-second : (conf : Conf) (r : Event) (o : Outcome) (going : Option PacketView) → GoesAlone conf r.what → second_event conf r r o going ≡ None
 alone-second conf r o going alone = ap (option_map (λ (p : PacketView). record r { what = arrival.Packet p })) (second-none conf o going r.what alone)

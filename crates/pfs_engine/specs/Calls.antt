@@ -8,10 +8,10 @@ use Rattle.pfs_store_contract.specs.Admission.{leaves_node}
 use Rattle.pfs_store_contract.specs.Purging.{node_share, state_share}
 use Rattle.pfs_store_contract.specs.Worlds.{World}
 use Rattle.pfs_store_contract.specs.declared.records.Limit.{Limit}
-use Rattle.pfs_engine_machine.specs.Kept.{IsWithinLimits, IsWithinShared, moment_of}
+use Rattle.pfs_engine_machine.specs.MachineInvariants.{IsWithinLimits, IsWithinShared, moment_of}
 use Rattle.pfs_engine_machine.specs.Guards.{Guard, guard_after_packet}
 use Rattle.pfs_engine_machine.specs.Looks.{looks_before}
-use Rattle.pfs_engine_machine.specs.Machine.{Held, Machine, answer_behind_guard, due, held_behind_guard, held_refused, machine_at_moment, outcome_of_new}
+use Rattle.pfs_engine_machine.specs.Machine.{MachineContents, Machine, answer_behind_guard, due, held_behind_guard, held_refused, machine_at_moment, outcome_of_new}
 use Rattle.pfs_engine_machine.specs.Refusals.{IsDroppedBehindGuard}
 use Rattle.pfs_engine_machine.specs.Runs.{without_memory}
 use Rattle.pfs_store_contract.specs.Seconds.{most_nodes, most_states}
@@ -26,7 +26,7 @@ use Rattle.pfs_engine.specs.Views.{View}
 use Rattle.pfs_engine.specs.declared.works.Work.{Work}
 
 -- the configuration and the first and the last moment stay, and what is held is within the limits
-pub record Keeps (before after : View) : Type 0 where
+pub record StaysAtMoment (before after : View) : Type 0 where
   pub config : after.config ≡ before.config
   pub first : after.machine.first ≡ before.machine.first
   pub last : after.machine.last ≡ before.machine.last
@@ -55,10 +55,10 @@ pub record CountsPacket {X E : Type 0} (answer : Result X E) (before after : ℕ
   pub err : OnErr answer (after ≡ before)
 
 -- what a packet meets at the last moment, and what comes of it
-abbrev pub met_held : Conf → Machine → PacketView → Held
+abbrev pub met_held : Conf → Machine → PacketView → MachineContents
 met_held conf m p = held_behind_guard conf m.guard m.held p (moment_of m.last)
 
-abbrev pub answer_at_last : Conf → Machine → PacketView → Outcome × Held
+abbrev pub answer_at_last : Conf → Machine → PacketView → Outcome × MachineContents
 answer_at_last conf m p = answer_behind_guard conf m.guard m.held p (moment_of m.last)
 
 -- the guard after it
@@ -70,7 +70,7 @@ abbrev pub IsDroppedAtLast : Conf → Machine → PacketView → RuleNo → Limi
 IsDroppedAtLast conf m p rule limit = IsDroppedBehindGuard conf m.guard m.held p (moment_of m.last) rule.0 limit
 
 -- a machine of which this is held, behind this guard
-abbrev pub holding : Machine → Held → Guard → Machine
+abbrev pub holding : Machine → MachineContents → Guard → Machine
 holding m h g = record m { held = h; guard = g }
 
 -- a state is refused exactly where a limit is met; then nothing that is held has changed but the node that `max` leaves under OpenBSD's
@@ -90,7 +90,7 @@ pub record IsAnsweredBy {E : Type 0} (answer : Result Outcome E) (p : PacketView
   pub ok : IfOk answer (λ o. (o, after.machine.held) ≡ answer_at_last before.config before.machine p)
   pub guard : OnOk answer (after.machine.guard ≡ guard_at_last before.config before.machine p)
   pub err : OnErr answer (after.machine ≡ without_memory before.config before.machine (moment_of before.machine.last) (arrival.Packet p))
-  pub keeps : Keeps before after
+  pub keeps : StaysAtMoment before after
   pub taken : CountsPacket answer before.taken after.taken
 
 -- what it has to do with limits: a state is refused exactly where one is met; and a new state of a rule with shared source nodes

@@ -1,8 +1,8 @@
 pub mod Calls
+pub mod Contents
 pub mod Guarding
-pub mod Held
 pub mod Meters
+pub mod OverloadRoom
 pub mod Packets
-pub mod Rooms
 pub mod Views
 pub mod Ways

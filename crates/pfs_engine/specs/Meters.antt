@@ -12,13 +12,13 @@ use Rattle.pfs_store_contract.specs.Worlds.{World}
 use Rattle.pfs_store_contract.specs.declared.records.State.{State}
 use Rattle.pfs_engine_machine.specs.Guards.{Guard}
 use Rattle.pfs_engine_machine.specs.Looks.{AreLooks, AreLooksBehind, first_looks, looks_before, states_beside}
-use Rattle.pfs_engine_machine.specs.Machine.{Held, held_behind_guard}
+use Rattle.pfs_engine_machine.specs.Machine.{MachineContents, held_behind_guard}
 use Rattle.pfs_engine_machine.specs.Visits.{AreVisits, AreVisitsBehindGuard}
 use Rattle.pfs_engine_machine.specs.Sides.{state_for}
 use Rattle.pfs_engine_machine.specs.declared.events.Outcome.{Outcome}
 
 -- the looks of a packet behind the guard, by what came of it
-abbrev pub AreLooksBehindGuard : Conf → Guard → Held → PacketView → ℕ → ℕ → Outcome → Type 0
+abbrev pub AreLooksBehindGuard : Conf → Guard → MachineContents → PacketView → ℕ → ℕ → Outcome → Type 0
 AreLooksBehindGuard conf g h p now looks o =
     let met = held_behind_guard conf g h p now in
     AreLooksBehind (looks_before conf g h.world p) (AreLooks conf (states_beside conf.profile met.world (state_for met.world p)) o) looks
@@ -37,7 +37,7 @@ pub record AreFirstLooks (counts : Bool) (conf : Conf) (w : World) (p : PacketVi
 
 -- what the meters show of a packet that finds this held and meets that, and brings a cookie, or not: the items that it is compared
 -- with, and the looks
-pub record AreMetersOf {E : Type 0} (counts : Bool) (conf : Conf) (h met : Held) (p : PacketView) (cookie : Bool) (answer : Result Outcome E) (compared looked : ℕ)
+pub record AreMetersOf {E : Type 0} (counts : Bool) (conf : Conf) (h met : MachineContents) (p : PacketView) (cookie : Bool) (answer : Result Outcome E) (compared looked : ℕ)
     : Type 0 where
   pub visits : AreVisits conf met p cookie (state_for met.world p) compared
   pub first : ℕ
@@ -45,7 +45,7 @@ pub record AreMetersOf {E : Type 0} (counts : Bool) (conf : Conf) (h met : Held)
   pub looks : AreLooksOf counts conf met.world p answer first looked
 
 -- and of a packet behind the guard
-pub record AreMetersBehindGuard {E : Type 0} (counts : Bool) (conf : Conf) (g : Guard) (h : Held) (p : PacketView) (now : ℕ) (answer : Result Outcome E) (compared looked : ℕ)
+pub record AreMetersBehindGuard {E : Type 0} (counts : Bool) (conf : Conf) (g : Guard) (h : MachineContents) (p : PacketView) (now : ℕ) (answer : Result Outcome E) (compared looked : ℕ)
     : Type 0 where
   pub visits : AreVisitsBehindGuard conf g h p now compared
   pub looks : counts ≡ true → IfOk answer (AreLooksBehindGuard conf g h p now looked)

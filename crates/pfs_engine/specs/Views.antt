@@ -4,12 +4,12 @@ use Rattle.pfs_addr_values.specs.Packets.{PacketView, run_limit}
 use Rattle.pfs_conf_values.specs.Configs.{Conf}
 use Rattle.pfs_conf_values.specs.Invariants.{IsConfig}
 use Rattle.pfs_engine_machine.specs.Guards.{Guard}
-use Rattle.pfs_engine_machine.specs.Kept.{IsKept, moment_of}
-use Rattle.pfs_engine_machine.specs.Machine.{Held, Machine}
+use Rattle.pfs_engine_machine.specs.MachineInvariants.{IsKept, moment_of}
+use Rattle.pfs_engine_machine.specs.Machine.{MachineContents, Machine}
 use Rattle.pfs_engine.specs.declared.works.Work.{Work}
 
 -- the machine of what is held, of the guard before it, and of a first and a last moment
-abbrev pub machine_at : Held → Guard → Option ℕ → Option ℕ → Machine
+abbrev pub machine_at : MachineContents → Guard → Option ℕ → Option ℕ → Machine
 machine_at held guard first last = record { held = held; guard = guard; first = first; last = last }
 
 -- the configuration, the machine, how many packets were answered, the packet of the latest event as it goes on, and the work of the latest

@@ -6,16 +6,16 @@ ghost use Rattle.pfs_addr_values.specs.Packets.{run_limit};
 ghost use Rattle.pfs_store_contract.specs.Worlds.{empty_world};
 ghost use Rattle.pfs_conf_values.specs.Configs.{limit_of};
 ghost use Rattle.pfs_eval.specs.Tables.{entered_to};
-ghost use Rattle.pfs_engine_machine.specs.Kept.{IsWithinLimits, moment_of};
+ghost use Rattle.pfs_engine_machine.specs.MachineInvariants.{IsWithinLimits, moment_of};
 ghost use Rattle.pfs_engine_machine.specs.Refusals.{IsFree};
 ghost use Rattle.pfs_engine_machine.specs.Machine.{machine_at_moment, amounts_of, answer_to_command, answer_to_kill, due, entries_held, going_behind_guard, sent_on, nodes_held, start, states_held, step, machine_after, outcomes_of};
 ghost use Rattle.pfs_engine_machine.specs.Runs.{MayChange, MayCome, AreAllowed, IsInOrder, IsPacket, IsRefusedIn, IsStopped, NeedsMemory, packets_in, packets_of};
 ghost use Rattle.pfs_engine_machine.specs.Ways.{IsRefusedOnWay, events_of_record, first_event, way, way_on};
-ghost use Rattle.pfs_engine.specs.Calls.{CountsEvent, CountsPacket, IsAnsweredBy, IsAt, IsLimited, IsWorkBehind, IsWorkOfEvent, IsWorkOfPacket, IsWorkOfSeconds, Keeps, StaysWithin, answer_at_last, met_held};
+ghost use Rattle.pfs_engine.specs.Calls.{CountsEvent, CountsPacket, IsAnsweredBy, IsAt, IsLimited, IsWorkBehind, IsWorkOfEvent, IsWorkOfPacket, IsWorkOfSeconds, StaysAtMoment, StaysWithin, answer_at_last, met_held};
 ghost use Rattle.pfs_engine.specs.Ways.{GoesAlone, HasRoutes, IsWorkBehindFirst, IsWorkOfWay, record_of_packet};
 
-use crate::guard::Guard;
-use crate::held::Held;
+use crate::contents::EngineContents;
+use crate::guard::EngineGuard;
 use crate::packets::{Meters, answer_behind_guard};
 use crate::passing::pass_due;
 use crate::ways::{first_packet, may_go_on, second_packet};
@@ -37,8 +37,8 @@ use std::marker::Model;
 /// within the limits, as each call that changes it says.
 #[derive(Drop)]
 pub struct Engine<S: Store> {
-    held: Held<S>,
-    guard: Guard,
+    held: EngineContents<S>,
+    guard: EngineGuard,
     first: Option<u64>,
     last: Option<u64>,
     taken: u64,
@@ -78,9 +78,9 @@ impl<S: Store + Drop> Engine<S> {
         ensures limits { IfOk result (λ e. IsWithinLimits e.config e.machine.held) }
         ensures work { IfOk result (λ e. e.work ≡ record { visits = 0; looks = 0; slices = 0; most_states = 0; most_nodes = 0 }) }
     {
-        let guard = Guard::new(alloc, &config);
+        let guard = EngineGuard::new(alloc, &config);
         Ok(Engine {
-            held: Held::new(alloc, config, store)?,
+            held: EngineContents::new(alloc, config, store)?,
             guard,
             first: None,
             last: None,
@@ -241,7 +241,7 @@ impl<S: Store> Engine<S> {
         requires table { MayChange self.old.config table.0 }
         ensures answer { (Outcome.Expire result, self.new.machine.held)
             ≡ answer_to_command self.old.config self.old.machine.held (moment_of self.old.machine.first) (moment_of self.old.machine.last) table.0 (Command.Expire seconds) }
-        ensures keeps { Keeps self.old self.new }
+        ensures keeps { StaysAtMoment self.old self.new }
         ensures guard { self.new.machine.guard ≡ self.old.machine.guard }
         ensures taken { self.new.taken ≡ self.old.taken }
         ensures work { self.new.work ≡ self.old.work }
@@ -263,7 +263,7 @@ impl<S: Store> Engine<S> {
             ≡ answer_to_command self.old.config self.old.machine.held (moment_of self.old.machine.first) (moment_of self.old.machine.last) table.0 (Command.Add entry.now)) }
         ensures err { OnErr result (self.new.machine ≡ self.old.machine) }
         ensures needed { OnErr result (entered_to self.old.machine.held.tables (limit_of self.old.config LimitName.TableEntries) table.0 entry.now ≡ Entered.New) }
-        ensures keeps { Keeps self.old self.new }
+        ensures keeps { StaysAtMoment self.old self.new }
         ensures guard { self.new.machine.guard ≡ self.old.machine.guard }
         ensures taken { self.new.taken ≡ self.old.taken }
         ensures work { self.new.work ≡ self.old.work }
@@ -281,7 +281,7 @@ impl<S: Store> Engine<S> {
         requires table { MayChange self.old.config table.0 }
         ensures answer { (Outcome.Delete result, self.new.machine.held)
             ≡ answer_to_command self.old.config self.old.machine.held (moment_of self.old.machine.first) (moment_of self.old.machine.last) table.0 (Command.Delete entry.now) }
-        ensures keeps { Keeps self.old self.new }
+        ensures keeps { StaysAtMoment self.old self.new }
         ensures guard { self.new.machine.guard ≡ self.old.machine.guard }
         ensures taken { self.new.taken ≡ self.old.taken }
         ensures work { self.new.work ≡ self.old.work }
@@ -299,7 +299,7 @@ impl<S: Store> Engine<S> {
             (moment_of self.old.machine.first) (moment_of self.old.machine.last) table.0 command.now) }
         ensures err { OnErr result (self.new.machine ≡ self.old.machine) }
         ensures needed { OnErr result (NeedsMemory self.old.config self.old.machine.guard self.old.machine.held (moment_of self.old.machine.last) (Arrival.Table table command.now)) }
-        ensures keeps { Keeps self.old self.new }
+        ensures keeps { StaysAtMoment self.old self.new }
         ensures guard { self.new.machine.guard ≡ self.old.machine.guard }
         ensures taken { self.new.taken ≡ self.old.taken }
         ensures work { self.new.work ≡ self.old.work }
@@ -320,7 +320,7 @@ impl<S: Store> Engine<S> {
         requires started { IsSome self.old.machine.last }
         ensures answer { (Outcome.Killed result, self.new.machine.held)
             ≡ answer_to_kill self.old.config self.old.machine.held (moment_of self.old.machine.last) hosts.now }
-        ensures keeps { Keeps self.old self.new }
+        ensures keeps { StaysAtMoment self.old self.new }
         ensures guard { self.new.machine.guard ≡ self.old.machine.guard }
         ensures taken { self.new.taken ≡ self.old.taken }
         ensures work { self.new.work ≡ self.old.work }
@@ -343,7 +343,7 @@ impl<S: Store> Engine<S> {
 
     /// Takes one event: lets time pass to its moment, in seconds, which is not before the last one, and then takes what comes.
     /// Fewer than 2,000,000,000 packets were taken before, and a command is about a table of the configuration's that is
-    /// not `const`. The outcome is what `packet` or `command` answers, `Skip`, `Killed` with what `kill` answers, or `Held` with what
+    /// not `const`. The outcome is what `packet` or `command` answers, `Skip`, `Killed` with what `kill` answers, or `EngineContents` with what
     /// `amounts` answers.
     ///
     /// `NoMemory` where memory was refused to what needs it: a packet that gets a SYN cookie, or makes a new state, a source node or an
@@ -371,7 +371,7 @@ impl<S: Store> Engine<S> {
             Arrival::Skip => Ok(Outcome::Skip),
             Arrival::Table { table, command } => self.command(*table, command),
             Arrival::Kill(hosts) => Ok(Outcome::Killed(self.kill(hosts))),
-            Arrival::Held => Ok(Outcome::Held(self.amounts())),
+            Arrival::HeldQuery => Ok(Outcome::HeldAnswer(self.amounts())),
         }
     }
 

@@ -6,7 +6,7 @@ ghost use Rattle.pfs_cookies.specs.Cookies.{has_cookie};
 ghost use Rattle.pfs_engine_machine.specs.Guards.{answers_in, are_on, brings_cookie, gets_cookie, guard_begun, guard_given, guard_rested, guard_taken, guard_turned, no_guard, share_of_states, stays_on};
 ghost use Rattle.pfs_engine.specs.Guarding.{HasNoTurn, IsNextTurn, guard_on};
 
-use crate::held::Held;
+use crate::contents::EngineContents;
 use pfs_addr_values::{Dir, FlowKey, NoMemory, Packet, Proto};
 use pfs_conf_values::{Config, LimitName, Syncookies};
 use pfs_cookies::Cookies;
@@ -18,13 +18,13 @@ use std::marker::Model;
 /// The guard: whether `adaptive` is on, the moment in seconds from which the secret turns, and the cookies that are out. Clauses
 /// see the machine's `Guard`. (pf.conf(5), OPTIONS, "set syncookies")
 #[derive(Drop)]
-pub(crate) struct Guard {
+pub(crate) struct EngineGuard {
     on: bool,
     since: Option<u64>,
     out: Cookies,
 }
 
-impl Model for Guard {
+impl Model for EngineGuard {
     ghost use Rattle.std.specs.Coded.{codes};
     ghost use Rattle.pfs_cookies.specs.Cookies.{cookies_code};
     ghost use Rattle.pfs_engine_machine.specs.Guards.{Guard};
@@ -36,13 +36,13 @@ impl Model for Guard {
     ghost view = { λ g. record { on = g.on; since = g.since; out = g.out } };
 }
 
-impl Guard {
+impl EngineGuard {
     /// The guard before the first event. The keys of cookies come from strangers, and will be found by the configuration's own
     /// hasher. It takes no memory.
-    pub(crate) fn new(alloc: Global, config: &Config) -> Guard
+    pub(crate) fn new(alloc: Global, config: &Config) -> EngineGuard
         ensures { result ≡ no_guard }
     {
-        Guard {
+        EngineGuard {
             on: false,
             since: None,
             out: Cookies::new(alloc, config.hasher()),
@@ -50,7 +50,7 @@ impl Guard {
     }
 
     /// Whether a packet gets a cookie: it asks for a connection from outside while cookies are on, or where they go on.
-    pub(crate) fn gets_cookie<S: Store>(&self, held: &Held<S>, packet: &Packet) -> bool
+    pub(crate) fn gets_cookie<S: Store>(&self, held: &EngineContents<S>, packet: &Packet) -> bool
         ensures { result ≡ gets_cookie held.now.config self.now held.now.held.world packet.now }
     {
         match held.config.syncookies() {
@@ -93,7 +93,7 @@ impl Guard {
     }
 
     /// Whether a packet brings a cookie: it answers from outside, no state has its key, and its key has a cookie out.
-    pub(crate) fn brings_cookie<S: Store>(&self, held: &Held<S>, packet: &Packet) -> bool
+    pub(crate) fn brings_cookie<S: Store>(&self, held: &EngineContents<S>, packet: &Packet) -> bool
         ensures { result ≡ brings_cookie self.now held.now.held.world packet.now }
     {
         self.answers_one(packet) && held.is_new(packet)
@@ -142,7 +142,7 @@ impl Guard {
 
     /// The secret turns, behind the slices of a second. First `adaptive` goes off, unless it stays on. Where cookies are off and none
     /// is out, turning ends; else the other secret is used from now on, and what was out under it is forgotten.
-    pub(crate) fn turn<S: Store>(&mut self, held: &Held<S>)
+    pub(crate) fn turn<S: Store>(&mut self, held: &EngineContents<S>)
         ensures { self.new ≡ guard_turned held.now.config (guard_rested held.now.config held.now.held.world self.old) }
     {
         self.on = self.on && self.stays_on(held);
@@ -165,7 +165,7 @@ impl Guard {
     }
 
     /// Whether `adaptive` stays on: half open states and cookies that are out, together, are not fewer than its end.
-    fn stays_on<S: Store>(&self, held: &Held<S>) -> bool
+    fn stays_on<S: Store>(&self, held: &EngineContents<S>) -> bool
         ensures { result ≡ stays_on held.now.config held.now.held.world self.now.out held.now.config.syncookies }
     {
         match held.config.syncookies() {

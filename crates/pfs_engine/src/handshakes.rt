@@ -12,24 +12,24 @@ ghost use Rattle.pfs_store_contract.specs.Calls.{other_than, source_states};
 ghost use Rattle.pfs_store_contract.specs.Handshakes.{stays_at_kill, flush_of, goes_with, over_rate};
 ghost use Rattle.pfs_store_contract.specs.Leaving.{world_without};
 ghost use Rattle.pfs_store_contract.specs.declared.records.State.{State};
-ghost use Rattle.pfs_engine_machine.specs.Kept.{IsKept, Rise};
+ghost use Rattle.pfs_engine_machine.specs.MachineInvariants.{IsKept, Rise};
 ghost use Rattle.pfs_engine_machine.specs.Looks.{AreLooks, AreLooksOfKill};
 ghost use Rattle.pfs_engine_machine.specs.Machine.{addition_of, answer_of_key, exceeded_of, going_from, outcome_of_held, tables_after_addition};
 ghost use Rattle.pfs_engine_machine.specs.Refusals.{IsFreeOf, is_tcp};
 ghost use Rattle.pfs_engine_machine.specs.Sides.{state_for};
 ghost use Rattle.pfs_engine.specs.Ways.{HasRoutes};
-ghost use Rattle.pfs_engine.specs.Held.{Holds, IsAnswered, IsDone, IsReachedBy, tables_held};
+ghost use Rattle.pfs_engine.specs.Contents.{IsHeldAfter, IsAnswered, IsDone, IsReachedBy, tables_held};
 ghost use Rattle.pfs_engine.specs.Meters.{AreFurtherLooks, AreLooksOf, AreLooksOfFlush, stays_beside};
 ghost use Rattle.pfs_engine.specs.Packets.{answer_of_touch};
-ghost use Rattle.pfs_engine.specs.Rooms.{HasRoomFor};
+ghost use Rattle.pfs_engine.specs.OverloadRoom.{HasRoomFor};
 
-use crate::held::Held;
+use crate::contents::EngineContents;
 use crate::ways::may_go_on;
 use pfs_addr_values::{Addr, Dir, FlowKey, Meter, NoMemory, Packet, Proto, TagNo};
 use pfs_conf_values::{Config, LimitName, Overload, Rate, RuleNo, Scope, StateOptions};
 use pfs_engine_machine::{Exceeded, Outcome};
 use pfs_eval::{Added, Tables};
-use pfs_store_contract::{Found, Store, Touched};
+use pfs_store_contract::{StateHandle, Store, Touched};
 use pfs_track::Score;
 
 /// What a packet does that has the key of a held state: the state is renewed, and where its handshake
@@ -40,8 +40,8 @@ use pfs_track::Score;
 /// where it is refused, and then nothing has changed. (pf.conf(5), STATEFUL TRACKING OPTIONS,
 /// "max-src-conn", "max-src-conn-rate" and "overload")
 pub(crate) fn take_packet_of_state<S: Store>(
-    held: &mut Held<S>,
-    found: Found,
+    held: &mut EngineContents<S>,
+    found: StateHandle,
     packet: &Packet,
     now: u64,
     going: &mut Option<Packet>,
@@ -78,8 +78,12 @@ fn sent_on(packet: &Packet, tag: Option<TagNo>, key: &Option<FlowKey>) -> Packet
 }
 
 /// Room for one more entry in the overload table of a rule, where a packet of its state may complete a handshake.
-fn make_room<S: Store>(held: &mut Held<S>, rule: RuleNo, packet: &Packet) -> Result<(), NoMemory>
-    ensures same { Holds held.old held.new held.old.held }
+fn make_room<S: Store>(
+    held: &mut EngineContents<S>,
+    rule: RuleNo,
+    packet: &Packet,
+) -> Result<(), NoMemory>
+    ensures same { IsHeldAfter held.old held.new held.old.held }
     ensures store { held.new.store ≡ held.old.store }
     ensures room { OnOk result (is_tcp packet.now.proto ≡ true → HasRoomFor (tables_held held.new) (options_of held.old.config rule.0).overload) }
     ensures other { is_tcp packet.now.proto ≡ false → IsOk result }
@@ -113,8 +117,8 @@ fn options(config: &Config, rule: RuleNo) -> Option<&StateOptions>
 /// What comes of a packet that touched the state that was found: where its handshake completes past a limit of its rule, the
 /// source is added to the overload table and states are killed.
 fn complete_handshake<S: Store>(
-    held: &mut Held<S>,
-    found: Found,
+    held: &mut EngineContents<S>,
+    found: StateHandle,
     touched: &Touched,
     now: u64,
     looks: &mut Meter,
@@ -233,7 +237,7 @@ fn add_source(
 /// with it.
 #[derive(Clone, Copy)]
 struct Killing {
-    found: Found,
+    found: StateHandle,
     dir: Dir,
     rule: RuleNo,
     source: Addr,

@@ -1,10 +1,10 @@
 //! The machine over any store: what one event does, and a run of events.
 #![tactic(auto)]
 
+mod contents;
 mod engine;
 mod guard;
 mod handshakes;
-mod held;
 pub mod laws;
 mod packets;
 mod passing;

@@ -8,24 +8,24 @@ ghost use Rattle.pfs_conf_values.specs.Configs.{options_at, translates};
 ghost use Rattle.pfs_store_contract.specs.Calls.{packet_limit, state_number, state_rule};
 ghost use Rattle.pfs_store_contract.specs.Touching.{may_reopen, reopens};
 ghost use Rattle.pfs_engine_machine.specs.Guards.{asked, guard_after_packet, guard_for};
-ghost use Rattle.pfs_engine_machine.specs.Kept.{IsKept};
+ghost use Rattle.pfs_engine_machine.specs.MachineInvariants.{IsKept};
 ghost use Rattle.pfs_engine_machine.specs.Looks.{AreLooks};
 ghost use Rattle.pfs_engine_machine.specs.Machine.{answer_of_keys, answer_of_limits, answer_of_rule, answer_of_rules, deciding_rule, going_behind_guard, going_from, going_of_state, held_for, outcome_of_new, outcome_of_pass, packet_ruled};
 ghost use Rattle.pfs_engine_machine.specs.Sides.{are_free, state_for};
 ghost use Rattle.pfs_engine_machine.specs.Visits.{AreVisits};
 ghost use Rattle.pfs_engine.specs.Ways.{HasRoutes};
-ghost use Rattle.pfs_engine.specs.Held.{Holds, IsAnswered, IsAnsweredBehindGuard, IsAnsweredTo, IsReachedBy};
+ghost use Rattle.pfs_engine.specs.Contents.{IsHeldAfter, IsAnswered, IsAnsweredBehindGuard, IsAnsweredTo, IsReachedBy};
 ghost use Rattle.pfs_engine.specs.Meters.{AreFirstLooks, AreMetersBehindGuard, AreMetersOf};
 ghost use Rattle.pfs_engine.specs.Packets.{IsFreeUnlessTranslated, NeedsNone, NeedsNoneAtLimits, NeedsNoneBehindGuard, NeedsNoneBy, NeedsNoneOf};
 
-use crate::guard::Guard;
+use crate::contents::EngineContents;
+use crate::guard::EngineGuard;
 use crate::handshakes::take_packet_of_state;
-use crate::held::Held;
 use crate::ways::may_go_on;
 use pfs_addr_values::{Flags, Meter, NoMemory, Packet};
 use pfs_conf_values::{Action, Config, RuleNo};
 use pfs_engine_machine::Outcome;
-use pfs_store_contract::{Found, Store, is_answered};
+use pfs_store_contract::{StateHandle, Store, is_answered};
 
 /// The meters of one packet.
 #[derive(Drop)]
@@ -52,8 +52,8 @@ impl Meters {
 /// brings. `going` becomes the packet as it goes on, where it does, and there are routes. On an error what it meets is held, behind the guard that it meets.
 /// (pf.conf(5), STATEFUL FILTERING)
 pub(crate) fn answer_behind_guard<S: Store>(
-    guard: &mut Guard,
-    held: &mut Held<S>,
+    guard: &mut EngineGuard,
+    held: &mut EngineContents<S>,
     packet: &Packet,
     now: u64,
     going: &mut Option<Packet>,
@@ -87,7 +87,7 @@ pub(crate) fn answer_behind_guard<S: Store>(
 
 /// What a packet does that gets no cookie, by whether it brings one.
 fn answer<S: Store>(
-    held: &mut Held<S>,
+    held: &mut EngineContents<S>,
     packet: &Packet,
     cookie: bool,
     now: u64,
@@ -113,11 +113,16 @@ fn answer<S: Store>(
 
 /// The state of a packet, once one has left that the packet does not meet: one that has closed, of a SYN, under the
 /// profile of OpenBSD 7.4. It takes no memory. (pf of OpenBSD 7.4, as it is remembered)
-fn meet<S: Store>(held: &mut Held<S>, packet: &Packet, now: u64, looks: &mut Meter) -> Option<Found>
+fn meet<S: Store>(
+    held: &mut EngineContents<S>,
+    packet: &Packet,
+    now: u64,
+    looks: &mut Meter,
+) -> Option<StateHandle>
     requires kept { IsKept held.old.config held.old.held now }
     requires moment { now ≤ 2 ^ 63 }
     requires looks { looks.old ≡ 0 }
-    ensures held { Holds held.old held.new (held_for held.old.config held.old.held packet.now now) }
+    ensures held { IsHeldAfter held.old held.new (held_for held.old.config held.old.held packet.now now) }
     ensures number { option_map (λ f. f.number) result ≡ option_map state_number (state_for held.new.held.world packet.now) }
     ensures rule { option_map (λ f. f.rule) result ≡ option_map state_rule (state_for held.new.held.world packet.now) }
     ensures reached { IfSome result (λ f. S.reaches held.new.store f ≡ true) }
@@ -133,8 +138,8 @@ fn meet<S: Store>(held: &mut Held<S>, packet: &Packet, now: u64, looks: &mut Met
 
 /// Whether a packet begins the connection of the state that was found anew at a moment, since that has closed.
 fn reopens<S: Store>(
-    held: &Held<S>,
-    found: Found,
+    held: &EngineContents<S>,
+    found: StateHandle,
     packet: &Packet,
     now: u64,
     looks: &mut Meter,
@@ -159,7 +164,7 @@ fn may_reopen(config: &Config, packet: &Packet) -> bool
 
 /// What the rules make of a packet of no held state, or of the SYN whose cookie it brings.
 fn by_rules<S: Store>(
-    held: &mut Held<S>,
+    held: &mut EngineContents<S>,
     packet: &Packet,
     cookie: bool,
     now: u64,
@@ -202,7 +207,7 @@ fn asked(packet: &Packet, cookie: bool) -> Packet
 
 /// What the rule that decides makes of it, which goes on as another packet.
 fn by_action<S: Store>(
-    held: &mut Held<S>,
+    held: &mut EngineContents<S>,
     packet: &Packet,
     going: &Packet,
     rule: RuleNo,
@@ -230,7 +235,7 @@ fn by_action<S: Store>(
 /// What comes of a packet that asks for a state of a rule, where a limit is met, or none.
 #[tactic(auto, using(crate::proofs::Admitting::asked_free))]
 fn by_limits<S: Store>(
-    held: &mut Held<S>,
+    held: &mut EngineContents<S>,
     packet: &Packet,
     going: &Packet,
     rule: RuleNo,
@@ -254,7 +259,7 @@ fn by_limits<S: Store>(
 
 /// What comes of a packet that meets no limit: it makes a state of a rule, unless another state has one of its keys.
 fn by_keys<S: Store>(
-    held: &mut Held<S>,
+    held: &mut EngineContents<S>,
     packet: &Packet,
     going: &Packet,
     rule: RuleNo,

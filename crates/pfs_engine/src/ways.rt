@@ -2,11 +2,11 @@
 
 ghost use Rattle.std.specs.Prelude.{◌≡◌, ◌↔◌, All, IsTrue, true};
 ghost use Rattle.pfs_engine_machine.specs.Guards.{asked};
-ghost use Rattle.pfs_engine_machine.specs.Kept.{IsPlain, Rise};
+ghost use Rattle.pfs_engine_machine.specs.MachineInvariants.{IsPlain, Rise};
 ghost use Rattle.pfs_engine_machine.specs.Ways.{first_packet, onward, leaving, leaves_by, second_packet};
 ghost use Rattle.pfs_engine.specs.Ways.{HasRoutes};
 
-use crate::held::Held;
+use crate::contents::EngineContents;
 use pfs_addr_values::{Addr, Dir, Flags, IfName, Packet};
 use pfs_conf_values::Config;
 use pfs_engine_machine::{Arrival, Outcome};
@@ -21,7 +21,7 @@ pub(crate) fn may_go_on(config: &Config) -> bool
 }
 
 /// The packet of a record, where it is asked first, by what is held at its moment.
-pub(crate) fn first_packet<S: Store>(held: &Held<S>, packet: &Packet) -> Packet
+pub(crate) fn first_packet<S: Store>(held: &EngineContents<S>, packet: &Packet) -> Packet
     requires numbers { Rise 0 held.now.held.world.states held.now.held.world.made }
     requires plain { All (IsPlain held.now.config) held.now.held.world.states }
     ensures { result ≡ first_packet held.now.config held.now.held.world packet.now }

@@ -10,7 +10,7 @@ use Rattle.pfs_eval.specs.Entries.{Entry, holds_host, mark_of, same_sign}
 use Rattle.pfs_eval.proofs.Leaving.{leaving-and-staying}
 use Rattle.pfs_eval.specs.Tables.{added_to, entered_beside, entered_to, entries_after, entries_at, entries_entered, entry_count, entry_since, host_entry}
 use Rattle.pfs_eval.specs.declared.tables.Added.{Added}
-use Rattle.pfs_eval.specs.declared.tables.Added.TheVariants.{New, Held, Full}
+use Rattle.pfs_eval.specs.declared.tables.Added.TheVariants.{New, AlreadyThere, Full}
 use Rattle.pfs_eval.specs.declared.entries.Mark.{Mark}
 use Rattle.pfs_eval.specs.declared.entries.TableEntry.{TableEntry}
 use Rattle.pfs_eval.specs.declared.tables.Entered.{Entered}
@@ -33,7 +33,7 @@ count-set tables t x = by (cases_lt t (length tables))
 
 pub entries_after-size : (tables : List (List Entry)) (t : ℕ) (a : Addr) (now : ℕ) (o : Added) → length (entries_after tables t a now o) ≡ length tables
 entries_after-size tables t a now New = length-set tables t (entries_at tables t ++ host_entry a now ∷ [])
-entries_after-size tables t a now Held = refl
+entries_after-size tables t a now AlreadyThere = refl
 entries_after-size tables t a now Full = refl
 
 pub entries_after-within : (tables : List (List Entry)) (limit t : ℕ) (a : Addr) (now : ℕ) → entry_count tables ≤ limit
@@ -44,7 +44,7 @@ entries_after-within tables limit t a now le = held (holds_host (entries_at tabl
     full true e = le
     full false e = let fewer : entry_count tables < limit = grind (arith, nat_tests) in omega (arith, fewer, count-set tables t (host_entry a now))
 
-    held : (b : Bool) → entry_count (entries_after tables t a now (if b then Held else (if nat_le limit (entry_count tables) then Full else New))) ≤ limit
+    held : (b : Bool) → entry_count (entries_after tables t a now (if b then AlreadyThere else (if nat_le limit (entry_count tables) then Full else New))) ≤ limit
     held true = le
     held false = full (nat_le limit (entry_count tables)) refl
 
@@ -52,7 +52,7 @@ entries_after-within tables limit t a now le = held (holds_host (entries_at tabl
 
 pub entries_entered-size : (tables : List (List Entry)) (t : ℕ) (e : TableEntry) (now : ℕ) (o : Entered) → length (entries_entered tables t e now o) ≡ length tables
 entries_entered-size tables t e now entered.New = length-set tables t (entries_at tables t ++ entry_since e now ∷ [])
-entries_entered-size tables t e now entered.Held = refl
+entries_entered-size tables t e now entered.AlreadyThere = refl
 entries_entered-size tables t e now entered.Conflict = refl
 entries_entered-size tables t e now entered.Full = refl
 
@@ -64,7 +64,7 @@ entries_entered-within tables limit t e now le = by (mark_of (entries_at tables 
     full true f = le
     full false f = let fewer : entry_count tables < limit = grind (arith, nat_tests) in omega (arith, fewer, count-set tables t (entry_since e now))
 
-    held : (b : Bool) → entry_count (entries_entered tables t e now (if b then entered.Held else entered.Conflict)) ≤ limit
+    held : (b : Bool) → entry_count (entries_entered tables t e now (if b then entered.AlreadyThere else entered.Conflict)) ≤ limit
     held true = le
     held false = le
 

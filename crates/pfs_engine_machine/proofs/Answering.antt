@@ -17,9 +17,9 @@ use Rattle.pfs_store_contract.specs.Handshakes.{hits_connections, hits_rate}
 use Rattle.pfs_store_contract.specs.Touching.{completes_at, is_asking, is_taken, world_after_touch}
 use Rattle.pfs_store_contract.specs.declared.records.Limit.{Limit}
 use Rattle.pfs_store_contract.specs.declared.records.State.{State}
-use Rattle.pfs_engine_machine.specs.Kept.{IsKept, IsWithinShared}
+use Rattle.pfs_engine_machine.specs.MachineInvariants.{IsKept, IsWithinShared}
 use Rattle.pfs_engine_machine.specs.Guards.{Guard, asked, brings_cookie, gets_cookie}
-use Rattle.pfs_engine_machine.specs.Machine.{Held, answer_behind_guard, answer_to_packet, answer_of_action, answer_of_exceeded, answer_of_key, answer_of_limits, answer_of_rule, answer_of_state, answer_of_handshake, deciding_rule, exceeded_of, held_behind_guard, held_for, held_of, held_refused, outcome_of_held, outcome_of_new, outcome_of_pass, packet_ruled, answer_of_keys, answer_of_loss, losing_rule}
+use Rattle.pfs_engine_machine.specs.Machine.{MachineContents, answer_behind_guard, answer_to_packet, answer_of_action, answer_of_exceeded, answer_of_key, answer_of_limits, answer_of_rule, answer_of_state, answer_of_handshake, deciding_rule, exceeded_of, held_behind_guard, held_for, held_of, held_refused, outcome_of_held, outcome_of_new, outcome_of_pass, packet_ruled, answer_of_keys, answer_of_loss, losing_rule}
 use Rattle.pfs_engine_machine.specs.Refusals.{IsDropped, IsDroppedBehindGuard}
 use Rattle.pfs_engine_machine.specs.declared.events.Exceeded.{Exceeded}
 use Rattle.pfs_engine_machine.specs.declared.events.Outcome.{Outcome}
@@ -30,7 +30,7 @@ use Rattle.pfs_engine_machine.proofs.Reopening.{kept_met}
 use Rattle.pfs_engine_machine.proofs.Leading.{led_on}
 
 -- what holds of each answer holds of a packet's, which meets this
-pub record Answers (conf : Conf) (m : Held) (p : PacketView) (cookie : Bool) (now : ℕ) (Q : Outcome × Held → Type 0) : Type 0 where
+pub record Answers (conf : Conf) (m : MachineContents) (p : PacketView) (cookie : Bool) (now : ℕ) (Q : Outcome × MachineContents → Type 0) : Type 0 where
   pub held : (s : State) → state_for m.world p ≡ Some s → Q (answer_of_state conf m p cookie now (Some s))
   pub passes : Q (outcome_of_pass None cookie, m)
   pub passed : (rule : ℕ) → Q (outcome_of_pass (Some (record { 0 = rule })) cookie, m)
@@ -42,7 +42,7 @@ pub record Answers (conf : Conf) (m : Held) (p : PacketView) (cookie : Bool) (no
       → state_for m.world p ≡ None → going ≡ packet_ruled conf m (asked p cookie) → Q (outcome_of_new (record { 0 = rule }) (cookie || is_answered conf rule p), held_of (world_after_admission conf m.world p going rule cookie now) m.tables)
 
 -- it is one of no held state, no rule loses it, and this one decides
-record IsAsked (conf : Conf) (m : Held) (p : PacketView) (cookie : Bool) (rule : ℕ) : Type 0 where
+record IsAsked (conf : Conf) (m : MachineContents) (p : PacketView) (cookie : Bool) (rule : ℕ) : Type 0 where
   fresh : state_for m.world p ≡ None
   passes : losing_rule conf m (asked p cookie) ≡ None
   rule_is : deciding_rule conf m (asked p cookie) ≡ Some rule
@@ -52,20 +52,20 @@ keeps_state : (found : Option Rule) (o : StateOptions) → (unwrap_or found no_r
 keeps_state None o e = cc
 keeps_state (Some r) o e = rw e refl
 
-key_answers : (conf : Conf) (m : Held) (p going : PacketView) (cookie : Bool) (now rule : ℕ) (Q : Outcome × Held → Type 0) → Answers conf m p cookie now Q
+key_answers : (conf : Conf) (m : MachineContents) (p going : PacketView) (cookie : Bool) (now rule : ℕ) (Q : Outcome × MachineContents → Type 0) → Answers conf m p cookie now Q
     → packet_limit conf m.world p rule ≡ None → IsLedOn conf p going → state_for m.world p ≡ None → going ≡ packet_ruled conf m (asked p cookie)
     → (free : Bool) → are_free m.world p going ≡ free → Q (answer_of_keys conf m p going cookie now rule free)
 key_answers conf m p going cookie now rule Q a none led fresh same true e = a.made rule going none led e fresh same
 key_answers conf m p going cookie now rule Q a none led fresh same false e = a.conflicts rule
 
-limit_answers : (conf : Conf) (m : Held) (p going : PacketView) (cookie : Bool) (now rule : ℕ) (Q : Outcome × Held → Type 0) → Answers conf m p cookie now Q
+limit_answers : (conf : Conf) (m : MachineContents) (p going : PacketView) (cookie : Bool) (now rule : ℕ) (Q : Outcome × MachineContents → Type 0) → Answers conf m p cookie now Q
     → IsAsked conf m p cookie rule → IsLedOn conf p going → going ≡ packet_ruled conf m (asked p cookie) → IsSome (options_at conf rule)
     → (limit : Option Limit) → packet_limit conf m.world p rule ≡ limit → Q (answer_of_limits conf m p going cookie now rule limit)
 limit_answers conf m p going cookie now rule Q a is led same keeps None e = key_answers conf m p going cookie now rule Q a e led is.fresh same (are_free m.world p going) refl
 limit_answers conf m p going cookie now rule Q a is led same keeps (Some l) e =
     a.refused rule l (record { fresh = is.fresh; passes = is.passes; rule_is = is.rule_is; keeps = keeps; met = e })
 
-action_answers : (conf : Conf) (m : Held) (p going : PacketView) (cookie : Bool) (now rule : ℕ) (Q : Outcome × Held → Type 0) → Answers conf m p cookie now Q
+action_answers : (conf : Conf) (m : MachineContents) (p going : PacketView) (cookie : Bool) (now rule : ℕ) (Q : Outcome × MachineContents → Type 0) → Answers conf m p cookie now Q
     → IsAsked conf m p cookie rule → IsLedOn conf p going → going ≡ packet_ruled conf m (asked p cookie)
     → (what : Action) → (rule_of conf rule).action ≡ what → Q (answer_of_action conf m p going cookie now rule what)
 action_answers conf m p going cookie now rule Q a is led same action.Match e = a.passes
@@ -74,26 +74,26 @@ action_answers conf m p going cookie now rule Q a is led same action.Pass e = a.
 action_answers conf m p going cookie now rule Q a is led same (action.Keep o) e =
     limit_answers conf m p going cookie now rule Q a is led same (keeps_state (rule_at conf rule) o e) (packet_limit conf m.world p rule) refl
 
-rule_answers : (conf : Conf) (m : Held) (p going : PacketView) (cookie : Bool) (now : ℕ) (Q : Outcome × Held → Type 0) → Answers conf m p cookie now Q
+rule_answers : (conf : Conf) (m : MachineContents) (p going : PacketView) (cookie : Bool) (now : ℕ) (Q : Outcome × MachineContents → Type 0) → Answers conf m p cookie now Q
     → state_for m.world p ≡ None → losing_rule conf m (asked p cookie) ≡ None → IsLedOn conf p going → going ≡ packet_ruled conf m (asked p cookie)
     → (rule : Option ℕ) → deciding_rule conf m (asked p cookie) ≡ rule → Q (answer_of_rule conf m p going cookie now rule)
 rule_answers conf m p going cookie now Q a fresh passes led same None e = a.passes
 rule_answers conf m p going cookie now Q a fresh passes led same (Some rule) e =
     action_answers conf m p going cookie now rule Q a (record { fresh = fresh; passes = passes; rule_is = e }) led same (rule_of conf rule).action refl
 
-loss_answers : (conf : Conf) (m : Held) (p : PacketView) (cookie : Bool) (now : ℕ) (Q : Outcome × Held → Type 0) → Answers conf m p cookie now Q
+loss_answers : (conf : Conf) (m : MachineContents) (p : PacketView) (cookie : Bool) (now : ℕ) (Q : Outcome × MachineContents → Type 0) → Answers conf m p cookie now Q
     → state_for m.world p ≡ None → (loses : Option ℕ) → losing_rule conf m (asked p cookie) ≡ loses
     → Q (answer_of_loss conf m p (packet_ruled conf m (asked p cookie)) cookie now (deciding_rule conf m (asked p cookie)) loses)
 loss_answers conf m p cookie now Q a fresh (Some rule) e = a.lost rule
 loss_answers conf m p cookie now Q a fresh None e =
     rule_answers conf m p (packet_ruled conf m (asked p cookie)) cookie now Q a fresh e (led_on conf m p cookie) refl (deciding_rule conf m (asked p cookie)) refl
 
-state_answers : (conf : Conf) (m : Held) (p : PacketView) (cookie : Bool) (now : ℕ) (Q : Outcome × Held → Type 0) → Answers conf m p cookie now Q
+state_answers : (conf : Conf) (m : MachineContents) (p : PacketView) (cookie : Bool) (now : ℕ) (Q : Outcome × MachineContents → Type 0) → Answers conf m p cookie now Q
     → (found : Option State) → state_for m.world p ≡ found → Q (answer_of_state conf m p cookie now found)
 state_answers conf m p cookie now Q a None e = loss_answers conf m p cookie now Q a e (losing_rule conf m (asked p cookie)) refl
 state_answers conf m p cookie now Q a (Some s) e = a.held s e
 
-pub answered_has : (conf : Conf) (m : Held) (p : PacketView) (cookie : Bool) (now : ℕ) (Q : Outcome × Held → Type 0) → Answers conf m p cookie now Q → Q (answer_of_key conf m p cookie now)
+pub answered_has : (conf : Conf) (m : MachineContents) (p : PacketView) (cookie : Bool) (now : ℕ) (Q : Outcome × MachineContents → Type 0) → Answers conf m p cookie now Q → Q (answer_of_key conf m p cookie now)
 answered_has conf m p cookie now Q a = state_answers conf m p cookie now Q a (state_for m.world p) refl
 
 -- ---- a packet of a held state is not refused, and makes no state
@@ -117,14 +117,14 @@ is_of_held (outcome.Expire n) = false
 is_of_held (outcome.Add became) = false
 is_of_held (outcome.Delete n) = false
 is_of_held (outcome.Killed n) = false
-is_of_held (outcome.Held amounts) = false
+is_of_held (outcome.HeldAnswer amounts) = false
 
 told_held : (rule : RuleNo) (taken asks : Bool) → is_of_held (outcome_of_held rule taken asks) ≡ true
 told_held rule true true = refl
 told_held rule true false = refl
 told_held rule false asks = refl
 
-handshake_held : (conf : Conf) (m : Held) (s : State) (now : ℕ) (unhindered : Outcome) (completes : Bool) → is_of_held unhindered ≡ true
+handshake_held : (conf : Conf) (m : MachineContents) (s : State) (now : ℕ) (unhindered : Outcome) (completes : Bool) → is_of_held unhindered ≡ true
     → is_of_held (answer_of_handshake conf m s now unhindered completes).0 ≡ true
 handshake_held conf m s now unhindered completes of = by (if completes then exceeded_of (hits_connections conf m.world s) (hits_rate conf m.world s) else None)
   where
@@ -132,7 +132,7 @@ handshake_held conf m s now unhindered completes of = by (if completes then exce
     by (Some e) = refl
     by None = of
 
-pub state_held : (conf : Conf) (m : Held) (p : PacketView) (cookie : Bool) (now : ℕ) (s : State) → is_of_held (answer_of_state conf m p cookie now (Some s)).0 ≡ true
+pub state_held : (conf : Conf) (m : MachineContents) (p : PacketView) (cookie : Bool) (now : ℕ) (s : State) → is_of_held (answer_of_state conf m p cookie now (Some s)).0 ≡ true
 state_held conf m p cookie now s =
     handshake_held conf (held_of (world_after_touch conf m.world s p now) m.tables) s now (outcome_of_held s.rule (is_taken p s) (is_asking p s)) (completes_at p s)
     (told_held s.rule (is_taken p s) (is_asking p s))
@@ -150,11 +150,11 @@ refuse-pass : {P : Type 0} (r : Option RuleNo) (cookie : Bool) (rule : RuleNo) (
 refuse-pass r true rule limit e = cc
 refuse-pass r false rule limit e = cc
 
-abbrev pub RefusedOnly : Conf → Held → PacketView → Bool → ℕ → Outcome × Held → Type 0
+abbrev pub RefusedOnly : Conf → MachineContents → PacketView → Bool → ℕ → Outcome × MachineContents → Type 0
 RefusedOnly conf m p cookie now a = (rule : RuleNo) (limit : Limit) → a.0 ≡ outcome.Drop rule limit
     → IsDropped conf m p cookie rule.0 limit × (a.1 ≡ held_refused conf m p now rule.0 limit)
 
-pub refused_only : (conf : Conf) (m : Held) (p : PacketView) (cookie : Bool) (now : ℕ) → RefusedOnly conf m p cookie now (answer_of_key conf m p cookie now)
+pub refused_only : (conf : Conf) (m : MachineContents) (p : PacketView) (cookie : Bool) (now : ℕ) → RefusedOnly conf m p cookie now (answer_of_key conf m p cookie now)
 refused_only conf m p cookie now = answered_has conf m p cookie now (RefusedOnly conf m p cookie now) (record {
   held = λ s found rule limit e. absurd (false≢true (sym (ap is_of_held e) ∙ state_held conf m p cookie now s));
   passes = λ rule limit e. refuse-pass None cookie rule limit e;
@@ -188,8 +188,8 @@ new-given : (r : RuleNo) (answered : Bool) → outcome_of_new r answered ≡ out
 new-given r true e = cc
 new-given r false e = cc
 
-pub no_cookie_by_rules : (conf : Conf) (m : Held) (p : PacketView) (cookie : Bool) (now : ℕ) → (answer_of_key conf m p cookie now).0 ≡ outcome.Cookie → ⊥
-no_cookie_by_rules conf m p cookie now = answered_has conf m p cookie now (λ (a : Outcome × Held). a.0 ≡ outcome.Cookie → ⊥) (record {
+pub no_cookie_by_rules : (conf : Conf) (m : MachineContents) (p : PacketView) (cookie : Bool) (now : ℕ) → (answer_of_key conf m p cookie now).0 ≡ outcome.Cookie → ⊥
+no_cookie_by_rules conf m p cookie now = answered_has conf m p cookie now (λ (a : Outcome × MachineContents). a.0 ≡ outcome.Cookie → ⊥) (record {
   held = λ s found e. false≢true (sym (ap is_of_held e) ∙ state_held conf m p cookie now s);
   passes = pass-given None cookie;
   passed = λ r. pass-given (Some (numbered r)) cookie;
@@ -200,10 +200,10 @@ no_cookie_by_rules conf m p cookie now = answered_has conf m p cookie now (λ (a
   made = λ r going none led free fresh same. new-given (numbered r) (cookie || is_answered conf r p);
 })
 
-abbrev pub LeavesAll : Held → Bool → Outcome × Held → Type 0
+abbrev pub LeavesAll : MachineContents → Bool → Outcome × MachineContents → Type 0
 LeavesAll m cookie a = (rule : Option RuleNo) → a.0 ≡ outcome.Stateless rule → (cookie ≡ true) × (a.1 ≡ m)
 
-pub stateless_leaves_all : (conf : Conf) (m : Held) (p : PacketView) (cookie : Bool) (now : ℕ) → LeavesAll m cookie (answer_of_key conf m p cookie now)
+pub stateless_leaves_all : (conf : Conf) (m : MachineContents) (p : PacketView) (cookie : Bool) (now : ℕ) → LeavesAll m cookie (answer_of_key conf m p cookie now)
 stateless_leaves_all conf m p cookie now = answered_has conf m p cookie now (LeavesAll m cookie) (record {
   held = λ s found rule e. absurd (false≢true (sym (ap is_of_held e) ∙ state_held conf m p cookie now s));
   passes = λ rule e. (pass-brought None cookie rule e, refl);
@@ -215,7 +215,7 @@ stateless_leaves_all conf m p cookie now = answered_has conf m p cookie now (Lea
   made = λ r going none led free fresh same rule e. absurd (new-brought (numbered r) (cookie || is_answered conf r p) rule e);
 })
 
-abbrev pub MadeShared : Conf → Held → PacketView → Outcome × Held → Type 0
+abbrev pub MadeShared : Conf → MachineContents → PacketView → Outcome × MachineContents → Type 0
 MadeShared conf m p a = (rule : RuleNo) (answered : Bool) → a.0 ≡ outcome_of_new rule answered → scope_of conf rule.0 ≡ Some scope.Global
     → IsWithinShared conf rule.0 p.source.addr m.world a.1.world
 
@@ -252,13 +252,13 @@ not-held (outcome.Expire n) rule h e = false≢true h
 not-held (outcome.Add became) rule h e = false≢true h
 not-held (outcome.Delete n) rule h e = false≢true h
 not-held (outcome.Killed n) rule h e = false≢true h
-not-held (outcome.Held amounts) rule h e = false≢true h
+not-held (outcome.HeldAnswer amounts) rule h e = false≢true h
 
 -- an outcome that makes a state of a rule tells that rule
 pub made-by : (o : Outcome) (rule : RuleNo) (answered : Bool) → o ≡ outcome_of_new rule answered → maker_of o ≡ Some rule
 made-by o rule answered e = ap maker_of e ∙ maker-new rule answered
 
-pub made_shared : (conf : Conf) (m : Held) (p : PacketView) (cookie : Bool) (now : ℕ) → IsConfig conf → IsKept conf m now → MadeShared conf m p (answer_of_key conf m p cookie now)
+pub made_shared : (conf : Conf) (m : MachineContents) (p : PacketView) (cookie : Bool) (now : ℕ) → IsConfig conf → IsKept conf m now → MadeShared conf m p (answer_of_key conf m p cookie now)
 made_shared conf m p cookie now config kept = answered_has conf m p cookie now (MadeShared conf m p) (record {
   held = λ s found rule answered e. absurd (not-held _ rule (state_held conf m p cookie now s) (made-by _ rule answered e));
   passes = λ rule answered e. absurd (let no = sym (maker-pass None cookie) ∙ made-by _ rule answered e in cc);
@@ -276,7 +276,7 @@ made_shared conf m p cookie now config kept = answered_has conf m p cookie now (
 
 -- ---- behind the guard
 
-refused_behind_guard : (conf : Conf) (g : Guard) (m : Held) (p : PacketView) (now : ℕ) (rule : RuleNo) (limit : Limit)
+refused_behind_guard : (conf : Conf) (g : Guard) (m : MachineContents) (p : PacketView) (now : ℕ) (rule : RuleNo) (limit : Limit)
     → (answer_behind_guard conf g m p now).0 ≡ outcome.Drop rule limit
     → IsDroppedBehindGuard conf g m p now rule.0 limit × ((answer_behind_guard conf g m p now).1 ≡ held_refused conf (held_behind_guard conf g m p now) p now rule.0 limit)
 refused_behind_guard conf g m p now rule limit = by (gets_cookie conf g m.world p) refl
@@ -290,7 +290,7 @@ refused_behind_guard conf g m p now rule limit = by (gets_cookie conf g m.world 
     by true f e = cc
     by false f e = let told = refused_only conf (held_for conf m p now) p cookie now rule limit e in (record { let_on = f; dropped = told.0 }, told.1)
 
-shared_behind_guard : (conf : Conf) (g : Guard) (m : Held) (p : PacketView) (now : ℕ) → IsConfig conf → IsKept conf m now → (rule : RuleNo) (answered : Bool)
+shared_behind_guard : (conf : Conf) (g : Guard) (m : MachineContents) (p : PacketView) (now : ℕ) → IsConfig conf → IsKept conf m now → (rule : RuleNo) (answered : Bool)
     → (answer_behind_guard conf g m p now).0 ≡ outcome_of_new rule answered → scope_of conf rule.0 ≡ Some scope.Global
     → IsWithinShared conf rule.0 p.source.addr (held_behind_guard conf g m p now).world (answer_behind_guard conf g m p now).1.world
 shared_behind_guard conf g m p now config kept rule answered made global = by (gets_cookie conf g m.world p) made
@@ -305,21 +305,21 @@ shared_behind_guard conf g m p now config kept rule answered made global = by (g
 
 -- ---- of an answer that may be out of memory
 
-pub refused_result : {E : Type 0} (conf : Conf) (g : Guard) (m after : Held) (p : PacketView) (now : ℕ) (r : Result Outcome E)
+pub refused_result : {E : Type 0} (conf : Conf) (g : Guard) (m after : MachineContents) (p : PacketView) (now : ℕ) (r : Result Outcome E)
     → IfOk r (λ o. (o, after) ≡ answer_behind_guard conf g m p now) → (rule : RuleNo) (limit : Limit) → r ≡ Ok (outcome.Drop rule limit)
     → IsDroppedBehindGuard conf g m p now rule.0 limit × (after ≡ held_refused conf (held_behind_guard conf g m p now) p now rule.0 limit)
 refused_result conf g m after p now (Ok o) ok rule limit e =
     let dropped : o ≡ outcome.Drop rule limit = cc in
-    let told = refused_behind_guard conf g m p now rule limit (sym (ap (λ (a : Outcome × Held). a.0) ok) ∙ dropped) in
-    (told.0, ap (λ (a : Outcome × Held). a.1) ok ∙ told.1)
+    let told = refused_behind_guard conf g m p now rule limit (sym (ap (λ (a : Outcome × MachineContents). a.0) ok) ∙ dropped) in
+    (told.0, ap (λ (a : Outcome × MachineContents). a.1) ok ∙ told.1)
 refused_result conf g m after p now (Err x) ok rule limit e = cc
 
-pub shared_result : {E : Type 0} (conf : Conf) (g : Guard) (m after : Held) (p : PacketView) (now : ℕ) (r : Result Outcome E) → IsConfig conf → IsKept conf m now
+pub shared_result : {E : Type 0} (conf : Conf) (g : Guard) (m after : MachineContents) (p : PacketView) (now : ℕ) (r : Result Outcome E) → IsConfig conf → IsKept conf m now
     → IfOk r (λ o. (o, after) ≡ answer_behind_guard conf g m p now) → (rule : RuleNo) (answered : Bool) → r ≡ Ok (outcome_of_new rule answered)
     → scope_of conf rule.0 ≡ Some scope.Global → IsWithinShared conf rule.0 p.source.addr (held_behind_guard conf g m p now).world after.world
 shared_result conf g m after p now (Ok o) config kept ok rule answered e global =
     let made : o ≡ outcome_of_new rule answered = cc in
-    let told = shared_behind_guard conf g m p now config kept rule answered (sym (ap (λ (a : Outcome × Held). a.0) ok) ∙ made) global in
-    let is : after ≡ (answer_behind_guard conf g m p now).1 = ap (λ (a : Outcome × Held). a.1) ok in
+    let told = shared_behind_guard conf g m p now config kept rule answered (sym (ap (λ (a : Outcome × MachineContents). a.0) ok) ∙ made) global in
+    let is : after ≡ (answer_behind_guard conf g m p now).1 = ap (λ (a : Outcome × MachineContents). a.1) ok in
     rw is told
 shared_result conf g m after p now (Err x) config kept ok rule answered e global = cc

@@ -15,7 +15,7 @@ use Rattle.pfs_store_contract.specs.Worlds.{World}
 use Rattle.pfs_store_contract.specs.declared.records.NodeScope.{NodeScope}
 use Rattle.pfs_store_contract.specs.declared.records.State.{State}
 use Rattle.pfs_track.specs.StatePhases.{is_done, phase_after}
-use Rattle.pfs_engine_machine.specs.Kept.{IsWithin, TracksAlone, own_scope}
+use Rattle.pfs_engine_machine.specs.MachineInvariants.{IsWithin, TracksAlone, own_scope}
 use Rattle.pfs_engine_machine.proofs.Changes.{count-map_at, count-stay_le}
 use Rattle.pfs_engine_machine.proofs.Renewals.{is_done-same}
 

@@ -17,7 +17,7 @@ use Rattle.pfs_store_contract.specs.Admission.{asks_in}
 use Rattle.pfs_store_contract.specs.Worlds.{World}
 use Rattle.pfs_engine_machine.specs.CookieLife.{asks_again}
 use Rattle.pfs_engine_machine.specs.Guards.{Guard, are_on, brings_cookie, gets_cookie, guard_after_packet, guard_after_seconds, guard_at_second, guard_begun, guard_for, guard_given, guard_rested, guard_taken, guard_turned}
-use Rattle.pfs_engine_machine.specs.Machine.{Held, Machine, due, guard_after_arrival, machine_after, machine_at_moment, step}
+use Rattle.pfs_engine_machine.specs.Machine.{MachineContents, Machine, due, guard_after_arrival, machine_after, machine_at_moment, step}
 use Rattle.pfs_engine_machine.specs.Runs.{IsInOrder}
 use Rattle.pfs_engine_machine.specs.declared.events.Arrival.{Arrival}
 use Rattle.pfs_engine_machine.specs.declared.events.Arrival.TheVariants as arrival
@@ -184,13 +184,13 @@ ends-packet conf key until g w p now other h = by (gets_cookie conf g w p) (brin
 
 -- ---- a run
 
-ends-arrival : (conf : Conf) (key : FlowKey) (until : ℕ) (g : Guard) (h : Held) (now : ℕ) (what : Arrival) → asks_again key what ≡ false
+ends-arrival : (conf : Conf) (key : FlowKey) (until : ℕ) (g : Guard) (h : MachineContents) (now : ℕ) (what : Arrival) → asks_again key what ≡ false
     → EndsBy key until g now → EndsBy key until (guard_after_arrival conf g h now what) now
 ends-arrival conf key until g h now arrival.Skip other k = k
 ends-arrival conf key until g h now (arrival.Packet p) other k = ends-packet conf key until g h.world p now other k
 ends-arrival conf key until g h now (arrival.Table table done) other k = k
 ends-arrival conf key until g h now (arrival.Kill hosts) other k = k
-ends-arrival conf key until g h now arrival.Held other k = k
+ends-arrival conf key until g h now arrival.HeldQuery other k = k
 
 -- at a moment, or at the last one, if that is later
 pub ends-moment : (conf : Conf) (key : FlowKey) (until : ℕ) (m : Machine) (last now : ℕ) → m.last ≡ Some last → EndsBy key until m.guard last

@@ -23,8 +23,8 @@ use Rattle.pfs_engine_machine.specs.declared.events.Outcome.{Outcome}
 use Rattle.pfs_engine_machine.specs.declared.events.Outcome.TheVariants as outcome
 use Rattle.pfs_engine_machine.specs.CookieLife.{CookiesEnd, CookiesLast, IsCookieGiven, NothingIsHeld, asks_again, leaves_nothing}
 use Rattle.pfs_engine_machine.specs.Guards.{Guard, are_on, brings_cookie, gets_cookie, guard_after_packet, guard_after_seconds, guard_at_second, guard_begun, guard_for, guard_given, guard_rested, guard_taken, guard_turned, is_turn}
-use Rattle.pfs_engine_machine.specs.Kept.{moment_of}
-use Rattle.pfs_engine_machine.specs.Machine.{Held, Machine, answer_behind_guard, answer_to_arrival, answer_to_packet, due, first_moment, guard_after_arrival, held_for, machine_after, machine_at_moment, start, step}
+use Rattle.pfs_engine_machine.specs.MachineInvariants.{moment_of}
+use Rattle.pfs_engine_machine.specs.Machine.{MachineContents, Machine, answer_behind_guard, answer_to_arrival, answer_to_packet, due, first_moment, guard_after_arrival, held_for, machine_after, machine_at_moment, start, step}
 use Rattle.pfs_engine_machine.specs.Runs.{IsInOrder}
 use Rattle.pfs_engine_machine.proofs.Answering.{no_cookie_by_rules, stateless_leaves_all}
 use Rattle.pfs_engine_machine.proofs.GuardLaws.{brought-ack}
@@ -36,7 +36,7 @@ use Rattle.pfs_engine_machine.proofs.Running.{machine_after-append, machine_afte
 -- ---- nothing is held
 
 -- one that brings a cookie begins no connection anew
-brought-meets : (conf : Conf) (g : Guard) (h : Held) (p : PacketView) (now : ℕ) → brings_cookie g h.world p ≡ true → held_for conf h p now ≡ h
+brought-meets : (conf : Conf) (g : Guard) (h : MachineContents) (p : PacketView) (now : ℕ) → brings_cookie g h.world p ≡ true → held_for conf h p now ≡ h
 brought-meets conf g h p now e = met_same conf h p now (by (is_openbsd conf.profile) p.flags.syn p.flags.ack (brought-ack g h.world p e))
   where
     by : (of_openbsd syn ack : Bool) → ack ≡ true → (of_openbsd && (syn && not ack)) ≡ false
@@ -45,7 +45,7 @@ brought-meets conf g h p now e = met_same conf h p now (by (is_openbsd conf.prof
     by true false ack k = refl
     by false syn ack k = refl
 
-answered-nothing : (conf : Conf) (g : Guard) (h : Held) (p : PacketView) (now : ℕ) (o : Outcome) → (answer_to_packet conf h p (brings_cookie g h.world p) now).0 ≡ o
+answered-nothing : (conf : Conf) (g : Guard) (h : MachineContents) (p : PacketView) (now : ℕ) (o : Outcome) → (answer_to_packet conf h p (brings_cookie g h.world p) now).0 ≡ o
     → leaves_nothing o ≡ true → (answer_to_packet conf h p (brings_cookie g h.world p) now).1 ≡ h
 answered-nothing conf g h p now outcome.Cookie e k = absurd (no_cookie_by_rules conf (held_for conf h p now) p (brings_cookie g h.world p) now e)
 answered-nothing conf g h p now (outcome.Stateless rule) e k =
@@ -67,20 +67,20 @@ answered-nothing conf g h p now (outcome.Expire n) e k = absurd (false≢true k)
 answered-nothing conf g h p now (outcome.Add became) e k = absurd (false≢true k)
 answered-nothing conf g h p now (outcome.Delete n) e k = absurd (false≢true k)
 answered-nothing conf g h p now (outcome.Killed n) e k = absurd (false≢true k)
-answered-nothing conf g h p now (outcome.Held amounts) e k = absurd (false≢true k)
+answered-nothing conf g h p now (outcome.HeldAnswer amounts) e k = absurd (false≢true k)
 
-guarded-nothing : (conf : Conf) (g : Guard) (h : Held) (p : PacketView) (now : ℕ) → leaves_nothing (answer_behind_guard conf g h p now).0 ≡ true
+guarded-nothing : (conf : Conf) (g : Guard) (h : MachineContents) (p : PacketView) (now : ℕ) → leaves_nothing (answer_behind_guard conf g h p now).0 ≡ true
     → (answer_behind_guard conf g h p now).1 ≡ h
 guarded-nothing conf g h p now = by (gets_cookie conf g h.world p)
   where
-    rules : Outcome × Held
+    rules : Outcome × MachineContents
     rules = answer_to_packet conf h p (brings_cookie g h.world p) now
 
     by : (b : Bool) → leaves_nothing (if b then (outcome.Cookie, h) else rules).0 ≡ true → (if b then (outcome.Cookie, h) else rules).1 ≡ h
     by true k = refl
     by false k = answered-nothing conf g h p now rules.0 refl k
 
-arrived-nothing : (conf : Conf) (g : Guard) (h : Held) (first now : ℕ) (what : Arrival) → leaves_nothing (answer_to_arrival conf g h first now what).0 ≡ true
+arrived-nothing : (conf : Conf) (g : Guard) (h : MachineContents) (first now : ℕ) (what : Arrival) → leaves_nothing (answer_to_arrival conf g h first now what).0 ≡ true
     → (answer_to_arrival conf g h first now what).1 ≡ h
 arrived-nothing conf g h first now arrival.Skip k = refl
 arrived-nothing conf g h first now (arrival.Packet p) k = guarded-nothing conf g h p now k
@@ -88,7 +88,7 @@ arrived-nothing conf g h first now (arrival.Table table (command.Expire seconds)
 arrived-nothing conf g h first now (arrival.Table table (command.Add e)) k = absurd (false≢true k)
 arrived-nothing conf g h first now (arrival.Table table (command.Delete e)) k = absurd (false≢true k)
 arrived-nothing conf g h first now (arrival.Kill hosts) k = absurd (false≢true k)
-arrived-nothing conf g h first now arrival.Held k = refl
+arrived-nothing conf g h first now arrival.HeldQuery k = refl
 
 pub nothing-is-held : (conf : Conf) → NothingIsHeld conf
 unfolding step
@@ -139,12 +139,12 @@ since-packet conf g w p now h = by (gets_cookie conf g w p) (brings_cookie g w p
     by false true = h
     by false false = h
 
-since-arrival : (conf : Conf) (g : Guard) (h : Held) (now : ℕ) (what : Arrival) → IsSince g now → IsSince (guard_after_arrival conf g h now what) now
+since-arrival : (conf : Conf) (g : Guard) (h : MachineContents) (now : ℕ) (what : Arrival) → IsSince g now → IsSince (guard_after_arrival conf g h now what) now
 since-arrival conf g h now arrival.Skip k = k
 since-arrival conf g h now (arrival.Packet p) k = since-packet conf g h.world p now k
 since-arrival conf g h now (arrival.Table table done) k = k
 since-arrival conf g h now (arrival.Kill hosts) k = k
-since-arrival conf g h now arrival.Held k = k
+since-arrival conf g h now arrival.HeldQuery k = k
 
 since-later : (g : Guard) (now later : ℕ) → now ≤ later → IsSince g now → IsSince g later
 since-later g now later le h since e = omega (arith, le, h since e)
@@ -196,7 +196,7 @@ given-new g key now h = record {
 }
 
 -- a packet of which this comes got a cookie
-given-packet : (conf : Conf) (g : Guard) (h : Held) (p : PacketView) (now : ℕ) → (answer_behind_guard conf g h p now).0 ≡ outcome.Cookie → IsSince g now
+given-packet : (conf : Conf) (g : Guard) (h : MachineContents) (p : PacketView) (now : ℕ) → (answer_behind_guard conf g h p now).0 ≡ outcome.Cookie → IsSince g now
     → HasGiven (guard_after_packet conf g h.world p now) (key_of p) now
 given-packet conf g h p now e s = by (gets_cookie conf g h.world p) e
   where
@@ -205,7 +205,7 @@ given-packet conf g h p now e s = by (gets_cookie conf g h.world p) e
     by true k = given-new (guard_for conf g h.world p now) (key_of p) now (since-for conf g h.world p now s)
     by false k = absurd (no_cookie_by_rules conf (held_for conf h p now) p (brings_cookie g h.world p) now k)
 
-given-arrival : (conf : Conf) (g : Guard) (h : Held) (first now : ℕ) (what : Arrival) (p : PacketView) → what ≡ arrival.Packet p
+given-arrival : (conf : Conf) (g : Guard) (h : MachineContents) (first now : ℕ) (what : Arrival) (p : PacketView) → what ≡ arrival.Packet p
     → (answer_to_arrival conf g h first now what).0 ≡ outcome.Cookie → IsSince g now → HasGiven (guard_after_arrival conf g h now what) (key_of p) now
 given-arrival conf g h first now what p same e s =
     let packet : (answer_behind_guard conf g h p now).0 ≡ outcome.Cookie = sym (ap (λ (x : Arrival). (answer_to_arrival conf g h first now x).0) same) ∙ e in

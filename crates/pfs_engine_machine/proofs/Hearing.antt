@@ -30,11 +30,11 @@ use Rattle.pfs_store_contract.specs.declared.records.State.{State}
 use Rattle.pfs_track.specs.Scores.{score_after}
 use Rattle.pfs_track.specs.declared.scores.Score.{Score}
 use Rattle.pfs_engine_machine.proofs.Counts.{any-map, count-map}
-use Rattle.pfs_engine_machine.specs.Kept.{TracksAlone, own_scope}
+use Rattle.pfs_engine_machine.specs.MachineInvariants.{TracksAlone, own_scope}
 use Rattle.pfs_engine_machine.specs.Sides.{state_for, met_key}
 use Rattle.pfs_engine_machine.proofs.Lists.{both, count-found, each-map}
 use Rattle.pfs_store_contract.proofs.ScopeLaws.{same_scope_true}
-use Rattle.pfs_engine_machine.proofs.Remembering.{IsKnown, Knows, Remembers}
+use Rattle.pfs_engine_machine.proofs.Remembering.{IsKnown, KnowsScore, Remembers}
 use Rattle.pfs_engine_machine.proofs.Keys.{found-by}
 
 -- ---- a rule with a rate
@@ -107,8 +107,8 @@ remembers-other rule source seconds now history count other from seconds' nodes 
       noded = λ some. same ∙ r.noded some;
     }
   where
-    one : (n : Node) → is_node (own_scope rule) source n ≡ true → Knows seconds now history count n → (b : Bool) → is_node other from n ≡ b
-        → Knows seconds now history count (cond b (record n { score = score_after seconds' n.score now }) n)
+    one : (n : Node) → is_node (own_scope rule) source n ≡ true → KnowsScore seconds now history count n → (b : Bool) → is_node other from n ≡ b
+        → KnowsScore seconds now history count (cond b (record n { score = score_after seconds' n.score now }) n)
     one n e k false f = k
     one n e k true f = let both_are = one-node (own_scope rule) other source from n e f in absurd (apart both_are.0 both_are.1)
 
@@ -128,8 +128,8 @@ remembers-this rule source seconds now history count nodes some r =
       noded = λ k. same ∙ r.noded k;
     }
   where
-    one : (n : Node) → Knows seconds now history count n → (b : Bool) → b ≡ true
-        → Knows seconds now (score_after seconds history now) count (cond b (record n { score = score_after seconds n.score now }) n)
+    one : (n : Node) → KnowsScore seconds now history count n → (b : Bool) → b ≡ true
+        → KnowsScore seconds now (score_after seconds history now) count (cond b (record n { score = score_after seconds n.score now }) n)
     one n k false e = absurd (false≢true e)
     one n k true e = record {
       agrees = λ t later. ap (λ (x : Score). score_after seconds x t) (k.agrees now (omega arith));

@@ -28,9 +28,9 @@ use Rattle.pfs_store_contract.specs.declared.records.State.{State}
 use Rattle.pfs_track.specs.Scores.{score_after, zero_score}
 use Rattle.pfs_track.specs.declared.scores.Score.{Score}
 use Rattle.pfs_engine_machine.proofs.Counts.{any-push, count-filter_le, count-push}
-use Rattle.pfs_engine_machine.specs.Kept.{moment_of, own_scope}
+use Rattle.pfs_engine_machine.specs.MachineInvariants.{moment_of, own_scope}
 use Rattle.pfs_engine_machine.specs.Guards.{Guard, brings_cookie, gets_cookie}
-use Rattle.pfs_engine_machine.specs.Machine.{Held, Machine, answer_behind_guard, answer_to_arrival, machine_at_moment, answer_to_packet, answer_of_exceeded, answer_of_key, answer_of_state, answer_of_handshake, due, exceeded_of, first_moment, held_for, held_of, outcome_of_held, start, step, machine_after, outcomes_of}
+use Rattle.pfs_engine_machine.specs.Machine.{MachineContents, Machine, answer_behind_guard, answer_to_arrival, machine_at_moment, answer_to_packet, answer_of_exceeded, answer_of_key, answer_of_state, answer_of_handshake, due, exceeded_of, first_moment, held_for, held_of, outcome_of_held, start, step, machine_after, outcomes_of}
 use Rattle.pfs_engine_machine.specs.Rates.{Handshake, completed_state, score_through, handshake_at, handshaking_state, handshakes, history_score, is_from, moments_of, with_handshake}
 use Rattle.pfs_engine_machine.specs.Runs.{IsInOrder}
 use Rattle.pfs_engine_machine.specs.declared.events.Event.{Event}
@@ -44,7 +44,7 @@ use Rattle.pfs_engine_machine.proofs.KeptAdmission.{nodes_with-own}
 use Rattle.pfs_engine_machine.proofs.Limits.{world_with_stray}
 use Rattle.pfs_engine_machine.proofs.Hearing.{IsRated, RemembersIn, found-count, heard, is_of, long, rated, scope-rated, score-this, scored-in, states-touched}
 use Rattle.pfs_engine_machine.proofs.Lists.{both, each-of, each-push}
-use Rattle.pfs_engine_machine.proofs.Remembering.{IsKnown, Knows, Remembers, remembers-later, remembers-left, remembers-purged}
+use Rattle.pfs_engine_machine.proofs.Remembering.{IsKnown, KnowsScore, Remembers, remembers-later, remembers-left, remembers-purged}
 use Rattle.pfs_store_contract.proofs.ScopeLaws.{same_scope_true}
 use Rattle.pfs_engine_machine.specs.RateMemory.{IsHandshake, RateIsRemembered, ScoreIsRemembered, rate_hit, score_compared}
 use Rattle.pfs_engine_machine.specs.Sides.{state_for}
@@ -95,7 +95,7 @@ more-count : (rule : ℕ) (source : Addr) (seconds now : ℕ) (history : Score) 
     → Remembers rule source seconds now history count' nodes
 more-count rule source seconds now history count count' nodes h noded r = record {
   nodes = each-of (IsKnown rule source seconds now history count) (IsKnown rule source seconds now history count')
-      (λ n f e. let k : Knows seconds now history count n = f e in record { agrees = k.agrees; last = k.last; over = λ z. k.over (omega (arith, z, h)) }) nodes r.nodes;
+      (λ n f e. let k : KnowsScore seconds now history count n = f e in record { agrees = k.agrees; last = k.last; over = λ z. k.over (omega (arith, z, h)) }) nodes r.nodes;
   absent = r.absent;
   noded = noded;
 }
@@ -209,7 +209,7 @@ due-in conf rule source x history i w (Some last) now h r =
 -- ---- an event
 
 -- a packet that may begin a connection anew completes no handshake, whichever state it meets
-completed_when_met : (conf : Conf) (h : Held) (p : PacketView) (now : ℕ)
+completed_when_met : (conf : Conf) (h : MachineContents) (p : PacketView) (now : ℕ)
     → completed_state p (state_for (held_for conf h p now).world p) ≡ completed_state p (state_for h.world p)
 completed_when_met conf h p now = by (may_reopen conf p) refl
   where
@@ -219,25 +219,25 @@ completed_when_met conf h p now = by (may_reopen conf p) refl
 
     by : (b : Bool) → may_reopen conf p ≡ b → completed_state p (state_for (held_for conf h p now).world p) ≡ completed_state p (state_for h.world p)
     by true e = none e (state_for (held_for conf h p now).world p) ∙ sym (none e (state_for h.world p))
-    by false e = ap (λ (m : Held). completed_state p (state_for m.world p)) (met_same conf h p now e)
+    by false e = ap (λ (m : MachineContents). completed_state p (state_for m.world p)) (met_same conf h p now e)
 
 -- nor does one that gets a cookie
 none_completed : (conf : Conf) (g : Guard) (w : World) (p : PacketView) (found : Option State) → gets_cookie conf g w p ≡ true → completed_state p found ≡ None
 none_completed conf g w p None gets = refl
 none_completed conf g w p (Some s) gets = ap (λ (b : Bool). cond b (Some s) None) (alone-completes p s (gets-alone conf g w p gets))
 
-answered-in : (conf : Conf) (rule : ℕ) (source : Addr) (x : Rate) (now : ℕ) (history : Score) (h : Held) (p : PacketView) (cookie : Bool) → IsRated conf rule x
+answered-in : (conf : Conf) (rule : ℕ) (source : Addr) (x : Rate) (now : ℕ) (history : Score) (h : MachineContents) (p : PacketView) (cookie : Bool) → IsRated conf rule x
     → RemembersIn conf rule source x.seconds now history h.world
     → RemembersIn conf rule source x.seconds now (heard rule source x.seconds history now (completed_state p (state_for h.world p))) (answer_to_packet conf h p cookie now).1.world
 answered-in conf rule source x now history h p cookie i r =
-    let met : Held = held_for conf h p now in
+    let met : MachineContents = held_for conf h p now in
     let same : completed_state p (state_for met.world p) ≡ completed_state p (state_for h.world p) = completed_when_met conf h p now in
     subst (λ (o : Option State). RemembersIn conf rule source x.seconds now (heard rule source x.seconds history now o) (answer_of_key conf met p cookie now).1.world) same
     (key_has conf met p cookie now (RemembersIn conf rule source x.seconds now (heard rule source x.seconds history now (completed_state p (state_for met.world p))))
     (packet-in conf rule source x now history met.world p cookie i
     (met_has conf h p now (RemembersIn conf rule source x.seconds now history) r (λ stay. without-in conf rule source x now history h.world stay i r))))
 
-guarded-in : (conf : Conf) (rule : ℕ) (source : Addr) (x : Rate) (now : ℕ) (history : Score) (g : Guard) (h : Held) (p : PacketView) → IsRated conf rule x
+guarded-in : (conf : Conf) (rule : ℕ) (source : Addr) (x : Rate) (now : ℕ) (history : Score) (g : Guard) (h : MachineContents) (p : PacketView) → IsRated conf rule x
     → RemembersIn conf rule source x.seconds now history h.world
     → RemembersIn conf rule source x.seconds now (heard rule source x.seconds history now (completed_state p (state_for h.world p))) (answer_behind_guard conf g h p now).1.world
 guarded-in conf rule source x now history g h p i r = by (gets_cookie conf g h.world p) refl
@@ -250,13 +250,13 @@ guarded-in conf rule source x now history g h p i r = by (gets_cookie conf g h.w
     by true e = subst (λ (o : Option State). after o h.world) (sym (none_completed conf g h.world p (state_for h.world p) e)) r
     by false e = answered-in conf rule source x now history h p (brings_cookie g h.world p) i r
 
-acted-in : (conf : Conf) (rule : ℕ) (source : Addr) (x : Rate) (first now : ℕ) (history : Score) (g : Guard) (h : Held) → IsRated conf rule x → (what : Arrival)
+acted-in : (conf : Conf) (rule : ℕ) (source : Addr) (x : Rate) (first now : ℕ) (history : Score) (g : Guard) (h : MachineContents) → IsRated conf rule x → (what : Arrival)
     → RemembersIn conf rule source x.seconds now history h.world
     → RemembersIn conf rule source x.seconds now (heard rule source x.seconds history now (handshaking_state h.world what)) (answer_to_arrival conf g h first now what).1.world
 acted-in conf rule source x first now history g h i arrival.Skip r = r
 acted-in conf rule source x first now history g h i (arrival.Table table done) r = r
 acted-in conf rule source x first now history g h i (arrival.Kill hosts) r = without-in conf rule source x now history h.world (stays_elsewhere hosts) i r
-acted-in conf rule source x first now history g h i arrival.Held r = r
+acted-in conf rule source x first now history g h i arrival.HeldQuery r = r
 acted-in conf rule source x first now history g h i (arrival.Packet p) r = guarded-in conf rule source x now history g h p i r
 
 abbrev RemembersAt : Conf → ℕ → Addr → ℕ → Score → Machine → Type 0
@@ -346,7 +346,7 @@ score-in conf x now history w p s i found act_done r =
     ∙ score-this s.rule.0 s.source x.seconds now history (node_states conf (own_scope s.rule.0) s.source w.states) w.nodes r.nodes (r.noded some)
 
 -- the outcome says whether the score is over the limit
-rate-hit : (conf : Conf) (h : Held) (s : State) (now : ℕ) (taken asks conn rate : Bool)
+rate-hit : (conf : Conf) (h : MachineContents) (s : State) (now : ℕ) (taken asks conn rate : Bool)
     → rate_hit (answer_of_exceeded conf h s.number s.dir s.rule s.source now (outcome_of_held s.rule taken asks) (exceeded_of conn rate)).0 ≡ rate
 rate-hit conf h s now taken asks true true = refl
 rate-hit conf h s now taken asks true false = refl
@@ -355,20 +355,20 @@ rate-hit conf h s now true true false false = refl
 rate-hit conf h s now true false false false = refl
 rate-hit conf h s now false asks false false = refl
 
-hit-in : (conf : Conf) (x : Rate) (now : ℕ) (h : Held) (p : PacketView) (cookie : Bool) (s : State) → IsRated conf s.rule.0 x → completed_state p (state_for h.world p) ≡ Some s
+hit-in : (conf : Conf) (x : Rate) (now : ℕ) (h : MachineContents) (p : PacketView) (cookie : Bool) (s : State) → IsRated conf s.rule.0 x → completed_state p (state_for h.world p) ≡ Some s
     → rate_hit (answer_to_packet conf h p cookie now).0 ≡ nat_lt (1000 * x.limit) (score_in s.source (world_after_touch conf h.world s p now).nodes (node_scope_of conf s.rule.0)).value
 hit-in conf x now h p cookie s i e =
     let q = completed-is p (state_for h.world p) s e in
-    let v : Held = held_of (world_after_touch conf h.world s p now) h.tables in
+    let v : MachineContents = held_of (world_after_touch conf h.world s p now) h.tables in
     let score : Score = score_in s.source v.world.nodes (node_scope_of conf s.rule.0) in
-    ap (λ (m : Held). rate_hit (answer_of_key conf m p cookie now).0) (completing_meets conf h p now s q.1)
+    ap (λ (m : MachineContents). rate_hit (answer_of_key conf m p cookie now).0) (completing_meets conf h p now s q.1)
     ∙ ap (λ (found : Option State). rate_hit (answer_of_state conf h p cookie now found).0) q.0
     ∙ ap (λ (b : Bool). rate_hit (answer_of_handshake conf v s now (outcome_of_held s.rule (is_taken p s) (is_asking p s)) b).0) q.1
     ∙ rate-hit conf v s now (is_taken p s) (is_asking p s) (hits_connections conf v.world s) (hits_rate conf v.world s)
     ∙ ap (λ (r : Option Rate). over_rate r score.value) i.is
 
 -- a packet that completes a handshake gets no cookie
-guarded-hit : (conf : Conf) (x : Rate) (now : ℕ) (g : Guard) (h : Held) (p : PacketView) (s : State) → IsRated conf s.rule.0 x → completed_state p (state_for h.world p) ≡ Some s
+guarded-hit : (conf : Conf) (x : Rate) (now : ℕ) (g : Guard) (h : MachineContents) (p : PacketView) (s : State) → IsRated conf s.rule.0 x → completed_state p (state_for h.world p) ≡ Some s
     → rate_hit (answer_behind_guard conf g h p now).0 ≡ nat_lt (1000 * x.limit) (score_in s.source (world_after_touch conf h.world s p now).nodes (node_scope_of conf s.rule.0)).value
 guarded-hit conf x now g h p s i e = by (gets_cookie conf g h.world p) refl
   where
@@ -383,16 +383,16 @@ score-at : (conf : Conf) (x : Rate) (now : ℕ) (history : Score) (w : World) (w
 score-at conf x now history w arrival.Skip s i e r = cc
 score-at conf x now history w (arrival.Table table done) s i e r = cc
 score-at conf x now history w (arrival.Kill hosts) s i e r = cc
-score-at conf x now history w arrival.Held s i e r = cc
+score-at conf x now history w arrival.HeldQuery s i e r = cc
 score-at conf x now history w (arrival.Packet p) s i e r =
     let q = completed-is p (state_for w p) s e in score-in conf x now history w p s i q.0 q.1 r
 
-hit-at : (conf : Conf) (x : Rate) (first now : ℕ) (g : Guard) (h : Held) (what : Arrival) (s : State) → IsRated conf s.rule.0 x → handshaking_state h.world what ≡ Some s
+hit-at : (conf : Conf) (x : Rate) (first now : ℕ) (g : Guard) (h : MachineContents) (what : Arrival) (s : State) → IsRated conf s.rule.0 x → handshaking_state h.world what ≡ Some s
     → rate_hit (answer_to_arrival conf g h first now what).0 ≡ nat_lt (1000 * x.limit) (score_compared conf h.world now what s).value
 hit-at conf x first now g h arrival.Skip s i e = cc
 hit-at conf x first now g h (arrival.Table table done) s i e = cc
 hit-at conf x first now g h (arrival.Kill hosts) s i e = cc
-hit-at conf x first now g h arrival.Held s i e = cc
+hit-at conf x first now g h arrival.HeldQuery s i e = cc
 hit-at conf x first now g h (arrival.Packet p) s i e = guarded-hit conf x now g h p s i e
 
 pub score-is-remembered : (conf : Conf) (events : List Event) → IsConfig conf → IsInOrder None events → ScoreIsRemembered conf events

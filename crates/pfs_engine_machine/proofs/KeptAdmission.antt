@@ -37,10 +37,10 @@ use Rattle.pfs_engine_machine.proofs.Keys.{keys-push}
 use Rattle.pfs_engine_machine.proofs.Limits.{MeetsNone, held_free, meets_none, new_free, nodes_room, not_reached, refused_has, world_with_stray}
 use Rattle.pfs_engine_machine.proofs.Numbers.{Rise-more, Rise-push}
 use Rattle.pfs_engine_machine.proofs.Scopes.{IsScopeOf, global-IsScopeOf, none_without_node, own_scope-IsScopeOf, scope-alone, scope-shared}
-use Rattle.pfs_engine_machine.specs.Kept.{HasNode, HasSource, IsKept, IsPhaseOf, IsWithinShared, TracksAlone, own_scope, IsPlain, outer_key, HasPhase}
+use Rattle.pfs_engine_machine.specs.MachineInvariants.{HasNode, HasSource, IsKept, IsPhaseOf, IsWithinShared, TracksAlone, own_scope, IsPlain, outer_key, HasPhase}
 use Rattle.std.proofs.lemmas.Bool.{and_parts, and_right, false≢true}
 use Rattle.pfs_store_contract.proofs.ScopeLaws.{same_scope_self, same_scope_true}
-use Rattle.pfs_engine_machine.specs.Machine.{Held, held_of, held_refused}
+use Rattle.pfs_engine_machine.specs.Machine.{MachineContents, held_of, held_refused}
 use Rattle.pfs_engine_machine.specs.Sides.{are_free}
 use Rattle.pfs_addr_values.specs.declared.packets.FlowKey.{FlowKey}
 use Rattle.std.specs.List.{find}
@@ -303,7 +303,7 @@ free_inside w p going e = none-is (state_inside (key_inside p going) w) (and_par
 
 -- ---- what is kept
 
-pub kept_admitted : (conf : Conf) (m : Held) (p going : PacketView) (cookie : Bool) (rule now : ℕ) → IsConfig conf → IsTcpWith cookie p.proto → IsLedOn conf p going → are_free m.world p going ≡ true
+pub kept_admitted : (conf : Conf) (m : MachineContents) (p going : PacketView) (cookie : Bool) (rule now : ℕ) → IsConfig conf → IsTcpWith cookie p.proto → IsLedOn conf p going → are_free m.world p going ≡ true
     → packet_limit conf m.world p rule ≡ None → IsKept conf m now
     → IsKept conf (held_of (world_after_admission conf m.world p going rule cookie now) m.tables) now
 kept_admitted conf m p going cookie rule now sound tcp led unheld met k =
@@ -337,7 +337,7 @@ kept_admitted conf m p going cookie rule now sound tcp led unheld met k =
     }
 
 -- a node without a state, of a source that meets no limit
-kept_stray : (conf : Conf) (m : Held) (p : PacketView) (rule now : ℕ)
+kept_stray : (conf : Conf) (m : MachineContents) (p : PacketView) (rule now : ℕ)
     → source_limit conf m.world (options_of conf rule) p.source.addr (node_scope_of conf rule) ≡ None → IsKept conf m now
     → IsKept conf (held_of (world_with_stray conf m.world p.source.addr rule now) m.tables) now
 kept_stray conf m p rule now free k =
@@ -366,13 +366,13 @@ kept_stray conf m p rule now free k =
       moments = world_at-up_to_now conf w p p rule false now None k.moments;
     }
 
-pub kept_refused : (conf : Conf) (m : Held) (p : PacketView) (rule now : ℕ) (l : Limit) → packet_limit conf m.world p rule ≡ Some l → IsKept conf m now
+pub kept_refused : (conf : Conf) (m : MachineContents) (p : PacketView) (rule now : ℕ) (l : Limit) → packet_limit conf m.world p rule ≡ Some l → IsKept conf m now
     → IsKept conf (held_refused conf m p now rule l) now
 kept_refused conf m p rule now l met k =
     refused_has conf m.world rule p.source.addr now l (λ (w : World). IsKept conf (held_of w m.tables) now) met k (λ free. kept_stray conf m p rule now free k)
 
 -- directly after it, the maxima of a rule with shared nodes hold too
-pub shared_admitted : (conf : Conf) (m : Held) (p going : PacketView) (cookie : Bool) (rule now : ℕ) → IsConfig conf
+pub shared_admitted : (conf : Conf) (m : MachineContents) (p going : PacketView) (cookie : Bool) (rule now : ℕ) → IsConfig conf
     → packet_limit conf m.world p rule ≡ None → scope_of conf rule ≡ Some scope.Global → IsKept conf m now
     → IsWithinShared conf rule p.source.addr m.world (world_after_admission conf m.world p going rule cookie now)
 shared_admitted conf m p going cookie rule now sound met shared k =

@@ -24,8 +24,8 @@ use Rattle.pfs_store_contract.specs.Worlds.{IsUpToNow, World, inner_key}
 use Rattle.pfs_store_contract.specs.declared.records.Node.{Node}
 use Rattle.pfs_store_contract.specs.declared.records.NodeScope.{NodeScope}
 use Rattle.pfs_store_contract.specs.declared.records.State.{State}
-use Rattle.pfs_engine_machine.specs.Kept.{HasNode, HasSource, IsKept, IsPhaseOf, IsWithin, KeysDiffer, Rise, TracksAlone, own_scope, IsPlain, outer_key, HasPhase}
-use Rattle.pfs_engine_machine.specs.Machine.{Held, answer_of_exceeded, answer_of_state, exceeded_of, held_of, answer_of_kill, outcome_of_held, tables_after_addition}
+use Rattle.pfs_engine_machine.specs.MachineInvariants.{HasNode, HasSource, IsKept, IsPhaseOf, IsWithin, KeysDiffer, Rise, TracksAlone, own_scope, IsPlain, outer_key, HasPhase}
+use Rattle.pfs_engine_machine.specs.Machine.{MachineContents, answer_of_exceeded, answer_of_state, exceeded_of, held_of, answer_of_kill, outcome_of_held, tables_after_addition}
 use Rattle.pfs_engine_machine.specs.Refusals.{is_tcp}
 use Rattle.pfs_engine_machine.specs.declared.events.Exceeded.{Exceeded}
 use Rattle.pfs_engine_machine.specs.declared.events.Exceeded.TheVariants as exceeded
@@ -43,7 +43,7 @@ use Rattle.pfs_addr_values.specs.declared.packets.Dir.{Dir}
 use Rattle.pfs_addr_values.specs.declared.packets.Dir.TheVariants as dir
 
 -- what a machine keeps while a handshake is looked at: all but that connections are within `max-src-conn`
-record IsKeptBut (conf : Conf) (m : Held) (now : ℕ) : Type 0 where
+record IsKeptBut (conf : Conf) (m : MachineContents) (now : ℕ) : Type 0 where
   states : length m.world.states ≤ limit_of conf limit_name.States
   nodes : length m.world.nodes ≤ limit_of conf limit_name.SrcNodes
   entries : entry_count m.tables ≤ limit_of conf limit_name.TableEntries
@@ -65,7 +65,7 @@ abbrev AreFew : Conf → List State → Type 0
 AreFew conf states = (rule : ℕ) (source : Addr) → TracksAlone conf rule
     → IsWithin (options_of conf rule).max_src_conn (node_connections conf (own_scope rule) source states)
 
-kept_whole : (conf : Conf) (m : Held) (now : ℕ) → IsKeptBut conf m now → AreFew conf m.world.states → IsKept conf m now
+kept_whole : (conf : Conf) (m : MachineContents) (now : ℕ) → IsKeptBut conf m now → AreFew conf m.world.states → IsKept conf m now
 kept_whole conf m now k few = record {
   limits = record {
     states = k.states;
@@ -121,7 +121,7 @@ renewed-inner number p now s = go (s.number == number)
     go true = refl
     go false = refl
 
-kept_but_touched : (conf : Conf) (m : Held) (p : PacketView) (now : ℕ) (s : State) → IsKept conf m now
+kept_but_touched : (conf : Conf) (m : MachineContents) (p : PacketView) (now : ℕ) (s : State) → IsKept conf m now
     → IsKeptBut conf (held_of (world_after_touch conf m.world s p now) m.tables) now
 kept_but_touched conf m p now s k =
     let w = m.world in
@@ -153,12 +153,12 @@ kept_but_touched conf m p now s k =
     }
 
 -- the state alone has its number
-alone_of : (conf : Conf) (m : Held) (p : PacketView) (now : ℕ) (s : State) → state_for m.world p ≡ Some s → IsKept conf m now → IsAlone s m.world.states
+alone_of : (conf : Conf) (m : MachineContents) (p : PacketView) (now : ℕ) (s : State) → state_for m.world p ≡ Some s → IsKept conf m now → IsAlone s m.world.states
 alone_of conf m p now s found k =
     Rise-alone (λ (t : State). same_key (met_key p t) (key_of p)) s 0 m.world.made m.world.states k.numbers (sym (found-by m.world p) ∙ found)
 
 -- where the handshake does not complete, or hits no `max-src-conn`, no source has too many connections
-few_touched : (conf : Conf) (m : Held) (p : PacketView) (now : ℕ) (s : State) → state_for m.world p ≡ Some s
+few_touched : (conf : Conf) (m : MachineContents) (p : PacketView) (now : ℕ) (s : State) → state_for m.world p ≡ Some s
     → ((completes_at p s ≡ false) ⊎ (hits_connections conf (world_after_touch conf m.world s p now) s ≡ false))
     → IsKept conf m now → AreFew conf (world_after_touch conf m.world s p now).states
 few_touched conf m p now s found why k rule source tracks = go why (is_of_node conf (own_scope rule) source s) refl
@@ -178,7 +178,7 @@ few_touched conf m p now s found why k rule source tracks = go why (is_of_node c
     go (inr few) true e = connections-within conf m.world p now s rule source tracks e few
     go (inr few) false e = same (inr e)
 
-pub kept_touched : (conf : Conf) (m : Held) (p : PacketView) (now : ℕ) (s : State) → state_for m.world p ≡ Some s
+pub kept_touched : (conf : Conf) (m : MachineContents) (p : PacketView) (now : ℕ) (s : State) → state_for m.world p ≡ Some s
     → ((completes_at p s ≡ false) ⊎ (hits_connections conf (world_after_touch conf m.world s p now) s ≡ false))
     → IsKept conf m now → IsKept conf (held_of (world_after_touch conf m.world s p now) m.tables) now
 kept_touched conf m p now s found why k =
@@ -186,7 +186,7 @@ kept_touched conf m p now s found why k =
 
 -- ---- states are killed
 
-kept_but_without : (conf : Conf) (m : Held) (stays : State → Bool) (at now : ℕ) → IsKeptBut conf m now
+kept_but_without : (conf : Conf) (m : MachineContents) (stays : State → Bool) (at now : ℕ) → IsKeptBut conf m now
     → IsKeptBut conf (held_of (world_without conf m.world stays at) m.tables) now
 kept_but_without conf m stays at now k =
     let w = m.world in
@@ -223,7 +223,7 @@ tables_by-within : (conf : Conf) (tables : List (List Entry)) (source : Addr) (n
 tables_by-within conf tables source now None le = le
 tables_by-within conf tables source now (Some v) le = entries_after-within tables (limit_of conf limit_name.TableEntries) v.table.0 source now le
 
-kept_but_added : (conf : Conf) (m : Held) (source : Addr) (overload : Option Overload) (now : ℕ) → IsKeptBut conf m now
+kept_but_added : (conf : Conf) (m : MachineContents) (source : Addr) (overload : Option Overload) (now : ℕ) → IsKeptBut conf m now
     → IsKeptBut conf (held_of m.world (tables_after_addition conf m.tables source now overload)) now
 kept_but_added conf m source overload now k = record {
   states = k.states;
@@ -243,13 +243,13 @@ kept_but_added conf m source overload now k = record {
   moments = k.moments;
 }
 
-few_killed : (conf : Conf) (m : Held) (p : PacketView) (now : ℕ) (s : State) (flush : Option Scope) → state_for m.world p ≡ Some s
+few_killed : (conf : Conf) (m : MachineContents) (p : PacketView) (now : ℕ) (s : State) (flush : Option Scope) → state_for m.world p ≡ Some s
     → IsKept conf m now
     → AreFew conf (filter (stays_at_kill conf.profile flush s.number s.dir s.rule s.source) (world_after_touch conf m.world s p now).states)
 few_killed conf m p now s flush found k rule source tracks =
     within_less (options_of conf rule).max_src_conn _ _ (connections-killed conf m.world p now s flush (own_scope rule) source (alone_of conf m p now s found k)) (k.limits.source_connections rule source tracks)
 
-pub kept_killed : (conf : Conf) (m : Held) (p : PacketView) (now : ℕ) (s : State) (limits : Exceeded) → state_for m.world p ≡ Some s
+pub kept_killed : (conf : Conf) (m : MachineContents) (p : PacketView) (now : ℕ) (s : State) (limits : Exceeded) → state_for m.world p ≡ Some s
     → IsKept conf m now → IsKept conf (answer_of_kill conf (held_of (world_after_touch conf m.world s p now) m.tables) s.number s.dir s.rule s.source now limits).1 now
 kept_killed conf m p now s limits found k =
     let overload = (options_of conf s.rule.0).overload in
@@ -262,7 +262,7 @@ kept_killed conf m p now s limits found k =
 
 -- ---- together
 
-kept_by_handshake : (conf : Conf) (m : Held) (p : PacketView) (now : ℕ) (s : State) (conn rate : Bool) → state_for m.world p ≡ Some s
+kept_by_handshake : (conf : Conf) (m : MachineContents) (p : PacketView) (now : ℕ) (s : State) (conn rate : Bool) → state_for m.world p ≡ Some s
     → IsKept conf m now → conn ≡ hits_connections conf (world_after_touch conf m.world s p now) s
     → (completes : Bool) → completes_at p s ≡ completes
     → IsKept conf (answer_of_exceeded conf (held_of (world_after_touch conf m.world s p now) m.tables) s.number s.dir s.rule s.source now
@@ -273,14 +273,14 @@ kept_by_handshake conf m p now s true false found k is true done = kept_killed c
 kept_by_handshake conf m p now s false true found k is true done = kept_killed conf m p now s exceeded.Rate found k
 kept_by_handshake conf m p now s false false found k is true done = kept_touched conf m p now s found (inr (sym is)) k
 
-pub kept_held : (conf : Conf) (m : Held) (p : PacketView) (cookie : Bool) (now : ℕ) (s : State) → state_for m.world p ≡ Some s
+pub kept_held : (conf : Conf) (m : MachineContents) (p : PacketView) (cookie : Bool) (now : ℕ) (s : State) → state_for m.world p ≡ Some s
     → IsKept conf m now → IsKept conf (answer_of_state conf m p cookie now (Some s)).1 now
 kept_held conf m p cookie now s found k =
     let after = world_after_touch conf m.world s p now in
     kept_by_handshake conf m p now s (hits_connections conf after s) (hits_rate conf after s) found k refl (completes_at p s) refl
 
 -- no state is made
-pub made_held : (conf : Conf) (m : Held) (p : PacketView) (cookie : Bool) (now : ℕ) (s : State) → (answer_of_state conf m p cookie now (Some s)).1.world.made ≡ m.world.made
+pub made_held : (conf : Conf) (m : MachineContents) (p : PacketView) (cookie : Bool) (now : ℕ) (s : State) → (answer_of_state conf m p cookie now (Some s)).1.world.made ≡ m.world.made
 made_held conf m p cookie now s = by (if completes_at p s then exceeded_of (hits_connections conf after s) (hits_rate conf after s) else None)
   where
     after : World
@@ -301,7 +301,7 @@ met-phase p s both = by (is_from_inside p)
     by false = both.0
 
 -- only TCP completes
-pub proto_of_completed : (conf : Conf) (m : Held) (p : PacketView) (now : ℕ) (s : State) → IsKept conf m now → state_for m.world p ≡ Some s
+pub proto_of_completed : (conf : Conf) (m : MachineContents) (p : PacketView) (now : ℕ) (s : State) → IsKept conf m now → state_for m.world p ≡ Some s
     → completes_at p s ≡ true → is_tcp p.proto ≡ true
 proto_of_completed conf m p now s k found done =
     let there = sym (found-by m.world p) ∙ found in

@@ -31,12 +31,12 @@ use Rattle.pfs_engine_machine.proofs.Keys.{keys-filter}
 use Rattle.pfs_engine_machine.proofs.Numbers.{Rise-filter}
 use Rattle.pfs_engine_machine.proofs.Counts.{any-filter, any-map, count-at, count-filter_le, count-map, count_le}
 use Rattle.pfs_engine_machine.proofs.Scopes.{is_of_node-own}
-use Rattle.pfs_engine_machine.specs.Kept.{HasNode, HasSource, IsKept, IsPhaseOf, IsWithin, moment_of, own_scope, IsPlain, outer_key, HasPhase}
+use Rattle.pfs_engine_machine.specs.MachineInvariants.{HasNode, HasSource, IsKept, IsPhaseOf, IsWithin, moment_of, own_scope, IsPlain, outer_key, HasPhase}
 use Rattle.std.proofs.lemmas.Bool.{and_parts}
 use Rattle.pfs_store_contract.proofs.ScopeLaws.{same_scope_true}
 use Rattle.pfs_engine_machine.specs.declared.events.Command.{Command}
 use Rattle.pfs_engine_machine.specs.declared.events.Command.TheVariants as command
-use Rattle.pfs_engine_machine.specs.Machine.{Held, Machine, machine_at_moment, due, answer_to_command, first_moment, held_of, start}
+use Rattle.pfs_engine_machine.specs.Machine.{MachineContents, Machine, machine_at_moment, due, answer_to_command, first_moment, held_of, start}
 
 -- ---- the start
 
@@ -78,7 +78,7 @@ left-scope : (conf : Conf) (before after : List State) (now : ℕ) (scope : Node
 left-scope conf before after now scope n = grind arith
 
 -- the states that pass a test stay, at whatever moment, with whatever numbers pending
-pub kept_left : (conf : Conf) (m : Held) (p : State → Bool) (pending : List ℕ) (at now : ℕ) → IsKept conf m now
+pub kept_left : (conf : Conf) (m : MachineContents) (p : State → Bool) (pending : List ℕ) (at now : ℕ) → IsKept conf m now
     → IsKept conf (held_of (world_with_stay conf m.world (filter p m.world.states) pending at) m.tables) now
 kept_left conf m p pending at now k =
     let w = m.world in
@@ -109,11 +109,11 @@ kept_left conf m p pending at now k =
       moments = left-up_to_now conf w (filter p w.states) pending at now k.moments;
     }
 
-pub kept_state_slice : (conf : Conf) (m : Held) (at now : ℕ) → IsKept conf m now → IsKept conf (held_of (state_slice conf m.world at) m.tables) now
+pub kept_state_slice : (conf : Conf) (m : MachineContents) (at now : ℕ) → IsKept conf m now → IsKept conf (held_of (state_slice conf m.world at) m.tables) now
 kept_state_slice conf m at now k = kept_left conf m (stays conf m.world.states at (take (state_share conf) (state_round m.world))) _ at now k
 
 -- those stay that do not go from hosts to hosts
-pub kept_elsewhere : (conf : Conf) (m : Held) (hosts : FromTo) (at now : ℕ) → IsKept conf m now → IsKept conf (held_of (world_elsewhere conf m.world hosts at) m.tables) now
+pub kept_elsewhere : (conf : Conf) (m : MachineContents) (hosts : FromTo) (at now : ℕ) → IsKept conf m now → IsKept conf (held_of (world_elsewhere conf m.world hosts at) m.tables) now
 kept_elsewhere conf m hosts at now k = kept_left conf m (stays_elsewhere hosts) _ at now k
 
 -- ---- nodes leave
@@ -138,7 +138,7 @@ noded_slice conf nodes states at examined h k d within scope is =
     let some = count-at (is_of_node conf scope s.source) states k d within (is_of_node-own conf s scope is) in
     any-filter (is_node scope s.source) (node_stays conf states at examined) (node_stays-held conf states at examined scope s.source some) nodes (h k d within scope is)
 
-pub kept_node_slice : (conf : Conf) (m : Held) (at now : ℕ) → IsKept conf m now → IsKept conf (held_of (node_slice conf m.world at) m.tables) now
+pub kept_node_slice : (conf : Conf) (m : MachineContents) (at now : ℕ) → IsKept conf m now → IsKept conf (held_of (node_slice conf m.world at) m.tables) now
 kept_node_slice conf m at now k =
     let w = m.world in
     let examined = take (node_share conf) (node_round w) in
@@ -167,7 +167,7 @@ kept_node_slice conf m at now k =
 
 -- ---- time passes
 
-pub kept_purge : (conf : Conf) (h : Held) (at now : ℕ) → IsKept conf h now → IsKept conf (held_of (purge conf h.world at) h.tables) now
+pub kept_purge : (conf : Conf) (h : MachineContents) (at now : ℕ) → IsKept conf h now → IsKept conf (held_of (purge conf h.world at) h.tables) now
 kept_purge conf h at now k =
     kept_node_slice conf (held_of (state_slice conf h.world at) h.tables) at now (kept_state_slice conf h at now k)
 
@@ -178,7 +178,7 @@ kept_purged conf w tables now (s ∷ seconds) k =
     kept_purged conf (purge conf w s) tables now seconds (kept_purge conf (held_of w tables) s now k)
 
 -- a later moment
-pub kept_later : (conf : Conf) (h : Held) (last now : ℕ) → last ≤ now → IsKept conf h last → IsKept conf h now
+pub kept_later : (conf : Conf) (h : MachineContents) (last now : ℕ) → last ≤ now → IsKept conf h last → IsKept conf h now
 kept_later conf h last now later k = record {
   limits = k.limits;
   numbers = k.numbers;
@@ -203,7 +203,7 @@ kept_advanced conf m now later k =
 
 -- ---- a table changes
 
-kept_tables : (conf : Conf) (h : Held) (tables : List (List Entry)) (now : ℕ) → entry_count tables ≤ limit_of conf limit_name.TableEntries
+kept_tables : (conf : Conf) (h : MachineContents) (tables : List (List Entry)) (now : ℕ) → entry_count tables ≤ limit_of conf limit_name.TableEntries
     → length tables ≡ length h.tables → IsKept conf h now → IsKept conf (held_of h.world tables) now
 kept_tables conf h tables now within size k = record {
   limits = record {
@@ -227,13 +227,13 @@ kept_tables conf h tables now within size k = record {
 }
 
 -- entries leave it
-kept_filtered : (conf : Conf) (h : Held) (stays : Entry → Bool) (table now : ℕ) → IsKept conf h now
+kept_filtered : (conf : Conf) (h : MachineContents) (stays : Entry → Bool) (table now : ℕ) → IsKept conf h now
     → IsKept conf (held_of h.world (set h.tables table (filter stays (entries_at h.tables table)))) now
 kept_filtered conf h stays table now k =
     kept_tables conf h (set h.tables table (filter stays (entries_at h.tables table))) now
     (omega (arith, filtered-fewer h.tables table stays, k.limits.entries)) (filtered-size h.tables table stays) k
 
-pub kept_command : (conf : Conf) (h : Held) (first at table : ℕ) (done : Command) (now : ℕ) → IsKept conf h now → IsKept conf (answer_to_command conf h first at table done).1 now
+pub kept_command : (conf : Conf) (h : MachineContents) (first at table : ℕ) (done : Command) (now : ℕ) → IsKept conf h now → IsKept conf (answer_to_command conf h first at table done).1 now
 kept_command conf h first at table (command.Expire seconds) now k = kept_filtered conf h (λ (e : Entry). not (is_old first at seconds e.1)) table now k
 kept_command conf h first at table (command.Add e) now k =
     let limit = limit_of conf limit_name.TableEntries in

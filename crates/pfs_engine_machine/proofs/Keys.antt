@@ -10,7 +10,7 @@ use Rattle.pfs_store_contract.specs.declared.records.State.{State}
 use Rattle.pfs_store_contract.specs.Worlds.{World, inner_key, state_inside, state_with}
 use Rattle.pfs_addr_values.specs.Keys.{key_of}
 use Rattle.pfs_addr_values.specs.Packets.{PacketView, is_from_inside}
-use Rattle.pfs_engine_machine.specs.Kept.{KeysDiffer, outer_key}
+use Rattle.pfs_engine_machine.specs.MachineInvariants.{KeysDiffer, outer_key}
 use Rattle.pfs_engine_machine.specs.Sides.{met_key, state_for}
 use Rattle.pfs_engine_machine.proofs.Lists.{each-filter, each-map, each-of, each-push}
 

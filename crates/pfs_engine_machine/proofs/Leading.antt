@@ -22,30 +22,30 @@ use Rattle.pfs_conf_values.specs.declared.translations.Translation.{Translation}
 use Rattle.pfs_eval.proofs.Translations.{untranslated}
 use Rattle.pfs_eval.specs.Asking.{by_decision, by_match, decided_by, given_tag, made_by, marked_by, translation_at_once}
 use Rattle.pfs_eval.specs.Translating.{TakenKeys, is_behind_nat, nat_by, nat_port, rdr_by, sent_from, translated}
-use Rattle.pfs_eval.specs.Verdict.{Asking, Place, behind_all, cut, cut_from, decider, enclosing, ends_before, hides, is_hit, is_shown, matches_rule, packet_at_cut, packet_behind, packet_past, passed_by, path_from, verdict}
+use Rattle.pfs_eval.specs.Verdict.{Asking, PathPlace, behind_all, cut, cut_from, decider, enclosing, ends_before, hides, is_hit, is_shown, matches_rule, packet_at_cut, packet_behind, packet_past, passed_by, path_from, verdict}
 use Rattle.pfs_engine_machine.specs.Guards.{asked, syn_alone}
-use Rattle.pfs_engine_machine.specs.Machine.{Held, asking_of, packet_ruled}
+use Rattle.pfs_engine_machine.specs.Machine.{MachineContents, asking_of, packet_ruled}
 use Rattle.pfs_engine_machine.specs.Sides.{is_taken_on}
 use Rattle.pfs_engine_machine.proofs.KeptAdmission.{IsLedOn}
 
 -- ---- a fact of a packet that rules keep, each of which is such, is one of the packet that they leave
 
-record AreKept (a : Asking) (P : PacketView → Type 0) (R : Item → Type 0) : Type 0 where
+record IsKeptByRules (a : Asking) (P : PacketView → Type 0) (R : Item → Type 0) : Type 0 where
   marked : (q : PacketView) (i : Item) → R i → P q → P (a.marked q i)
   passed : (q r : PacketView) (i : Item) → R i → P q → a.passed q i ≡ Some r → P r
 
 -- of a place
-abbrev IsKeptAt : (PacketView → Type 0) → (Item → Type 0) → Place → Type 0
+abbrev IsKeptAt : (PacketView → Type 0) → (Item → Type 0) → PathPlace → Type 0
 IsKeptAt P R x = P x.packet × R x.item
 
-past : (a : Asking) (P : PacketView → Type 0) (R : Item → Type 0) → AreKept a P R → (q : PacketView) (i : Item) → R i → P q → P (packet_past a q i)
+past : (a : Asking) (P : PacketView → Type 0) (R : Item → Type 0) → IsKeptByRules a P R → (q : PacketView) (i : Item) → R i → P q → P (packet_past a q i)
 past a P R k q i r h = by (matches_rule a q i)
   where
     by : (b : Bool) → P (if b then a.marked q i else q)
     by true = k.marked q i r h
     by false = h
 
-on-path : (a : Asking) (P : PacketView → Type 0) (R : Item → Type 0) → AreKept a P R → (q : PacketView) (hidden : Option ℕ) (before : List Item) (n : ℕ) (items : List Item)
+on-path : (a : Asking) (P : PacketView → Type 0) (R : Item → Type 0) → IsKeptByRules a P R → (q : PacketView) (hidden : Option ℕ) (before : List Item) (n : ℕ) (items : List Item)
     → AllByRecursion R items → P q → AllByRecursion (IsKeptAt P R) (path_from a q hidden before n items)
 unfolding path_from
 on-path a P R k q hidden before n [] all h = tt
@@ -54,10 +54,10 @@ on-path a P R k q hidden before n (i ∷ rest) all h =
     (on-path a P R k (packet_past a q i) (hides (a.holds q i) i.depth) (i ∷ before) (n + 1) rest all.1 (past a P R k q i all.0 h))
     (on-path a P R k q hidden (i ∷ before) (n + 1) rest all.1 h)
   where
-    shown : List Place
+    shown : List PathPlace
     shown = path_from a (packet_past a q i) (hides (a.holds q i) i.depth) (i ∷ before) (n + 1) rest
 
-    hidden_too : List Place
+    hidden_too : List PathPlace
     hidden_too = path_from a q hidden (i ∷ before) (n + 1) rest
 
     by : (b : Bool) → AllByRecursion (IsKeptAt P R) shown → AllByRecursion (IsKeptAt P R) hidden_too
@@ -65,15 +65,15 @@ on-path a P R k q hidden before n (i ∷ rest) all h =
     by true there elsewhere = ((h, all.0), there)
     by false there elsewhere = elsewhere
 
-on-cut : (a : Asking) (Q : Place → Type 0) (seen xs : List Place) → AllByRecursion Q xs → AllByRecursion Q (cut_from a seen xs)
+on-cut : (a : Asking) (Q : PathPlace → Type 0) (seen xs : List PathPlace) → AllByRecursion Q xs → AllByRecursion Q (cut_from a seen xs)
 on-cut a Q seen [] all = tt
-on-cut a Q seen (x ∷ rest) all = by (list_any (λ (r : Place). is_hit a r && ends_before a x r) seen) (on-cut a Q (x ∷ seen) rest all.1)
+on-cut a Q seen (x ∷ rest) all = by (list_any (λ (r : PathPlace). is_hit a r && ends_before a x r) seen) (on-cut a Q (x ∷ seen) rest all.1)
   where
     by : (b : Bool) → AllByRecursion Q (cut_from a (x ∷ seen) rest) → AllByRecursion Q (if b then [] else x ∷ cut_from a (x ∷ seen) rest)
     by true more = tt
     by false more = (all.0, more)
 
-behind : (a : Asking) (P : PacketView → Type 0) (R : Item → Type 0) → AreKept a P R → (q : PacketView) (xs : List Place) → P q → AllByRecursion (IsKeptAt P R) xs
+behind : (a : Asking) (P : PacketView → Type 0) (R : Item → Type 0) → IsKeptByRules a P R → (q : PacketView) (xs : List PathPlace) → P q → AllByRecursion (IsKeptAt P R) xs
     → P (behind_all a q xs)
 behind a P R k q [] h all = h
 behind a P R k q (x ∷ xs) h all = behind a P R k (packet_past a x.packet x.item) xs (past a P R k x.packet x.item all.0.1 all.0.0) all.1
@@ -87,12 +87,12 @@ decider-there : (items : List Item) (R : Item → Type 0) → AllByRecursion R i
 decider-there items R all None i e = cc
 decider-there items R all (Some n) i e = each-there R items n i all e
 
-at-cut : (a : Asking) (P : PacketView → Type 0) (R : Item → Type 0) → AreKept a P R → (q : PacketView) (items : List Item) → AllByRecursion R items → P q
+at-cut : (a : Asking) (P : PacketView → Type 0) (R : Item → Type 0) → IsKeptByRules a P R → (q : PacketView) (items : List Item) → AllByRecursion R items → P q
     → P (packet_at_cut a q items)
 unfolding packet_at_cut
 at-cut a P R k q items all h = behind a P R k q (cut a q items) h (on-cut a (IsKeptAt P R) [] _ (on-path a P R k q None [] 0 items all h))
 
-kept-behind : (a : Asking) (P : PacketView → Type 0) (R : Item → Type 0) → AreKept a P R → (q : PacketView) (items : List Item) → AllByRecursion R items → P q
+kept-behind : (a : Asking) (P : PacketView → Type 0) (R : Item → Type 0) → IsKeptByRules a P R → (q : PacketView) (items : List Item) → AllByRecursion R items → P q
     → P (packet_behind a q items)
 unfolding packet_behind
 kept-behind a P R k q items all h = by (decider a q items) refl
@@ -167,7 +167,7 @@ any-item : (items : List Item) → AllByRecursion IsAny items
 any-item [] = tt
 any-item (i ∷ is) = (tt, any-item is)
 
-alike-behind : (conf : Conf) (h : Held) (p : PacketView) → IsAlike p (packet_ruled conf h p)
+alike-behind : (conf : Conf) (h : MachineContents) (p : PacketView) → IsAlike p (packet_ruled conf h p)
 alike-behind conf h p = kept-behind (asking_of conf h) (IsAlike p) IsAny (record {
   marked = λ q i any same. made-alike (is_taken_on h.world) (given_tag conf.items i.what) i.what p q same;
   passed = λ q m i any same e. decided-alike (is_taken_on h.world) i.what p q m e same;
@@ -231,7 +231,7 @@ decided-key taken (what.Rule r) key q m none h e = by r.action e
     by action.Pass e = plain e
     by (action.Keep o) e = plain e
 
-key-behind : (conf : Conf) (h : Held) (p : PacketView) → translates conf ≡ false → key_of (packet_ruled conf h p) ≡ key_of p
+key-behind : (conf : Conf) (h : MachineContents) (p : PacketView) → translates conf ≡ false → key_of (packet_ruled conf h p) ≡ key_of p
 key-behind conf h p none = kept-behind (asking_of conf h) (HasKey (key_of p)) IsUntranslating (record {
   marked = λ q i plain same. made-key (is_taken_on h.world) (given_tag conf.items i.what) i.what (key_of p) q plain same;
   passed = λ q m i plain same e. decided-key (is_taken_on h.world) i.what (key_of p) q m plain same e;
@@ -252,7 +252,7 @@ asked-key p true = by p.dir
     by dir.In = refl
     by dir.Out = refl
 
-pub led_on : (conf : Conf) (h : Held) (p : PacketView) (cookie : Bool) → IsLedOn conf p (packet_ruled conf h (asked p cookie))
+pub led_on : (conf : Conf) (h : MachineContents) (p : PacketView) (cookie : Bool) → IsLedOn conf p (packet_ruled conf h (asked p cookie))
 led_on conf h p cookie =
     let alike : IsAlike (asked p cookie) (packet_ruled conf h (asked p cookie)) = alike-behind conf h (asked p cookie) in
     let own : IsAlike p (asked p cookie) = asked-alike p cookie in

@@ -35,6 +35,6 @@ pub mod Shares
 mod Small
 mod Staling
 mod Untouched
-mod Within
+mod WithinLimits
 mod Worked
 mod WorkedActs

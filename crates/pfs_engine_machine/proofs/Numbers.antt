@@ -3,7 +3,7 @@ use Rattle.std.proofs.Common.{◌≡◌, ◌≤◌, ◌<◌, ◌+◌, ℕ, Bool,
 use Rattle.std.specs.List.{find}
 use Rattle.std.proofs.lemmas.List.Elements.{All-cons, All-nil, All-weaker}
 use Rattle.pfs_store_contract.specs.declared.records.State.{State}
-use Rattle.pfs_engine_machine.specs.Kept.{Rise}
+use Rattle.pfs_engine_machine.specs.MachineInvariants.{Rise}
 use Rattle.pfs_engine_machine.proofs.Changes.{find-all}
 
 pub Rise-lower : (low low' high : ℕ) (ss : List State) → low' ≤ low → Rise low ss high → Rise low' ss high

@@ -12,7 +12,7 @@ use Rattle.pfs_store_contract.specs.declared.records.Limit.{Limit}
 use Rattle.pfs_store_contract.specs.declared.records.State.{State}
 use Rattle.pfs_engine_machine.proofs.Answering as answering
 use Rattle.pfs_engine_machine.proofs.Reopening.{met_has}
-use Rattle.pfs_engine_machine.specs.Machine.{Held, answer_of_exceeded, answer_of_handshake, answer_of_key, answer_of_state, answer_to_packet, exceeded_of, held_for, held_of, outcome_of_held}
+use Rattle.pfs_engine_machine.specs.Machine.{MachineContents, answer_of_exceeded, answer_of_handshake, answer_of_key, answer_of_state, answer_to_packet, exceeded_of, held_for, held_of, outcome_of_held}
 use Rattle.pfs_engine_machine.specs.declared.events.Exceeded.{Exceeded}
 use Rattle.pfs_engine_machine.specs.declared.events.Outcome.{Outcome}
 use Rattle.pfs_engine_machine.specs.Sides.{state_for, are_free}
@@ -27,7 +27,7 @@ pub record Changes (conf : Conf) (w : World) (p : PacketView) (cookie : Bool) (n
   pub touches : (s : State) → state_for w p ≡ Some s → Q (world_after_touch conf w s p now)
   pub kills : (v : World) (stays : State → Bool) → Q v → Q (world_without conf v stays now)
 
-handshake_has : (conf : Conf) (h : Held) (s : State) (now : ℕ) (unhindered : Outcome) (completes : Bool) (Q : World → Type 0)
+handshake_has : (conf : Conf) (h : MachineContents) (s : State) (now : ℕ) (unhindered : Outcome) (completes : Bool) (Q : World → Type 0)
     → ((v : World) (stays : State → Bool) → Q v → Q (world_without conf v stays now)) → Q h.world → Q (answer_of_handshake conf h s now unhindered completes).1.world
 handshake_has conf h s now unhindered completes Q kills k = by (if completes then exceeded_of (hits_connections conf h.world s) (hits_rate conf h.world s) else None)
   where
@@ -35,11 +35,11 @@ handshake_has conf h s now unhindered completes Q kills k = by (if completes the
     by (Some e) = kills h.world (stays_at_kill conf.profile (flush_of (options_of conf s.rule.0).overload) s.number s.dir s.rule s.source) k
     by None = k
 
-pub key_has : (conf : Conf) (h : Held) (p : PacketView) (cookie : Bool) (now : ℕ) (Q : World → Type 0) → Changes conf h.world p cookie now Q → Q (answer_of_key conf h p cookie now).1.world
+pub key_has : (conf : Conf) (h : MachineContents) (p : PacketView) (cookie : Bool) (now : ℕ) (Q : World → Type 0) → Changes conf h.world p cookie now Q → Q (answer_of_key conf h p cookie now).1.world
 key_has conf h p cookie now Q c = go (state_for h.world p) refl
   where
     go : (found : Option State) → state_for h.world p ≡ found → Q (answer_of_key conf h p cookie now).1.world
-    go None fresh = answering.answered_has conf h p cookie now (λ (a : Outcome × Held). Q a.1.world) (record {
+    go None fresh = answering.answered_has conf h p cookie now (λ (a : Outcome × MachineContents). Q a.1.world) (record {
       held = λ s found. absurd (let same = sym fresh ∙ found in cc);
       passes = c.passes fresh;
       passed = λ rule. c.passes fresh;
@@ -63,7 +63,7 @@ pub record IsKeptByPackets (conf : Conf) (P : World → Type 0) : Type 0 where
   pub refuses : (w : World) (p : PacketView) (rule now : ℕ) (limit : Limit) → packet_limit conf w p rule ≡ Some limit → P w
       → P (world_after_refusal conf w p.source.addr rule now limit)
 
-key_keeps : (conf : Conf) (P : World → Type 0) → IsKeptByPackets conf P → (h : Held) (p : PacketView) (cookie : Bool) (now : ℕ) → P h.world → P (answer_of_key conf h p cookie now).1.world
+key_keeps : (conf : Conf) (P : World → Type 0) → IsKeptByPackets conf P → (h : MachineContents) (p : PacketView) (cookie : Bool) (now : ℕ) → P h.world → P (answer_of_key conf h p cookie now).1.world
 key_keeps conf P k h p cookie now i = key_has conf h p cookie now P (record {
   passes = λ fresh. i;
   admits = λ rule going fresh none led free. k.admits h.world p going cookie rule now none led free i;
@@ -72,6 +72,6 @@ key_keeps conf P k h p cookie now i = key_has conf h p cookie now P (record {
   kills = λ v stays j. k.kills v stays now j;
 })
 
-pub answered_keeps : (conf : Conf) (P : World → Type 0) → IsKeptByPackets conf P → (h : Held) (p : PacketView) (cookie : Bool) (now : ℕ) → P h.world → P (answer_to_packet conf h p cookie now).1.world
+pub answered_keeps : (conf : Conf) (P : World → Type 0) → IsKeptByPackets conf P → (h : MachineContents) (p : PacketView) (cookie : Bool) (now : ℕ) → P h.world → P (answer_to_packet conf h p cookie now).1.world
 answered_keeps conf P k h p cookie now i =
     key_keeps conf P k (held_for conf h p now) p cookie now (met_has conf h p now P i (λ stays. k.kills h.world stays now i))

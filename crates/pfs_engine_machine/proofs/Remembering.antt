@@ -9,7 +9,7 @@ use Rattle.pfs_addr_values.specs.declared.addresses.Addr.{Addr}
 use Rattle.pfs_conf_values.specs.Configs.{Conf}
 use Rattle.pfs_engine_machine.proofs.Counts.{any-map}
 use Rattle.pfs_engine_machine.proofs.KeptTime.{left-is_node}
-use Rattle.pfs_engine_machine.specs.Kept.{own_scope}
+use Rattle.pfs_engine_machine.specs.MachineInvariants.{own_scope}
 use Rattle.pfs_store_contract.specs.Counts.{has_node, is_node, node_states, same_scope}
 use Rattle.pfs_store_contract.specs.Leaving.{node_after_leaving, node_retention}
 use Rattle.pfs_store_contract.specs.Purging.{is_among, is_over, node_stays}
@@ -50,14 +50,14 @@ over-agrees seconds now x h t later =
 
 -- ---- what is known of the nodes of a rule and a source, where the whole history has a score
 
-pub record Knows (seconds now : ℕ) (history : Score) (count : ℕ) (n : Node) : Type 0 where
+pub record KnowsScore (seconds now : ℕ) (history : Score) (count : ℕ) (n : Node) : Type 0 where
   pub agrees : Agrees seconds now n.score history
   pub last : n.score.last ≤ now
   pub over : count ≡ 0 → (n.score ≡ zero_score) ⊎ (n.score.last + seconds ≤ n.expires)
 
 -- a node of this rule and source is one of which that is known
 abbrev pub IsKnown : ℕ → Addr → ℕ → ℕ → Score → ℕ → Node → Type 0
-IsKnown rule source seconds now history count n = is_node (own_scope rule) source n ≡ true → Knows seconds now history count n
+IsKnown rule source seconds now history count n = is_node (own_scope rule) source n ≡ true → KnowsScore seconds now history count n
 
 pub record Remembers (rule : ℕ) (source : Addr) (seconds now : ℕ) (history : Score) (count : ℕ) (held : List Node) : Type 0 where
   pub nodes : AllByRecursion (IsKnown rule source seconds now history count) held
@@ -65,7 +65,7 @@ pub record Remembers (rule : ℕ) (source : Addr) (seconds now : ℕ) (history :
   pub noded : 0 < count → has_node (own_scope rule) source held ≡ true
 
 -- time passes
-knows-later : (seconds now later : ℕ) (history : Score) (count : ℕ) (n : Node) → now ≤ later → Knows seconds now history count n → Knows seconds later history count n
+knows-later : (seconds now later : ℕ) (history : Score) (count : ℕ) (n : Node) → now ≤ later → KnowsScore seconds now history count n → KnowsScore seconds later history count n
 knows-later seconds now later history count n h k = record {
   agrees = λ t g. k.agrees t (omega (arith, h, g));
   last = omega (arith, h, k.last);
@@ -95,8 +95,8 @@ count-of-node conf scope source n states e =
     ap (λ (x : NodeScope). node_states conf x n.source states) (scope-of-node scope source n e) ∙ ap (λ (a : Addr). node_states conf scope a states) (source-of-node scope source n e)
 
 knows-left : (conf : Conf) (before after : List State) (rule : ℕ) (source : Addr) (seconds now : ℕ) (history : Score) (n : Node)
-    → seconds ≤ node_retention conf (own_scope rule) → is_node (own_scope rule) source n ≡ true → Knows seconds now history (node_states conf (own_scope rule) source before) n
-    → Knows seconds now history (node_states conf (own_scope rule) source after) (node_after_leaving conf before after now n)
+    → seconds ≤ node_retention conf (own_scope rule) → is_node (own_scope rule) source n ≡ true → KnowsScore seconds now history (node_states conf (own_scope rule) source before) n
+    → KnowsScore seconds now history (node_states conf (own_scope rule) source after) (node_after_leaving conf before after now n)
 knows-left conf before after rule source seconds now history n long e k =
     go (nat_lt 0 (node_states conf n.scope n.source before) && (node_states conf n.scope n.source after == 0)) refl
   where
@@ -104,7 +104,7 @@ knows-left conf before after rule source seconds now history n long e k =
     none x y f g = grind (arith, nat_tests)
 
     go : (b : Bool) → (nat_lt 0 (node_states conf n.scope n.source before) && (node_states conf n.scope n.source after == 0)) ≡ b
-        → Knows seconds now history (node_states conf (own_scope rule) source after) (cond b (record n { expires = now + node_retention conf n.scope }) n)
+        → KnowsScore seconds now history (node_states conf (own_scope rule) source after) (cond b (record n { expires = now + node_retention conf n.scope }) n)
     go true f =
         let kept = ap (node_retention conf) (scope-of-node (own_scope rule) source n e) in
         record { agrees = k.agrees; last = k.last; over = λ z. inr (omega (arith, k.last, kept, long)) }
@@ -140,7 +140,7 @@ IsLost conf rule source seconds now history states =
 
 over-at : (conf : Conf) (rule : ℕ) (source : Addr) (seconds now : ℕ) (history : Score) (states : List State) (n : Node)
     → is_node (own_scope rule) source n ≡ true
-    → Knows seconds now history (node_states conf (own_scope rule) source states) n → is_over conf states now n ≡ true
+    → KnowsScore seconds now history (node_states conf (own_scope rule) source states) n → is_over conf states now n ≡ true
     → IsLost conf rule source seconds now history states
 over-at conf rule source seconds now history states n e k over =
     let parts = both (node_states conf n.scope n.source states == 0) (nat_le n.expires now) over in

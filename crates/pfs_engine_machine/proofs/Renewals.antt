@@ -15,7 +15,7 @@ use Rattle.pfs_track.specs.declared.proxies.ProxyPhase.{ProxyPhase}
 use Rattle.pfs_track.specs.declared.tcp_phases.TcpPhase.{TcpPhase}
 use Rattle.pfs_track.specs.declared.state_phases.StatePhase.{StatePhase}
 use Rattle.pfs_track.specs.declared.state_phases.StatePhase.TheVariants as phase
-use Rattle.pfs_engine_machine.specs.Kept.{IsPhaseOf, HasPhase}
+use Rattle.pfs_engine_machine.specs.MachineInvariants.{IsPhaseOf, HasPhase}
 use Rattle.pfs_engine_machine.specs.Refusals.{is_tcp}
 use Rattle.pfs_store_contract.specs.Worlds.{inner_key}
 

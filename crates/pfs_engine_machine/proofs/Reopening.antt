@@ -17,14 +17,14 @@ use Rattle.pfs_track.specs.declared.state_phases.StatePhase.{StatePhase}
 use Rattle.pfs_track.specs.declared.state_phases.StatePhase.TheVariants as phase
 use Rattle.pfs_track.specs.declared.tcp_ranks.TcpRank.{TcpRank}
 use Rattle.pfs_track.specs.declared.tcp_ranks.TcpRank.TheVariants.{Closing, SynSent, TimeWait}
-use Rattle.pfs_engine_machine.specs.Kept.{IsKept}
-use Rattle.pfs_engine_machine.specs.Machine.{Held, held_for}
+use Rattle.pfs_engine_machine.specs.MachineInvariants.{IsKept}
+use Rattle.pfs_engine_machine.specs.Machine.{MachineContents, held_for}
 use Rattle.pfs_engine_machine.specs.Sides.{state_for, met_key}
 use Rattle.pfs_engine_machine.proofs.Keys.{found-leaves, found-by, met-differ}
 use Rattle.pfs_engine_machine.proofs.KeptTime.{kept_left}
 
 -- a fact of it: of what is held, and of that without some states
-pub met_has : (conf : Conf) (h : Held) (p : PacketView) (now : ℕ) (Q : World → Type 0) → Q h.world
+pub met_has : (conf : Conf) (h : MachineContents) (p : PacketView) (now : ℕ) (Q : World → Type 0) → Q h.world
     → ((stays : State → Bool) → Q (world_without conf h.world stays now)) → Q (held_for conf h p now).world
 met_has conf h p now Q same left = by (state_for h.world p)
   where
@@ -36,16 +36,16 @@ met_has conf h p now Q same left = by (state_for h.world p)
         go true = left (other_than s.number)
         go false = same
 
-pub kept_met : (conf : Conf) (h : Held) (p : PacketView) (now : ℕ) → IsKept conf h now → IsKept conf (held_for conf h p now) now
+pub kept_met : (conf : Conf) (h : MachineContents) (p : PacketView) (now : ℕ) → IsKept conf h now → IsKept conf (held_for conf h p now) now
 kept_met conf h p now k =
     met_has conf h p now (λ (w : World). IsKept conf (record { world = w; tables = h.tables }) now) k
     (λ stays. kept_left conf h stays (filter (holds_number (filter stays h.world.states)) h.world.pending_states) now now k)
 
-pub made_met : (conf : Conf) (h : Held) (p : PacketView) (now : ℕ) → (held_for conf h p now).world.made ≡ h.world.made
+pub made_met : (conf : Conf) (h : MachineContents) (p : PacketView) (now : ℕ) → (held_for conf h p now).world.made ≡ h.world.made
 made_met conf h p now = met_has conf h p now (λ (w : World). w.made ≡ h.world.made) refl (λ stays. refl)
 
 -- where it begins a connection anew, it is one of no held state
-pub reopened-fresh : (conf : Conf) (h : Held) (p : PacketView) (now : ℕ) (s : State) → IsKept conf h now → state_for h.world p ≡ Some s
+pub reopened-fresh : (conf : Conf) (h : MachineContents) (p : PacketView) (now : ℕ) (s : State) → IsKept conf h now → state_for h.world p ≡ Some s
     → reopens conf p s ≡ true → state_for (held_for conf h p now).world p ≡ None
 reopened-fresh conf h p now s k found anew =
     ap (λ (o : Option State). state_for (world_reopened conf h.world p now o) p) found
@@ -102,11 +102,11 @@ unless_closed conf w p now None h = refl
 unless_closed conf w p now (Some s) h =
     ap (λ b. if b && has_closed s.phase then world_without conf w (other_than s.number) now else w) h
 
-pub met_same : (conf : Conf) (h : Held) (p : PacketView) (now : ℕ) → may_reopen conf p ≡ false → held_for conf h p now ≡ h
+pub met_same : (conf : Conf) (h : MachineContents) (p : PacketView) (now : ℕ) → may_reopen conf p ≡ false → held_for conf h p now ≡ h
 met_same conf h p now e = ap (λ (w : World). record { world = w; tables = h.tables }) (unless_closed conf h.world p now (state_for h.world p) e)
 
 -- a packet that completes a handshake meets what is held
-pub completing_meets : (conf : Conf) (h : Held) (p : PacketView) (now : ℕ) (s : State) → completes_at p s ≡ true → held_for conf h p now ≡ h
+pub completing_meets : (conf : Conf) (h : MachineContents) (p : PacketView) (now : ℕ) (s : State) → completes_at p s ≡ true → held_for conf h p now ≡ h
 completing_meets conf h p now s done = met_same conf h p now (by (may_reopen conf p) refl)
   where
     by : (b : Bool) → may_reopen conf p ≡ b → b ≡ false

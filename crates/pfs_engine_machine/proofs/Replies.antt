@@ -21,7 +21,7 @@ use Rattle.pfs_store_contract.specs.Worlds.{World, inner_key, state_inside, stat
 use Rattle.pfs_store_contract.specs.declared.records.State.{State}
 use Rattle.pfs_store_contract.specs.declared.records.StateNo.{StateNo}
 use Rattle.pfs_engine_machine.specs.Guards.{asked}
-use Rattle.pfs_engine_machine.specs.Machine.{Held, answer_of_key, going_from, going_of_state, held_for, outcome_of_new, packet_ruled}
+use Rattle.pfs_engine_machine.specs.Machine.{MachineContents, answer_of_key, going_from, going_of_state, held_for, outcome_of_new, packet_ruled}
 use Rattle.pfs_engine_machine.specs.Sides.{are_free, met_key, state_for}
 use Rattle.pfs_engine_machine.specs.TwoKeys.{AnswersBelong, IsAnswerTo, is_out, turned_way}
 use Rattle.pfs_engine_machine.specs.declared.events.Outcome.{Outcome}
@@ -102,12 +102,12 @@ finds-new conf w p going a cookie rule now way free q q-way q-key r =
             let key : wire_key p going ≡ key_of going = ap (λ (x : Dir). wire_side x (key_of p) (key_of going)) (sym e) in
             found-last (λ (t : State). t.key) (key_of going) w.states new (sym (ap (λ (k : FlowKey). state_with k w) key) ∙ free_outside w p going free) key
 
-abbrev MakesFound : Conf → Held → PacketView → Bool → Outcome × Held → Type 0
+abbrev MakesFound : Conf → MachineContents → PacketView → Bool → Outcome × MachineContents → Type 0
 MakesFound conf met p cookie answer =
     (a : PacketView) (rule : RuleNo) (answered : Bool) → answer.0 ≡ outcome_of_new rule answered → IsAnswerTo (going_from conf met p cookie) a
     → option_map state_number (state_for answer.1.world a) ≡ Some (record { 0 = answer.1.world.made })
 
-makes-found : (conf : Conf) (met : Held) (p : PacketView) (cookie : Bool) (now : ℕ) → MakesFound conf met p cookie (answer_of_key conf met p cookie now)
+makes-found : (conf : Conf) (met : MachineContents) (p : PacketView) (cookie : Bool) (now : ℕ) → MakesFound conf met p cookie (answer_of_key conf met p cookie now)
 makes-found conf met p cookie now = answered_has conf met p cookie now (MakesFound conf met p cookie) (record {
   held = λ s found a rule answered e. absurd (not-held _ rule (state_held conf met p cookie now s) (made-by _ rule answered e));
   passes = λ a rule answered e. absurd (let no = sym (maker-pass None cookie) ∙ made-by _ rule answered e in cc);

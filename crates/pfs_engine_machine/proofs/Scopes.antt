@@ -15,7 +15,7 @@ use Rattle.pfs_store_contract.specs.declared.records.Node.{Node}
 use Rattle.pfs_store_contract.specs.declared.records.NodeScope.{NodeScope}
 use Rattle.pfs_store_contract.specs.declared.records.NodeScope.TheVariants as node_scope
 use Rattle.pfs_store_contract.specs.declared.records.State.{State}
-use Rattle.pfs_engine_machine.specs.Kept.{HasNode, TracksAlone, own_scope}
+use Rattle.pfs_engine_machine.specs.MachineInvariants.{HasNode, TracksAlone, own_scope}
 
 -- ---- the rules of a scope
 

@@ -18,7 +18,7 @@ use Rattle.pfs_store_contract.specs.declared.records.Limit.{Limit}
 use Rattle.pfs_store_contract.specs.declared.records.Node.{Node}
 use Rattle.pfs_store_contract.specs.declared.records.NodeScope.{NodeScope}
 use Rattle.pfs_store_contract.specs.declared.records.State.{State}
-use Rattle.pfs_engine_machine.specs.Machine.{Held}
+use Rattle.pfs_engine_machine.specs.Machine.{MachineContents}
 use Rattle.pfs_engine_machine.proofs.PacketChanges.{answered_keeps}
 use Rattle.pfs_engine_machine.proofs.HeldNumbers.{among-same, made-more, numbers-left, numbers-renewed, numbers-touched, was}
 use Rattle.pfs_engine_machine.proofs.Limits.{meets_none, nodes_room, refused_has}
@@ -139,14 +139,14 @@ small-nodes conf w s k =
 
 -- ---- together
 
-pub small-done : (conf : Conf) (m : Held) (a : RunAct) → IsSmall conf m.world → IsSmall conf (act_done conf m a).world
+pub small-done : (conf : Conf) (m : MachineContents) (a : RunAct) → IsSmall conf m.world → IsSmall conf (act_done conf m a).world
 small-done conf m (Purge s) k = small-nodes conf (state_slice conf m.world s) s (small-states conf m.world s k)
 small-done conf m (Arrive now p cookie) k =
     answered_keeps conf (IsSmall conf) (record { touches = small-touched conf; kills = small-without conf; admits = λ w q going with at moment none led free. small-admitted conf w q going with at moment none; refuses = small-refused conf }) m p cookie now k
 small-done conf m (Change first now table done) k = k
 small-done conf m (Kill now hosts) k = small-without conf m.world (stays_elsewhere hosts) now k
 
-pub small-done_all : (conf : Conf) (m : Held) (acts : List RunAct) → IsSmall conf m.world → IsSmall conf (acts_done conf m acts).world
+pub small-done_all : (conf : Conf) (m : MachineContents) (acts : List RunAct) → IsSmall conf m.world → IsSmall conf (acts_done conf m acts).world
 small-done_all conf m [] k = k
 small-done_all conf m (a ∷ acts) k = small-done_all conf (act_done conf m a) acts (small-done conf m a k)
 

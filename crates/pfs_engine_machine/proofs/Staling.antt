@@ -18,7 +18,7 @@ use Rattle.pfs_store_contract.specs.Worlds.{World, holds_number}
 use Rattle.pfs_store_contract.specs.declared.records.Node.{Node}
 use Rattle.pfs_store_contract.specs.declared.records.NodeScope.{NodeScope}
 use Rattle.pfs_store_contract.specs.declared.records.State.{State}
-use Rattle.pfs_engine_machine.specs.Machine.{Held, start}
+use Rattle.pfs_engine_machine.specs.Machine.{MachineContents, start}
 use Rattle.pfs_engine_machine.specs.declared.events.Event.{Event}
 use Rattle.pfs_engine_machine.proofs.PacketChanges.{IsKeptByPackets, answered_keeps}
 use Rattle.pfs_engine_machine.proofs.Limits.{refused_has}
@@ -124,12 +124,12 @@ state-end conf n w one h = go h.fate
     go (inr d) = absurd (due-end (state_share conf) (interval_of conf) n w.pending_states one d)
 
 -- at each purge among these acts the state of this number, where it is still held, is expired
-abbrev pub IsExpiredThroughout : Conf → Held → ℕ → List RunAct → Type 0
+abbrev pub IsExpiredThroughout : Conf → MachineContents → ℕ → List RunAct → Type 0
 IsExpiredThroughout conf m n acts =
     (before rest : List RunAct) (s : ℕ) → acts ≡ before ++ Purge s ∷ rest →
     All (λ (t : State). t.number ≡ n → has_expired conf (acts_done conf m before).world.states s t ≡ true) (acts_done conf m before).world.states
 
-state-goes : (conf : Conf) (n : ℕ) (m : Held) (acts : List RunAct) → 1 ≤ interval_of conf → IsSmall conf m.world → StateAwaits conf (purges acts) n m.world
+state-goes : (conf : Conf) (n : ℕ) (m : MachineContents) (acts : List RunAct) → 1 ≤ interval_of conf → IsSmall conf m.world → StateAwaits conf (purges acts) n m.world
     → IsExpiredThroughout conf m n acts → is_among (state_numbers (acts_done conf m acts).world.states) n ≡ false
 state-goes conf n m [] one small h all = state-end conf n m.world one h
 state-goes conf n m (Purge s ∷ acts) one small h all =
@@ -152,12 +152,12 @@ pub numbered-go : (conf : Conf) (earlier meanwhile : List RunAct) (n : ℕ) → 
     → n ≤ (after conf earlier).world.made → IsExpiredThroughout conf (after conf earlier) n meanwhile
     → is_among (state_numbers (after conf (earlier ++ meanwhile)).world.states) n ≡ false
 numbered-go conf earlier meanwhile n sound count made all =
-    let m : Held = after conf earlier in
+    let m : MachineContents = after conf earlier in
     let small : IsSmall conf m.world = small-done_all conf (start conf).held earlier (small-empty conf) in
     let due : Fate (state_share conf) (interval_of conf) (2 * interval_of conf) n (state_numbers m.world.states) m.world.pending_states =
     inr (due-start (state_share conf) (interval_of conf) n m.world.pending_states (enough (state_limit conf) (interval_of conf) (length m.world.pending_states) sound.interval small.pending_states)) in
     let first : StateAwaits conf (2 * interval_of conf) n m.world = record { made = made; fate = due } in
-    ap (λ (v : Held). is_among (state_numbers v.world.states) n) (done_all-append conf (start conf).held earlier meanwhile)
+    ap (λ (v : MachineContents). is_among (state_numbers v.world.states) n) (done_all-append conf (start conf).held earlier meanwhile)
     ∙ state-goes conf n m meanwhile sound.interval small (subst (λ (k : ℕ). StateAwaits conf k n m.world) (sym count) first) all
 
 -- ---- nodes
@@ -220,10 +220,10 @@ node-end conf n w one h = go h.fate
     go (inr d) = absurd (due-end (node_share conf) (interval_of conf) n w.pending_nodes one d)
 
 -- at each purge among these acts the node of this number, where it is still held, is over
-abbrev IsOverThroughout : Conf → Held → ℕ → List RunAct → Type 0
+abbrev IsOverThroughout : Conf → MachineContents → ℕ → List RunAct → Type 0
 IsOverThroughout conf m n acts = (before rest : List RunAct) (s : ℕ) → acts ≡ before ++ Purge s ∷ rest → IsOver conf n (acts_done conf m before).world s
 
-node-goes : (conf : Conf) (n : ℕ) (m : Held) (acts : List RunAct) → 1 ≤ interval_of conf → IsSmall conf m.world → NodeAwaits conf (purges acts) n m.world
+node-goes : (conf : Conf) (n : ℕ) (m : MachineContents) (acts : List RunAct) → 1 ≤ interval_of conf → IsSmall conf m.world → NodeAwaits conf (purges acts) n m.world
     → IsOverThroughout conf m n acts → is_among (node_numbers (acts_done conf m acts).world.nodes) n ≡ false
 node-goes conf n m [] one small h all = node-end conf n m.world one h
 node-goes conf n m (Purge s ∷ acts) one small h all =
@@ -246,13 +246,13 @@ node-goes conf n m (Kill now hosts ∷ acts) one small h all =
 
 pub nodes-go : (conf : Conf) (events : List Event) → IsConfig conf → NodesGo conf events
 nodes-go conf events sound earlier meanwhile later n rounds all held =
-    let m : Held = after conf earlier in
+    let m : MachineContents = after conf earlier in
     let small : IsSmall conf m.world = small-done_all conf (start conf).held earlier (small-empty conf) in
     let made = small.node_made n (sym (any-number (λ (d : Node). d.number) n m.world.nodes) ∙ held) in
     let due : Fate (node_share conf) (interval_of conf) (2 * interval_of conf) n (node_numbers m.world.nodes) m.world.pending_nodes =
     inr (due-start (node_share conf) (interval_of conf) n m.world.pending_nodes (enough (node_limit conf) (interval_of conf) (length m.world.pending_nodes) sound.interval small.pending_nodes)) in
     let first : NodeAwaits conf (2 * interval_of conf) n m.world = record { made = made; fate = due } in
     any-number (λ (d : Node). d.number) n (after conf (earlier ++ meanwhile)).world.nodes
-    ∙ ap (λ (v : Held). is_among (node_numbers v.world.nodes) n) (done_all-append conf (start conf).held earlier meanwhile)
+    ∙ ap (λ (v : MachineContents). is_among (node_numbers v.world.nodes) n) (done_all-append conf (start conf).held earlier meanwhile)
     ∙ node-goes conf n m meanwhile sound.interval small (subst (λ (k : ℕ). NodeAwaits conf k n m.world) (sym rounds.purges) first)
-    (λ before rest s e. subst (λ (v : Held). IsOver conf n v.world s) (done_all-append conf (start conf).held earlier before) (all before rest s e))
+    (λ before rest s e. subst (λ (v : MachineContents). IsOver conf n v.world s) (done_all-append conf (start conf).held earlier before) (all before rest s e))

@@ -18,8 +18,8 @@ use Rattle.pfs_store_contract.specs.Worlds.{World, holds_number}
 use Rattle.pfs_store_contract.specs.declared.records.State.{State}
 use Rattle.pfs_engine_machine.proofs.Numbers.{Rise-filter, Rise-map, Rise-more, Rise-push}
 use Rattle.pfs_engine_machine.proofs.Renewals.{renewed-same}
-use Rattle.pfs_engine_machine.specs.Kept.{Rise}
-use Rattle.pfs_engine_machine.specs.Machine.{Held, held_for, start}
+use Rattle.pfs_engine_machine.specs.MachineInvariants.{Rise}
+use Rattle.pfs_engine_machine.specs.Machine.{MachineContents, held_for, start}
 use Rattle.pfs_engine_machine.specs.declared.events.Event.{Event}
 use Rattle.pfs_engine_machine.proofs.PacketChanges.{Changes, IsKeptByPackets, answered_keeps, key_has}
 use Rattle.pfs_engine_machine.proofs.Limits.{refused_has}
@@ -36,23 +36,23 @@ use Rattle.pfs_engine_machine.proofs.Keys.{found-by}
 
 -- ---- numbers rise
 
-record AreNumbered (w : World) : Type 0 where
+record AreStatesNumbered (w : World) : Type 0 where
   rise : Rise 0 w.states w.made
 
-numbered-packets : (conf : Conf) → IsKeptByPackets conf AreNumbered
+numbered-packets : (conf : Conf) → IsKeptByPackets conf AreStatesNumbered
 numbered-packets conf = record {
   touches = λ w s p now h. record { rise = Rise-map (numbered_state_after s.number p now) (λ t. (renewed-same s.number p now t).number) 0 w.made w.states h.rise };
   kills = λ w stay now h. record { rise = Rise-filter stay 0 w.made w.states h.rise };
   admits = λ w p going cookie rule now none led free h. record { rise = Rise-push 0 w.made w.states (new_state conf (w.made + 1) p going rule cookie now) h.rise (omega arith) };
-  refuses = λ w p rule now l met h. refused_has conf w rule p.source.addr now l AreNumbered met h (λ free. record { rise = Rise-more 0 w.made w.states h.rise });
+  refuses = λ w p rule now l met h. refused_has conf w rule p.source.addr now l AreStatesNumbered met h (λ free. record { rise = Rise-more 0 w.made w.states h.rise });
 }
 
-numbered-all : (conf : Conf) (m : Held) (acts : List RunAct) → AreNumbered m.world → AreNumbered (acts_done conf m acts).world
+numbered-all : (conf : Conf) (m : MachineContents) (acts : List RunAct) → AreStatesNumbered m.world → AreStatesNumbered (acts_done conf m acts).world
 numbered-all conf m [] h = h
 numbered-all conf m (Purge s ∷ acts) h =
     numbered-all conf (act_done conf m (Purge s)) acts (record { rise = Rise-filter (stays conf m.world.states s (take (state_share conf) (state_round m.world))) 0 m.world.made m.world.states h.rise })
 numbered-all conf m (Arrive now p cookie ∷ acts) h =
-    numbered-all conf (act_done conf m (Arrive now p cookie)) acts (answered_keeps conf AreNumbered (numbered-packets conf) m p cookie now h)
+    numbered-all conf (act_done conf m (Arrive now p cookie)) acts (answered_keeps conf AreStatesNumbered (numbered-packets conf) m p cookie now h)
 numbered-all conf m (Change first now table done ∷ acts) h = numbered-all conf (act_done conf m (Change first now table done)) acts h
 numbered-all conf m (Kill now hosts ∷ acts) h = numbered-all conf (act_done conf m (Kill now hosts)) acts ((numbered-packets conf).kills m.world (stays_elsewhere hosts) now h)
 
@@ -126,7 +126,7 @@ before-packet conf s w p cookie now apart h = record {
   kills = λ v stay k. before-left conf s v stay now k;
 }
 
-before-done : (conf : Conf) (s : State) (m : Held) (a : RunAct) → brings s a ≡ false → IsAsBefore s m.world → IsAsBefore s (act_done conf m a).world
+before-done : (conf : Conf) (s : State) (m : MachineContents) (a : RunAct) → brings s a ≡ false → IsAsBefore s m.world → IsAsBefore s (act_done conf m a).world
 before-done conf s m (Purge now) apart h = record {
   made = h.made;
   same = each-filter (λ (t : State). t.number ≡ s.number → t ≡ s) (stays conf m.world.states now (take (state_share conf) (state_round m.world))) m.world.states h.same;
@@ -137,7 +137,7 @@ before-done conf s m (Arrive now p cookie) apart h =
 before-done conf s m (Change first now table done) apart h = h
 before-done conf s m (Kill now hosts) apart h = before-left conf s m.world (stays_elsewhere hosts) now h
 
-before-all : (conf : Conf) (s : State) (m : Held) (acts rest : List RunAct) → AllByRecursion (λ (a : RunAct). brings s a ≡ false) (acts ++ rest) → IsAsBefore s m.world
+before-all : (conf : Conf) (s : State) (m : MachineContents) (acts rest : List RunAct) → AllByRecursion (λ (a : RunAct). brings s a ≡ false) (acts ++ rest) → IsAsBefore s m.world
     → IsAsBefore s (acts_done conf m acts).world
 before-all conf s m [] rest all h = h
 before-all conf s m (a ∷ acts) rest all h = before-all conf s (act_done conf m a) acts rest all.1 (before-done conf s m a all.0 h)
@@ -184,19 +184,19 @@ all-expired conf s v now h expired =
 
 pub states-go : (conf : Conf) (events : List Event) → IsConfig conf → StatesGo conf events
 states-go conf events sound earlier meanwhile later s rounds held apart expired =
-    let m : Held = after conf earlier in
-    let number : AreNumbered m.world = numbered-all conf (start conf).held earlier (record { rise = omega arith }) in
+    let m : MachineContents = after conf earlier in
+    let number : AreStatesNumbered m.world = numbered-all conf (start conf).held earlier (record { rise = omega arith }) in
     let small : IsSmall conf m.world = small-done_all conf (start conf).held earlier (small-empty conf) in
     let made = small.state_made s.number (held-number m.world.states s held) in
     let first : IsAsBefore s m.world = record { made = made; same = unique 0 m.world.made m.world.states s number.rise held } in
     any-number (λ (t : State). t.number) s.number (after conf (earlier ++ meanwhile)).world.states
     ∙ numbered-go conf earlier meanwhile s.number sound rounds.purges made (through m first refl)
   where
-    through : (m : Held) → IsAsBefore s m.world → after conf earlier ≡ m → IsExpiredThroughout conf m s.number meanwhile
+    through : (m : MachineContents) → IsAsBefore s m.world → after conf earlier ≡ m → IsExpiredThroughout conf m s.number meanwhile
     through m first is before rest now e =
-        let v : Held = acts_done conf m before in
-        let there : after conf (earlier ++ before) ≡ v = done_all-append conf (start conf).held earlier before ∙ ap (λ (u : Held). acts_done conf u before) is in
+        let v : MachineContents = acts_done conf m before in
+        let there : after conf (earlier ++ before) ≡ v = done_all-append conf (start conf).held earlier before ∙ ap (λ (u : MachineContents). acts_done conf u before) is in
         let apart' : AllByRecursion (λ (a : RunAct). brings s a ≡ false) (before ++ Purge now ∷ rest) =
         subst (AllByRecursion (λ (a : RunAct). brings s a ≡ false)) e (recursion_from_All (λ (a : RunAct). brings s a ≡ false) meanwhile apart) in
         all-expired conf s v.world now (before-all conf s m before (Purge now ∷ rest) apart' first)
-        (λ h. ap (λ (u : Held). has_expired conf u.world.states now s) (sym there) ∙ expired before rest now e (ap (λ (u : Held). holds_number u.world.states s.number) there ∙ h))
+        (λ h. ap (λ (u : MachineContents). has_expired conf u.world.states now s) (sym there) ∙ expired before rest now e (ap (λ (u : MachineContents). holds_number u.world.states s.number) there ∙ h))

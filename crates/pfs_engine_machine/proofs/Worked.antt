@@ -38,7 +38,7 @@ use Rattle.pfs_engine_machine.specs.declared.events.Event.{Event}
 use Rattle.pfs_engine_machine.specs.declared.events.Exceeded.TheVariants as exceeded
 use Rattle.pfs_engine_machine.specs.declared.events.Outcome.{Outcome}
 use Rattle.pfs_engine_machine.specs.declared.events.Outcome.TheVariants as outcome
-use Rattle.pfs_engine_machine.specs.declared.events.Arrival.TheVariants.{Held, Packet, Skip, Table}
+use Rattle.pfs_engine_machine.specs.declared.events.Arrival.TheVariants.{HeldQuery, Packet, Skip, Table}
 use Rattle.pfs_engine_machine.specs.declared.events.Command.TheVariants as command
 use Rattle.pfs_conf_values.specs.Translations.{no_translation}
 use Rattle.pfs_eval.specs.Translating.{translated, nat_by, rdr_by}
@@ -120,10 +120,10 @@ abbrev delete : ℕ → TableEntry → Event
 delete now e = record { time = now; what = Table (record { 0 = 0 }) (command.Delete e) }
 
 abbrev ask : ℕ → Event
-ask now = record { time = now; what = Held }
+ask now = record { time = now; what = HeldQuery }
 
 abbrev amounts : ℕ → ℕ → ℕ → Outcome
-amounts states nodes entries = outcome.Held (record { states = states; nodes = nodes; entries = entries })
+amounts states nodes entries = outcome.HeldAnswer (record { states = states; nodes = nodes; entries = entries })
 
 abbrev udp : ℕ → ℕ → ℕ → Event
 udp now n port = comes now (to_server Udp n port 53 (flagged false false false))
@@ -346,7 +346,7 @@ entries_expire : run_of expiring
           ∷ killed_as added.New
           ∷ made 0
           ∷ of_state 0
-          ∷ killed_as added.Held
+          ∷ killed_as added.AlreadyThere
           ∷ outcome.Expire 1
           ∷ outcome.Expire 1
           ∷ [],
@@ -384,7 +384,7 @@ added_and_deleted : run_of (tabled 2)
       outcome.Add entered.New
           ∷ outcome.Add entered.New
           ∷ outcome.Add entered.Conflict
-          ∷ outcome.Add entered.Held
+          ∷ outcome.Add entered.AlreadyThere
           ∷ outcome.Add entered.Full
           ∷ outcome.Delete 0
           ∷ outcome.Delete 1
@@ -396,7 +396,7 @@ unfolding outcomes_of machine_after step covers cleared_addr
 added_and_deleted = refl
 
 added_ages : run_of (tabled 2) (add 6 (entry (source 1) 32 false) ∷ add 7 (entry (source 1) 32 false) ∷ expire 15 0 10 ∷ expire 16 0 10 ∷ [])
-    ≡ (outcome.Add entered.New ∷ outcome.Add entered.Held ∷ outcome.Expire 0 ∷ outcome.Expire 1 ∷ [], (0, 0, 0))
+    ≡ (outcome.Add entered.New ∷ outcome.Add entered.AlreadyThere ∷ outcome.Expire 0 ∷ outcome.Expire 1 ∷ [], (0, 0, 0))
 unfolding outcomes_of machine_after step covers cleared_addr
 added_ages = refl
 

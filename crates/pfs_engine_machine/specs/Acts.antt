@@ -5,8 +5,8 @@ use Rattle.pfs_conf_values.specs.Configs.{Conf}
 use Rattle.pfs_store_contract.specs.Purging.{purge}
 use Rattle.pfs_store_contract.specs.declared.kills.FromTo.{FromTo}
 use Rattle.pfs_engine_machine.specs.Guards.{Guard, brings_cookie, gets_cookie}
-use Rattle.pfs_engine_machine.specs.Kept.{IsWithinLimits}
-use Rattle.pfs_engine_machine.specs.Machine.{Held, Machine, answer_to_command, answer_to_kill, answer_to_packet, due, first_moment, held_of, machine_at_moment, start, step}
+use Rattle.pfs_engine_machine.specs.MachineInvariants.{IsWithinLimits}
+use Rattle.pfs_engine_machine.specs.Machine.{MachineContents, Machine, answer_to_command, answer_to_kill, answer_to_packet, due, first_moment, held_of, machine_at_moment, start, step}
 use Rattle.pfs_engine_machine.specs.declared.events.Command.{Command}
 use Rattle.pfs_engine_machine.specs.declared.events.Event.{Event}
 use Rattle.pfs_engine_machine.specs.declared.events.Arrival.{Arrival}
@@ -21,12 +21,12 @@ pub data RunAct : Type 0 where
   Kill : ℕ → FromTo → RunAct
 
 -- what an arrival does to what is held, by the guard and what is held before it: a packet that gets a cookie does nothing to it
-abbrev pub arrivals : Conf → Guard → Held → ℕ → ℕ → Arrival → List RunAct
+abbrev pub arrivals : Conf → Guard → MachineContents → ℕ → ℕ → Arrival → List RunAct
 arrivals conf g h first now arrival.Skip = []
 arrivals conf g h first now (arrival.Packet p) = if gets_cookie conf g h.world p then [] else Arrive now p (brings_cookie g h.world p) ∷ []
 arrivals conf g h first now (arrival.Table table done) = Change first now table.0 done ∷ []
 arrivals conf g h first now (arrival.Kill hosts) = Kill now hosts ∷ []
-arrivals conf g h first now arrival.Held = []
+arrivals conf g h first now arrival.HeldQuery = []
 
 -- at the moment of a machine
 abbrev pub arrivals_at : Conf → Machine → ℕ → ℕ → Arrival → List RunAct
@@ -44,17 +44,17 @@ abbrev pub acts_of : Conf → List Event → List RunAct
 acts_of conf es = acts_from conf (start conf) es
 
 -- what is held after one of them, after all of them, and after the first of a run
-abbrev pub act_done : Conf → Held → RunAct → Held
+abbrev pub act_done : Conf → MachineContents → RunAct → MachineContents
 act_done conf h (Purge s) = held_of (purge conf h.world s) h.tables
 act_done conf h (Arrive now p cookie) = (answer_to_packet conf h p cookie now).1
 act_done conf h (Change first now table done) = (answer_to_command conf h first now table done).1
 act_done conf h (Kill now hosts) = (answer_to_kill conf h now hosts).1
 
-abbrev pub acts_done : Conf → Held → List RunAct → Held
+abbrev pub acts_done : Conf → MachineContents → List RunAct → MachineContents
 acts_done conf h [] = h
 acts_done conf h (a ∷ acts) = acts_done conf (act_done conf h a) acts
 
-abbrev pub after : Conf → List RunAct → Held
+abbrev pub after : Conf → List RunAct → MachineContents
 after conf acts = acts_done conf (start conf).held acts
 
 -- how many purges are among them

@@ -1,9 +1,9 @@
 pub mod Acts
 pub mod CookieLife
 pub mod Guards
-pub mod Kept
 pub mod Looks
 pub mod Machine
+pub mod MachineInvariants
 pub mod RateMemory
 pub mod Rates
 pub mod Refusals

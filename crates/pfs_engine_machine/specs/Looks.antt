@@ -62,4 +62,4 @@ AreLooks conf of_source (outcome.Expire removed) looks = looks ≡ 0
 AreLooks conf of_source (outcome.Add became) looks = looks ≡ 0
 AreLooks conf of_source (outcome.Delete removed) looks = looks ≡ 0
 AreLooks conf of_source (outcome.Killed killed) looks = looks ≡ 0
-AreLooks conf of_source (outcome.Held amounts) looks = looks ≡ 0
+AreLooks conf of_source (outcome.HeldAnswer amounts) looks = looks ≡ 0

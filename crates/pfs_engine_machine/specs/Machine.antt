@@ -40,16 +40,16 @@ use Rattle.pfs_engine_machine.specs.declared.events.Arrival.{Arrival}
 use Rattle.pfs_engine_machine.specs.declared.events.Arrival.TheVariants as arrival
 
 -- what is held: the states and source nodes, and the entries of each table
-pub record Held : Type 0 where
+pub record MachineContents : Type 0 where
   pub world : World
   pub tables : List (List Entry)
 
-abbrev pub held_of : World → List (List Entry) → Held
+abbrev pub held_of : World → List (List Entry) → MachineContents
 held_of world tables = record { world = world; tables = tables }
 
 -- what is held, the guard before it, and the moments of the first event and of the last
 pub record Machine : Type 0 where
-  pub held : Held
+  pub held : MachineContents
   pub guard : Guard
   pub first : Option ℕ
   pub last : Option ℕ
@@ -100,7 +100,7 @@ tables_after_addition conf tables source now None = tables
 tables_after_addition conf tables source now (Some v) = entries_after tables v.table.0 source now (added_to tables (limit_of conf limit_name.TableEntries) v.table.0 source)
 
 -- the state of this number, direction, rule and source is killed, with those that its rule flushes
-abbrev pub answer_of_kill : Conf → Held → ℕ → Dir → RuleNo → Addr → ℕ → Exceeded → Outcome × Held
+abbrev pub answer_of_kill : Conf → MachineContents → ℕ → Dir → RuleNo → Addr → ℕ → Exceeded → Outcome × MachineContents
 answer_of_kill conf h number dir rule source now limits =
     let overload = (options_of conf rule.0).overload in
     let flush = flush_of overload in (
@@ -120,12 +120,12 @@ abbrev pub outcome_of_held : RuleNo → Bool → Bool → Outcome
 outcome_of_held rule taken asks = if taken then (if asks then outcome.Asking rule else outcome.Taken rule) else outcome.State rule
 
 -- a packet of the state of this number, direction, rule and source exceeds these limits, or none, and then this comes of it
-abbrev pub answer_of_exceeded : Conf → Held → ℕ → Dir → RuleNo → Addr → ℕ → Outcome → Option Exceeded → Outcome × Held
+abbrev pub answer_of_exceeded : Conf → MachineContents → ℕ → Dir → RuleNo → Addr → ℕ → Outcome → Option Exceeded → Outcome × MachineContents
 answer_of_exceeded conf h number dir rule source now unhindered (Some limits) = answer_of_kill conf h number dir rule source now limits
 answer_of_exceeded conf h number dir rule source now unhindered None = (unhindered, h)
 
 -- a packet of this state completes its handshake, or not, and where it exceeds no limit this comes of it
-abbrev pub answer_of_handshake : Conf → Held → State → ℕ → Outcome → Bool → Outcome × Held
+abbrev pub answer_of_handshake : Conf → MachineContents → State → ℕ → Outcome → Bool → Outcome × MachineContents
 answer_of_handshake conf h s now unhindered completes =
     let limits = exceeded_of (hits_connections conf h.world s) (hits_rate conf h.world s) in
     answer_of_exceeded conf h s.number s.dir s.rule s.source now unhindered (if completes then limits else None)
@@ -133,7 +133,7 @@ answer_of_handshake conf h s now unhindered completes =
 -- ---- one packet, which brings a cookie, or not
 
 -- what is held after a refusal at this limit
-abbrev pub held_refused : Conf → Held → PacketView → ℕ → ℕ → Limit → Held
+abbrev pub held_refused : Conf → MachineContents → PacketView → ℕ → ℕ → Limit → MachineContents
 held_refused conf h p now rule l = held_of (world_after_refusal conf h.world p.source.addr rule now l) h.tables
 
 -- a packet that makes a state of this rule goes on, or pf answers it itself
@@ -141,13 +141,13 @@ abbrev pub outcome_of_new : RuleNo → Bool → Outcome
 outcome_of_new rule answered = if answered then outcome.Answered rule else outcome.New rule
 
 -- it makes its state, whose keys are free; or another state has one of them, and nothing changes (pf of OpenBSD calls that `state-insert`)
-abbrev pub answer_of_keys : Conf → Held → PacketView → PacketView → Bool → ℕ → ℕ → Bool → Outcome × Held
+abbrev pub answer_of_keys : Conf → MachineContents → PacketView → PacketView → Bool → ℕ → ℕ → Bool → Outcome × MachineContents
 answer_of_keys conf h p going cookie now rule true =
     (outcome_of_new (record { 0 = rule }) (cookie || is_answered conf rule p), held_of (world_after_admission conf h.world p going rule cookie now) h.tables)
 answer_of_keys conf h p going cookie now rule false = (outcome.Conflict (record { 0 = rule }), h)
 
 -- the state that it would make meets a limit, or none
-abbrev pub answer_of_limits : Conf → Held → PacketView → PacketView → Bool → ℕ → ℕ → Option Limit → Outcome × Held
+abbrev pub answer_of_limits : Conf → MachineContents → PacketView → PacketView → Bool → ℕ → ℕ → Option Limit → Outcome × MachineContents
 answer_of_limits conf h p going cookie now rule None = answer_of_keys conf h p going cookie now rule (are_free h.world p going)
 answer_of_limits conf h p going cookie now rule (Some l) = (outcome.Drop (record { 0 = rule }) l, held_refused conf h p now rule l)
 
@@ -156,83 +156,83 @@ abbrev pub outcome_of_pass : Option RuleNo → Bool → Outcome
 outcome_of_pass rule cookie = if cookie then outcome.Stateless rule else outcome.Pass rule
 
 -- what the rule that decides says, which is no `match` rule; the packet goes on as the rules left it
-abbrev pub answer_of_action : Conf → Held → PacketView → PacketView → Bool → ℕ → ℕ → Action → Outcome × Held
+abbrev pub answer_of_action : Conf → MachineContents → PacketView → PacketView → Bool → ℕ → ℕ → Action → Outcome × MachineContents
 answer_of_action conf h p going cookie now rule action.Match = (outcome_of_pass None cookie, h)
 answer_of_action conf h p going cookie now rule action.Block = (outcome.Block (record { 0 = rule }), h)
 answer_of_action conf h p going cookie now rule action.Pass = (outcome_of_pass (Some (record { 0 = rule })) cookie, h)
 answer_of_action conf h p going cookie now rule (action.Keep o) = answer_of_limits conf h p going cookie now rule (limit_met conf h.world rule p.source.addr)
 
 -- a rule decides, or none
-abbrev pub answer_of_rule : Conf → Held → PacketView → PacketView → Bool → ℕ → Option ℕ → Outcome × Held
+abbrev pub answer_of_rule : Conf → MachineContents → PacketView → PacketView → Bool → ℕ → Option ℕ → Outcome × MachineContents
 answer_of_rule conf h p going cookie now None = (outcome_of_pass None cookie, h)
 answer_of_rule conf h p going cookie now (Some rule) = answer_of_action conf h p going cookie now rule (rule_of conf rule).action
 
 -- a rule loses the packet, since its `nat-to` finds no port, before any limit is asked; or none does (pf.conf(5), TRANSLATION)
-abbrev pub answer_of_loss : Conf → Held → PacketView → PacketView → Bool → ℕ → Option ℕ → Option ℕ → Outcome × Held
+abbrev pub answer_of_loss : Conf → MachineContents → PacketView → PacketView → Bool → ℕ → Option ℕ → Option ℕ → Outcome × MachineContents
 answer_of_loss conf h p going cookie now decides None = answer_of_rule conf h p going cookie now decides
 answer_of_loss conf h p going cookie now decides (Some rule) = (outcome.Lost (record { 0 = rule }), h)
 
 -- what the rules ask of packets, and make of them
-abbrev pub asking_of : Conf → Held → Asking
+abbrev pub asking_of : Conf → MachineContents → Asking
 asking_of conf h = asking conf.items h.tables (is_taken_on h.world)
 
 -- the rule that decides
-abbrev pub deciding_rule : Conf → Held → PacketView → Option ℕ
+abbrev pub deciding_rule : Conf → MachineContents → PacketView → Option ℕ
 deciding_rule conf h p = verdict (asking_of conf h) p conf.items
 
 -- the packet as the rules leave it
-abbrev pub packet_ruled : Conf → Held → PacketView → PacketView
+abbrev pub packet_ruled : Conf → MachineContents → PacketView → PacketView
 packet_ruled conf h p = packet_behind (asking_of conf h) p conf.items
 
 -- the rule that loses it, if one does
-abbrev pub losing_rule : Conf → Held → PacketView → Option ℕ
+abbrev pub losing_rule : Conf → MachineContents → PacketView → Option ℕ
 losing_rule conf h p = lost_by (asking_of conf h) p conf.items
 
 -- what the rules make of a packet, or of the SYN whose cookie it brings
-abbrev pub answer_of_rules : Conf → Held → PacketView → Bool → ℕ → Outcome × Held
+abbrev pub answer_of_rules : Conf → MachineContents → PacketView → Bool → ℕ → Outcome × MachineContents
 answer_of_rules conf h p cookie now =
     answer_of_loss conf h p (packet_ruled conf h (asked p cookie)) cookie now (deciding_rule conf h (asked p cookie)) (losing_rule conf h (asked p cookie))
 
 -- it is one of a held state, or of none
-abbrev pub answer_of_state : Conf → Held → PacketView → Bool → ℕ → Option State → Outcome × Held
+abbrev pub answer_of_state : Conf → MachineContents → PacketView → Bool → ℕ → Option State → Outcome × MachineContents
 answer_of_state conf h p cookie now (Some s) =
     answer_of_handshake conf (held_of (world_after_touch conf h.world s p now) h.tables) s now (outcome_of_held s.rule (is_taken p s) (is_asking p s))
     (completes_at p s)
 answer_of_state conf h p cookie now None = answer_of_rules conf h p cookie now
 
 -- what a packet meets: where it is a SYN for a connection that has closed, its state has left before
-abbrev pub held_for : Conf → Held → PacketView → ℕ → Held
+abbrev pub held_for : Conf → MachineContents → PacketView → ℕ → MachineContents
 held_for conf h p now = held_of (world_reopened conf h.world p now (state_for h.world p)) h.tables
 
 -- what a packet does to what it meets at a moment
-abbrev pub answer_of_key : Conf → Held → PacketView → Bool → ℕ → Outcome × Held
+abbrev pub answer_of_key : Conf → MachineContents → PacketView → Bool → ℕ → Outcome × MachineContents
 answer_of_key conf h p cookie now = answer_of_state conf h p cookie now (state_for h.world p)
 
 -- what a packet does at a moment
-abbrev pub answer_to_packet : Conf → Held → PacketView → Bool → ℕ → Outcome × Held
+abbrev pub answer_to_packet : Conf → MachineContents → PacketView → Bool → ℕ → Outcome × MachineContents
 answer_to_packet conf h p cookie now = answer_of_key conf (held_for conf h p now) p cookie now
 
 -- a packet as it goes on from what it meets, with its flags: with the tag of its state, under the other key of that; or as the rules leave it
-abbrev pub going_of_state : Conf → Held → PacketView → Bool → Option State → PacketView
+abbrev pub going_of_state : Conf → MachineContents → PacketView → Bool → Option State → PacketView
 going_of_state conf h p cookie (Some s) = under_key (onward_key p.dir s) (with_tag p s.tag)
 going_of_state conf h p cookie None = record (packet_ruled conf h (asked p cookie)) { flags = p.flags }
 
-abbrev pub going_from : Conf → Held → PacketView → Bool → PacketView
+abbrev pub going_from : Conf → MachineContents → PacketView → Bool → PacketView
 going_from conf h p cookie = going_of_state conf h p cookie (state_for h.world p)
 
 -- ---- a packet, behind the guard
 
 -- what it meets: where it gets a cookie, all that is held
-abbrev pub held_behind_guard : Conf → Guard → Held → PacketView → ℕ → Held
+abbrev pub held_behind_guard : Conf → Guard → MachineContents → PacketView → ℕ → MachineContents
 held_behind_guard conf g h p now = if gets_cookie conf g h.world p then h else held_for conf h p now
 
 -- it gets a cookie, and nothing that is held changes; else it may bring one
-abbrev pub answer_behind_guard : Conf → Guard → Held → PacketView → ℕ → Outcome × Held
+abbrev pub answer_behind_guard : Conf → Guard → MachineContents → PacketView → ℕ → Outcome × MachineContents
 answer_behind_guard conf g h p now =
     if gets_cookie conf g h.world p then (outcome.Cookie, h) else answer_to_packet conf h p (brings_cookie g h.world p) now
 
 -- as it goes on, where it does
-abbrev pub going_behind_guard : Conf → Guard → Held → PacketView → ℕ → PacketView
+abbrev pub going_behind_guard : Conf → Guard → MachineContents → PacketView → ℕ → PacketView
 going_behind_guard conf g h p now = if gets_cookie conf g h.world p then p else going_from conf (held_for conf h p now) p (brings_cookie g h.world p)
 
 -- ---- an administrator: old entries leave a table, an entry is added, that very entry is taken out (pfctl(8), "-T")
@@ -249,32 +249,32 @@ tables_after_command conf tables first now table (command.Expire seconds) = entr
 tables_after_command conf tables first now table (command.Add e) = entries_entered tables table e now (entered_to tables (limit_of conf limit_name.TableEntries) table e)
 tables_after_command conf tables first now table (command.Delete e) = entries_without tables table e
 
-abbrev pub answer_to_command : Conf → Held → ℕ → ℕ → ℕ → Command → Outcome × Held
+abbrev pub answer_to_command : Conf → MachineContents → ℕ → ℕ → ℕ → Command → Outcome × MachineContents
 answer_to_command conf h first now table done =
     (outcome_of_command conf h.tables first now table done, held_of h.world (tables_after_command conf h.tables first now table done))
 
 -- ---- an administrator takes out the states that go from hosts to hosts (pfctl(8), "-k")
 
-abbrev pub answer_to_kill : Conf → Held → ℕ → FromTo → Outcome × Held
+abbrev pub answer_to_kill : Conf → MachineContents → ℕ → FromTo → Outcome × MachineContents
 answer_to_kill conf h now hosts = (outcome.Killed (from_to_count h.world hosts), held_of (world_elsewhere conf h.world hosts now) h.tables)
 
 -- ---- an administrator asks how much is held (pfctl(8), "-si")
 
-abbrev pub amounts_of : Held → Amounts
+abbrev pub amounts_of : MachineContents → Amounts
 amounts_of h = record { states = length h.world.states; nodes = length h.world.nodes; entries = entry_count h.tables }
 
 -- ---- one event
 
 -- what comes
-abbrev pub answer_to_arrival : Conf → Guard → Held → ℕ → ℕ → Arrival → Outcome × Held
+abbrev pub answer_to_arrival : Conf → Guard → MachineContents → ℕ → ℕ → Arrival → Outcome × MachineContents
 answer_to_arrival conf g h first now arrival.Skip = (outcome.Skip, h)
 answer_to_arrival conf g h first now (arrival.Packet p) = answer_behind_guard conf g h p now
 answer_to_arrival conf g h first now (arrival.Table table done) = answer_to_command conf h first now table.0 done
 answer_to_arrival conf g h first now (arrival.Kill hosts) = answer_to_kill conf h now hosts
-answer_to_arrival conf g h first now arrival.Held = (outcome.Held (amounts_of h), h)
+answer_to_arrival conf g h first now arrival.HeldQuery = (outcome.HeldAnswer (amounts_of h), h)
 
 -- the guard after it
-abbrev pub guard_after_arrival : Conf → Guard → Held → ℕ → Arrival → Guard
+abbrev pub guard_after_arrival : Conf → Guard → MachineContents → ℕ → Arrival → Guard
 guard_after_arrival conf g h now (arrival.Packet p) = guard_after_packet conf g h.world p now
 guard_after_arrival conf g h now _ = g
 

@@ -31,7 +31,7 @@ score_compared conf w now arrival.Skip s = zero_score
 score_compared conf w now (arrival.Packet p) s = score_in s.source (world_after_touch conf w s p now).nodes (node_scope_of conf s.rule.0)
 score_compared conf w now (arrival.Table table done) s = zero_score
 score_compared conf w now (arrival.Kill hosts) s = zero_score
-score_compared conf w now arrival.Held s = zero_score
+score_compared conf w now arrival.HeldQuery s = zero_score
 
 -- at each handshake of a rule with a rate, that score is the one of the whole history of its source's handshakes
 abbrev pub ScoreIsRemembered : Conf → List Event → Type 0

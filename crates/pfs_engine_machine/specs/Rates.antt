@@ -32,7 +32,7 @@ handshaking_state w arrival.Skip = None
 handshaking_state w (arrival.Packet p) = completed_state p (state_for w p)
 handshaking_state w (arrival.Table table done) = None
 handshaking_state w (arrival.Kill hosts) = None
-handshaking_state w arrival.Held = None
+handshaking_state w arrival.HeldQuery = None
 
 -- the state whose handshake an event completes
 abbrev pub handshake_at : Conf → Machine → Event → Option State

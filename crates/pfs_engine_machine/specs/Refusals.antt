@@ -10,7 +10,7 @@ use Rattle.pfs_store_contract.specs.Calls.{packet_limit}
 use Rattle.pfs_store_contract.specs.Worlds.{World}
 use Rattle.pfs_store_contract.specs.declared.records.Limit.{Limit}
 use Rattle.pfs_engine_machine.specs.Guards.{Guard, asked, brings_cookie, gets_cookie}
-use Rattle.pfs_engine_machine.specs.Machine.{Held, deciding_rule, held_for, losing_rule}
+use Rattle.pfs_engine_machine.specs.Machine.{MachineContents, deciding_rule, held_for, losing_rule}
 use Rattle.pfs_engine_machine.specs.Sides.{state_for}
 use Rattle.pfs_engine_machine.specs.declared.events.Outcome.{Outcome}
 use Rattle.pfs_engine_machine.specs.declared.events.Outcome.TheVariants as outcome
@@ -23,7 +23,7 @@ is_tcp (proto.Other n) = false
 
 -- the packet is one of no held state, no rule loses it, or the SYN whose cookie it brings, this rule decides on it and keeps state, and this
 -- is the first limit that the state meets
-pub record IsDropped (conf : Conf) (h : Held) (p : PacketView) (cookie : Bool) (rule : ℕ) (limit : Limit) : Type 0 where
+pub record IsDropped (conf : Conf) (h : MachineContents) (p : PacketView) (cookie : Bool) (rule : ℕ) (limit : Limit) : Type 0 where
   pub fresh : state_for h.world p ≡ None
   pub passes : losing_rule conf h (asked p cookie) ≡ None
   pub rule_is : deciding_rule conf h (asked p cookie) ≡ Some rule
@@ -31,7 +31,7 @@ pub record IsDropped (conf : Conf) (h : Held) (p : PacketView) (cookie : Bool) (
   pub met : packet_limit conf h.world p rule ≡ Some limit
 
 -- it gets no cookie, and meets this limit at what it meets
-pub record IsDroppedBehindGuard (conf : Conf) (g : Guard) (h : Held) (p : PacketView) (now rule : ℕ) (limit : Limit) : Type 0 where
+pub record IsDroppedBehindGuard (conf : Conf) (g : Guard) (h : MachineContents) (p : PacketView) (now rule : ℕ) (limit : Limit) : Type 0 where
   pub let_on : gets_cookie conf g h.world p ≡ false
   pub dropped : IsDropped conf (held_for conf h p now) p (brings_cookie g h.world p) rule limit
 

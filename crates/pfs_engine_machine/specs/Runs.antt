@@ -11,7 +11,7 @@ use Rattle.pfs_engine_machine.specs.declared.events.Outcome.{Outcome}
 use Rattle.pfs_engine_machine.specs.declared.events.Arrival.{Arrival}
 use Rattle.pfs_engine_machine.specs.declared.events.Arrival.TheVariants as arrival
 use Rattle.pfs_engine_machine.specs.Guards.{Guard, guard_for}
-use Rattle.pfs_engine_machine.specs.Machine.{Held, Machine, answer_behind_guard, held_behind_guard, machine_after, machine_at_moment, outcomes_of}
+use Rattle.pfs_engine_machine.specs.Machine.{MachineContents, Machine, answer_behind_guard, held_behind_guard, machine_after, machine_at_moment, outcomes_of}
 use Rattle.pfs_engine_machine.specs.Refusals.{IsFree}
 
 -- ---- what may come
@@ -37,7 +37,7 @@ packets_of (arrival.Packet p) = 1
 packets_of arrival.Skip = 0
 packets_of (arrival.Table table done) = 0
 packets_of (arrival.Kill hosts) = 0
-packets_of arrival.Held = 0
+packets_of arrival.HeldQuery = 0
 
 -- how many of these events are packets
 unfoldable pub packets_in : List Event → ℕ
@@ -57,7 +57,7 @@ AreAllowed conf (e ∷ es) = MayCome conf e.what × AreAllowed conf es
 -- ---- where a run stops
 
 -- what comes at a moment needs memory: a packet that is not free of it, or an entry that is new
-abbrev pub NeedsMemory : Conf → Guard → Held → ℕ → Arrival → Type 0
+abbrev pub NeedsMemory : Conf → Guard → MachineContents → ℕ → Arrival → Type 0
 NeedsMemory conf g h now (arrival.Packet p) = IsFree conf (held_behind_guard conf g h p now).world p (answer_behind_guard conf g h p now).0 → ⊥
 NeedsMemory conf g h now (arrival.Table table (command.Add e)) = entered_to h.tables (limit_of conf limit_name.TableEntries) table.0 e ≡ entered.New
 NeedsMemory conf g h now _ = ⊥

@@ -10,6 +10,6 @@ Addition = Option Added
 -- one of four values: where the source was added, was held, did not fit, or there is no table
 abbrev pub value_of_addition : {A : Type 0} → A → A → A → A → Addition → A
 value_of_addition new held full none (Some added.New) = new
-value_of_addition new held full none (Some added.Held) = held
+value_of_addition new held full none (Some added.AlreadyThere) = held
 value_of_addition new held full none (Some added.Full) = full
 value_of_addition new held full none None = none

@@ -20,8 +20,8 @@ pub record AreTwoRounds (conf : Conf) (events : List Event) (earlier meanwhile l
 
 -- at each purge of the second part this holds of the world before it and of its second
 abbrev pub AtEachPurge : Conf → List RunAct → List RunAct → (World → ℕ → Type 0) → Type 0
-AtEachPurge conf earlier meanwhile Holds =
-    (before rest : List RunAct) (now : ℕ) → meanwhile ≡ before ++ Purge now ∷ rest → Holds (after conf (earlier ++ before)).world now
+AtEachPurge conf earlier meanwhile Property =
+    (before rest : List RunAct) (now : ℕ) → meanwhile ≡ before ++ Purge now ∷ rest → Property (after conf (earlier ++ before)).world now
 
 -- a packet of a state arrives, by the key of it that it meets
 abbrev pub brings : State → RunAct → Bool

@@ -9,8 +9,8 @@ use Rattle.pfs_conf_values.specs.declared.items.RuleNo.{RuleNo}
 use Rattle.pfs_store_contract.specs.Calls.{state_number}
 use Rattle.pfs_store_contract.specs.Worlds.{World, inner_key}
 use Rattle.pfs_engine_machine.specs.Acts.{RunAct, acts_of, after}
-use Rattle.pfs_engine_machine.specs.Kept.{KeysDiffer, outer_key}
-use Rattle.pfs_engine_machine.specs.Machine.{Held, answer_to_packet, going_from, held_for, outcome_of_new}
+use Rattle.pfs_engine_machine.specs.MachineInvariants.{KeysDiffer, outer_key}
+use Rattle.pfs_engine_machine.specs.Machine.{MachineContents, answer_to_packet, going_from, held_for, outcome_of_new}
 use Rattle.pfs_engine_machine.specs.Sides.{state_for}
 use Rattle.pfs_engine_machine.specs.declared.events.Event.{Event}
 
@@ -47,7 +47,7 @@ pub record IsAnswerTo (p a : PacketView) : Type 0 where
 -- where a packet makes a state, what answers it as it goes on is of that state, which is the last that was made
 abbrev pub AnswersBelong : Conf → Type 0
 AnswersBelong conf =
-    (h : Held) (p a : PacketView) (cookie : Bool) (now : ℕ) (rule : RuleNo) (answered : Bool) →
+    (h : MachineContents) (p a : PacketView) (cookie : Bool) (now : ℕ) (rule : RuleNo) (answered : Bool) →
     (answer_to_packet conf h p cookie now).0 ≡ outcome_of_new rule answered →
     IsAnswerTo (going_from conf (held_for conf h p now) p cookie) a →
     option_map state_number (state_for (answer_to_packet conf h p cookie now).1.world a)

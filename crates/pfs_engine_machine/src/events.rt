@@ -22,7 +22,7 @@ pub enum Arrival {
     /// The administrator takes out the states that go from hosts to hosts. (pfctl(8), "-k")
     Kill(FromTo),
     /// The administrator asks how much is held. (pfctl(8), "-si")
-    Held,
+    HeldQuery,
 }
 
 /// What an administrator does to a table. (pfctl(8), "-T")
@@ -110,7 +110,7 @@ pub enum Outcome {
     /// So many states were taken out: those that go from hosts to hosts.
     Killed(u64),
     /// How much is held.
-    Held(Amounts),
+    HeldAnswer(Amounts),
 }
 
 /// What the machine did with a record: with its packet where it is asked first, and, if it goes on from there, where it leaves.

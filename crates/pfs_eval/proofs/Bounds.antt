@@ -6,7 +6,7 @@ use Rattle.std.proofs.lemmas.Bool.Decides.{nat_tests}
 use Rattle.std.proofs.lemmas.Bool.{cond-true, false≢true}
 use Rattle.pfs_addr_values.specs.Packets.{PacketView}
 use Rattle.pfs_conf_values.specs.declared.items.Item.{Item}
-use Rattle.pfs_eval.specs.Verdict.{Asking, Place, packet_past, cut, ends_at_once, hides, is_hit, is_shown, path_from}
+use Rattle.pfs_eval.specs.Verdict.{Asking, PathPlace, packet_past, cut, ends_at_once, hides, is_hit, is_shown, path_from}
 use Rattle.pfs_conf_values.specs.Depths.{is_rule}
 use Rattle.pfs_conf_values.specs.Order.{next_depth, IsPreorder}
 use Rattle.pfs_eval.specs.Visits.{count_at, direct_items, holds_there, opened_items, visit_bound, visit_floor}
@@ -71,10 +71,10 @@ abbrev pub deep : Option ℕ → ℕ → ℕ
 deep None most = most
 deep (Some d) most = d
 
-abbrev cost : Asking → Place → ℕ
+abbrev cost : Asking → PathPlace → ℕ
 cost a x = cond (not (is_rule x.item.what) && holds_there a x) (direct_items x) 0
 
-bound_step : (a : Asking) (b h q : Bool) (x : Place) (u v : List Place) (P Q : ℕ) → 1 + P ≤ Q + cost a x
+bound_step : (a : Asking) (b h q : Bool) (x : PathPlace) (u v : List PathPlace) (P Q : ℕ) → 1 + P ≤ Q + cost a x
     → length u ≤ P + opened_items a u → length v ≤ P + opened_items a v
     → length (cond b [] (x ∷ cond h (cond q [] u) v)) ≤ Q + opened_items a (cond b [] (x ∷ cond h (cond q [] u) v))
 bound_step a true h q x u v P Q e f g = omega arith

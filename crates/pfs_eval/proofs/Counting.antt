@@ -11,7 +11,7 @@ use Rattle.pfs_eval.specs.Translating.{TakenKeys}
 use Rattle.pfs_eval.specs.Matching.{filter_of}
 use Rattle.pfs_eval.specs.Parameters.{IsSame, asks_same, failing_at, holds_at}
 use Rattle.pfs_eval.specs.Skips.{IsSkip}
-use Rattle.pfs_eval.specs.Verdict.{Asking, Place}
+use Rattle.pfs_eval.specs.Verdict.{Asking, PathPlace}
 use Rattle.pfs_eval.specs.Visits.{is_left_on, is_left_with}
 use Rattle.pfs_eval.specs.declared.comparing.Parameter.{Parameter}
 use Rattle.pfs_eval.specs.declared.comparing.Parameter.TheVariants as parameter
@@ -24,20 +24,20 @@ use Rattle.pfs_eval.proofs.Skipping.{HoldsLast, HoldsMore, fails, here, miss-on,
 -- ---- a list, but for what is the same as the last one kept
 
 -- where what begins a list is not the same as x, all of it counts as it would without x
-behind_other : (same : Place → Place → Bool) (x : Place) (xs : List Place)
-    → ((y : Place) (ys : List Place) → xs ≡ y ∷ ys → same y x ≡ false) → length (dedup_from same x xs) ≡ 1 + length (dedup same xs)
+behind_other : (same : PathPlace → PathPlace → Bool) (x : PathPlace) (xs : List PathPlace)
+    → ((y : PathPlace) (ys : List PathPlace) → xs ≡ y ∷ ys → same y x ≡ false) → length (dedup_from same x xs) ≡ 1 + length (dedup same xs)
 behind_other same x [] h = refl
 behind_other same x (y ∷ ys) h = rw (h y ys refl) (omega arith)
 
 -- where nothing is
-pub behind_none : (same : Place → Place → Bool) (x : Place) (xs : List Place) → ((y : Place) → same y x ≡ false)
+pub behind_none : (same : PathPlace → PathPlace → Bool) (x : PathPlace) (xs : List PathPlace) → ((y : PathPlace) → same y x ≡ false)
     → length (dedup same (x ∷ xs)) ≡ 1 + length (dedup same xs)
 behind_none same x xs h = behind_other same x xs (λ y ys e. h y)
 
 -- ---- what is left behind
 
 -- the item i is left behind with y, which fails on the parameter k
-record IsLeftWith (tables : List (List Entry)) (k : Parameter) (y : Place) (i : Item) : Type 0 where
+record IsLeftWith (tables : List (List Entry)) (k : Parameter) (y : PathPlace) (i : Item) : Type 0 where
   pub on : failing_at tables y.packet (filter_of y.item.what) ≡ Some k
   pub deep : y.item.depth ≡ i.depth
   pub same : IsSame k (filter_of y.item.what) (filter_of i.what)
@@ -45,7 +45,7 @@ record IsLeftWith (tables : List (List Entry)) (k : Parameter) (y : Place) (i : 
 both : (a b : Bool) → a ≡ true → b ≡ true → (a && b) ≡ true
 both a b e f = grind arith
 
-left_true : (tables : List (List Entry)) (k : Parameter) (x y : Place) → IsLeftWith tables k y x.item
+left_true : (tables : List (List Entry)) (k : Parameter) (x y : PathPlace) → IsLeftWith tables k y x.item
     → is_left_with tables x y ≡ true
 left_true tables k x y l =
     let deep : (y.item.depth == x.item.depth) ≡ true = grind (arith, nat_tests, l.deep) in
@@ -60,7 +60,7 @@ left_by k i j true true d e f h =
 left_by k i j true false d e f h = rw (e, f) refl
 left_by k i j false c d e f h = rw e refl
 
-left_false : (tables : List (List Entry)) (k : Parameter) (x y : Place)
+left_false : (tables : List (List Entry)) (k : Parameter) (x y : PathPlace)
     → failing_at tables y.packet (filter_of y.item.what) ≡ Some k
     → (y.item.depth ≡ x.item.depth → IsSame k (filter_of y.item.what) (filter_of x.item.what) → ⊥)
     → is_left_with tables x y ≡ false
@@ -68,20 +68,20 @@ left_false tables k x y on h =
     ap (λ o. is_left_on o y.item x.item) on ∙ left_by k y.item x.item _ _ true refl refl h
 
 -- nothing is left behind with an item that matches
-pub none_left : (tables : List (List Entry)) (x y : Place) → failing_at tables y.packet (filter_of y.item.what) ≡ None
+pub none_left : (tables : List (List Entry)) (x y : PathPlace) → failing_at tables y.packet (filter_of y.item.what) ≡ None
     → is_left_with tables x y ≡ false
 none_left tables x y on = ap (λ o. is_left_on o y.item x.item) on
 
 -- ---- a skip
 
 -- what begins the rest of a walk at q stands at q
-walked_head : (a : Asking) (stop : ℕ) (x y : Place) (xs ys : List Place) → walked a stop (x ∷ xs) ≡ y ∷ ys → y.item ≡ x.item
+walked_head : (a : Asking) (stop : ℕ) (x y : PathPlace) (xs ys : List PathPlace) → walked a stop (x ∷ xs) ≡ y ∷ ys → y.item ≡ x.item
 walked_head a stop x y xs ys e = by (cases_order x.item.depth stop)
   where
     on : stop ≤ x.item.depth → y.item ≡ x.item
     on d = first (sym e ∙ walked-on a stop x xs d)
       where
-        first : {us vs : List Place} {u v : Place} → (u ∷ us) ≡ (v ∷ vs) → u.item ≡ v.item
+        first : {us vs : List PathPlace} {u v : PathPlace} → (u ∷ us) ≡ (v ∷ vs) → u.item ≡ v.item
         first h = cc
 
     by : (x.item.depth ≡ stop) ⊎ ((x.item.depth < stop) ⊎ (stop < x.item.depth)) → y.item ≡ x.item
@@ -89,7 +89,7 @@ walked_head a stop x y xs ys e = by (cases_order x.item.depth stop)
     by (inr (inl l)) = let none : y ∷ ys ≡ [] = sym e ∙ walked-less a stop x xs l in cc
     by (inr (inr g)) = on (omega (arith, g))
 
-begins_at : (a : Asking) (q : PacketView) (items : List Item) (stop r : ℕ) (y : Place) (ys : List Place)
+begins_at : (a : Asking) (q : PacketView) (items : List Item) (stop r : ℕ) (y : PathPlace) (ys : List PathPlace)
     → walked a stop (rest_of a q items r) ≡ y ∷ ys → slice_get items r ≡ Some y.item
 begins_at a q items stop r y ys e = by (cases_order r (length items))
   where
@@ -107,7 +107,7 @@ begins_at a q items stop r y ys e = by (cases_order r (length items))
 -- all that a skip passes over is left behind with y, and what stands behind the skip is not
 past_skip : (tables : List (List Entry)) (taken : TakenKeys) (packet : PacketView) (k : Parameter) (items : List Item) (stop p q : ℕ) (i : Item)
     → IsSkip k items p i q → slice_get items p ≡ Some i → stop ≤ i.depth → holds_at tables packet k (filter_of i.what) ≡ false
-    → (y : Place) → IsLeftWith tables k y i
+    → (y : PathPlace) → IsLeftWith tables k y i
     → length (dedup_from (is_left_with tables) y (walked (asking items tables taken) stop (rest_of (asking items tables taken) packet items p)))
     ≡ 1 + length (dedup (is_left_with tables) (walked (asking items tables taken) stop (rest_of (asking items tables taken) packet items q)))
 past_skip tables taken packet k items stop p q i s at d h = over_skip Counts k items p q i last more s at d h
@@ -115,23 +115,23 @@ past_skip tables taken packet k items stop p q i s at d h = over_skip Counts k i
     a : Asking
     a = asking items tables taken
 
-    same : Place → Place → Bool
+    same : PathPlace → PathPlace → Bool
     same = is_left_with tables
 
-    from : ℕ → List Place
+    from : ℕ → List PathPlace
     from p = walked a stop (rest_of a packet items p)
 
     Counts : ℕ → Item → Type 0
-    Counts p i = stop ≤ i.depth → holds_at tables packet k (filter_of i.what) ≡ false → (y : Place) → IsLeftWith tables k y i
+    Counts p i = stop ≤ i.depth → holds_at tables packet k (filter_of i.what) ≡ false → (y : PathPlace) → IsLeftWith tables k y i
         → length (dedup_from same y (from p)) ≡ 1 + length (dedup same (from q))
 
     own : (p : ℕ) (i : Item) → slice_get items p ≡ Some i → stop ≤ i.depth → holds_at tables packet k (filter_of i.what) ≡ false
-        → (y : Place) → IsLeftWith tables k y i → dedup_from same y (from p) ≡ dedup_from same y (from (place_behind items p i))
+        → (y : PathPlace) → IsLeftWith tables k y i → dedup_from same y (from p) ≡ dedup_from same y (from (place_behind items p i))
     own p i at d h y l =
         ap (dedup_from same y) (miss-on a packet items stop p i at d (fails tables packet k i h))
         ∙ cond-true (same (here packet items p i) y) _ _ (left_true tables k (here packet items p i) y l)
 
-    apart : (p : ℕ) (i : Item) → IsSkip k items p i q → (y x : Place) → IsLeftWith tables k y i → slice_get items q ≡ Some x.item
+    apart : (p : ℕ) (i : Item) → IsSkip k items p i q → (y x : PathPlace) → IsLeftWith tables k y i → slice_get items q ≡ Some x.item
         → y.item.depth ≡ x.item.depth → IsSame k (filter_of y.item.what) (filter_of x.item.what) → ⊥
     apart p i s y x l at e f =
         let back = same-sym k (filter_of y.item.what) (filter_of i.what) l.same in
@@ -139,13 +139,13 @@ past_skip tables taken packet k items stop p q i s at d h = over_skip Counts k i
 
     last : HoldsLast Counts k items q
     last p i s at e d h y l =
-        ap (λ (xs : List Place). length xs) (own p i at d h y l ∙ ap (λ r. dedup_from same y (from r)) e)
+        ap (λ (xs : List PathPlace). length xs) (own p i at d h y l ∙ ap (λ r. dedup_from same y (from r)) e)
         ∙ behind_other same y (from q)
         (λ x xs b. left_false tables k x y l.on (apart p i s y x l (begins_at a packet items stop q x xs b)))
 
     more : HoldsMore Counts k items
     more p i j at there e f on d h y l =
-        ap (λ (xs : List Place). length xs) (own p i at d h y l)
+        ap (λ (xs : List PathPlace). length xs) (own p i at d h y l)
         ∙ on (omega (arith, d, e)) (sym (same-holds tables packet k (filter_of i.what) (filter_of j.what) f) ∙ h) y
         (record { on = l.on; deep = l.deep ∙ sym e; same = same-trans k (filter_of y.item.what) (filter_of i.what) (filter_of j.what) l.same f })
 
@@ -168,17 +168,17 @@ pub skip-counts : (tables : List (List Entry)) (taken : TakenKeys) (packet : Pac
     ≡ 1 + length (dedup (is_left_with tables) (walked (asking items tables taken) stop (rest_of (asking items tables taken) packet items q)))
 skip-counts tables taken packet k items stop p q i s at d h on =
     ap (λ xs. length (dedup same xs)) step
-    ∙ ap (λ (xs : List Place). length xs) (sym (cond-true (same x x) _ _ (left_true tables k x x l)))
+    ∙ ap (λ (xs : List PathPlace). length xs) (sym (cond-true (same x x) _ _ (left_true tables k x x l)))
     ∙ ap (λ xs. length (dedup_from same x xs)) (sym step)
     ∙ past_skip tables taken packet k items stop p q i s at d h x l
   where
     a : Asking
     a = asking items tables taken
 
-    same : Place → Place → Bool
+    same : PathPlace → PathPlace → Bool
     same = is_left_with tables
 
-    x : Place
+    x : PathPlace
     x = here packet items p i
 
     l : IsLeftWith tables k x i

@@ -4,12 +4,12 @@ use Rattle.std.specs.List.{list_any}
 use Rattle.std.proofs.lemmas.Bool.Decides.{nat_tests}
 use Rattle.pfs_addr_values.specs.Packets.{PacketView}
 use Rattle.pfs_conf_values.specs.declared.items.Item.{Item}
-use Rattle.pfs_eval.specs.Verdict.{Asking, Place, behind_all, ends_at_once, is_quick, is_hit, ends_before, cut_from, cut, last_or, packet_at_cut, verdict}
+use Rattle.pfs_eval.specs.Verdict.{Asking, PathPlace, behind_all, ends_at_once, is_quick, is_hit, ends_before, cut_from, cut, last_or, packet_at_cut, verdict}
 use Rattle.pfs_eval.specs.Lines.{back, stop_depth_of}
 use Rattle.pfs_eval.proofs.Paths.{same_cond, rest_of}
 
 -- what a walk visits, where a rule that matched ends it at items less deep than `stop`
-unfoldable pub walked : Asking → ℕ → List Place → List Place
+unfoldable pub walked : Asking → ℕ → List PathPlace → List PathPlace
 walked a stop [] = []
 walked a stop (x ∷ rest) =
     cond (nat_lt x.item.depth stop) [] (x ∷ cond (is_hit a x)
@@ -25,8 +25,8 @@ pub any-stop : (d : ℕ) (around : List Item)
 any-stop d [] = grind (arith, nat_tests)
 any-stop d (a ∷ outer) = stop_step (is_quick a.what) false _ d a.depth (stop_depth_of outer) (any-stop d outer)
 
-abbrev over : Asking → Place → List Place → Bool
-over a x seen = list_any (λ (r : Place). is_hit a r && ends_before a x r) seen
+abbrev over : Asking → PathPlace → List PathPlace → Bool
+over a x seen = list_any (λ (r : PathPlace). is_hit a r && ends_before a x r) seen
 
 or_true : (h q a o : Bool) → h ≡ true → q ≡ true → ((h && (q || a)) || o) ≡ true
 or_true h q a o e f = grind arith
@@ -38,13 +38,13 @@ or_more h q a o d k l e f x y = grind (arith, nat_tests)
 or_same : (h q a o t : Bool) → h ≡ false → o ≡ t → ((h && (q || a)) || o) ≡ t
 or_same h q a o t e f = grind arith
 
-cut-over : (a : Asking) (seen rest : List Place) → ((y : Place) → over a y seen ≡ true) → cut_from a seen rest ≡ []
+cut-over : (a : Asking) (seen rest : List PathPlace) → ((y : PathPlace) → over a y seen ≡ true) → cut_from a seen rest ≡ []
 cut-over a seen [] h = refl
 cut-over a seen (x ∷ rest) h = rw (h x) refl
 
-cut_behind : (a : Asking) (seen : List Place) (stop : ℕ) (x : Place) (rest : List Place) (h q : Bool) → is_hit a x ≡ h
-    → ends_at_once a x ≡ q → ((y : Place) → over a y seen ≡ nat_lt y.item.depth stop)
-    → ((seen' : List Place) (stop' : ℕ) → ((y : Place) → over a y seen' ≡ nat_lt y.item.depth stop')
+cut_behind : (a : Asking) (seen : List PathPlace) (stop : ℕ) (x : PathPlace) (rest : List PathPlace) (h q : Bool) → is_hit a x ≡ h
+    → ends_at_once a x ≡ q → ((y : PathPlace) → over a y seen ≡ nat_lt y.item.depth stop)
+    → ((seen' : List PathPlace) (stop' : ℕ) → ((y : PathPlace) → over a y seen' ≡ nat_lt y.item.depth stop')
     → cut_from a seen' rest ≡ walked a stop' rest)
     → cut_from a (x ∷ seen) rest ≡ cond h (cond q [] (walked a (max stop (stop_depth_of x.around)) rest))
     (walked a stop rest)
@@ -58,8 +58,8 @@ cut_behind a seen stop x rest false q e f k i = i (x ∷ seen) stop (λ y. or_sa
     (ends_at_once a x) _ (over a y seen) _ e (k y))
 
 -- the path before its cut is what the walk visits
-pub cut_from-walked : (a : Asking) (seen : List Place) (stop : ℕ) (xs : List Place)
-    → ((y : Place) → over a y seen ≡ nat_lt y.item.depth stop) → cut_from a seen xs ≡ walked a stop xs
+pub cut_from-walked : (a : Asking) (seen : List PathPlace) (stop : ℕ) (xs : List PathPlace)
+    → ((y : PathPlace) → over a y seen ≡ nat_lt y.item.depth stop) → cut_from a seen xs ≡ walked a stop xs
 unfolding walked
 cut_from-walked a seen stop [] k = refl
 cut_from-walked a seen stop (x ∷ rest) k =
@@ -77,16 +77,16 @@ cut-walked a p items = cut_from-walked a [] 0 _ (λ y. none_over y.item.depth)
 
 -- ---- the verdict, while the walk goes on
 
-unfoldable pub found_of : Asking → Option ℕ → List Place → Option ℕ
-found_of a f xs = last_or f (map (λ (x : Place). x.no) (filter (is_hit a) xs))
+unfoldable pub found_of : Asking → Option ℕ → List PathPlace → Option ℕ
+found_of a f xs = last_or f (map (λ (x : PathPlace). x.no) (filter (is_hit a) xs))
 
-pub found-cons : (a : Asking) (f : Option ℕ) (x : Place) (xs : List Place)
+pub found-cons : (a : Asking) (f : Option ℕ) (x : PathPlace) (xs : List PathPlace)
     → found_of a f (x ∷ xs) ≡ found_of a (cond (is_hit a x) (Some x.no) f) xs
 unfolding found_of
 found-cons a f x xs = by (is_hit a x)
   where
-    by : (b : Bool) → last_or f (map (λ (y : Place). y.no) (cond b (x ∷ filter (is_hit a) xs) (filter (is_hit a) xs)))
-        ≡ last_or (cond b (Some x.no) f) (map (λ (y : Place). y.no) (filter (is_hit a) xs))
+    by : (b : Bool) → last_or f (map (λ (y : PathPlace). y.no) (cond b (x ∷ filter (is_hit a) xs) (filter (is_hit a) xs)))
+        ≡ last_or (cond b (Some x.no) f) (map (λ (y : PathPlace). y.no) (filter (is_hit a) xs))
     by true = refl
     by false = refl
 
@@ -102,12 +102,12 @@ behind-walked a p items = rw (cut-walked a p items) refl
 
 -- ---- one step of the walk
 
-pub walked-less : (a : Asking) (stop : ℕ) (x : Place) (rest : List Place) → x.item.depth < stop
+pub walked-less : (a : Asking) (stop : ℕ) (x : PathPlace) (rest : List PathPlace) → x.item.depth < stop
     → walked a stop (x ∷ rest) ≡ []
 unfolding walked
 walked-less a stop x rest h = let e : nat_lt x.item.depth stop ≡ true = grind (arith, nat_tests) in rw e refl
 
-pub walked-on : (a : Asking) (stop : ℕ) (x : Place) (rest : List Place) → stop ≤ x.item.depth
+pub walked-on : (a : Asking) (stop : ℕ) (x : PathPlace) (rest : List PathPlace) → stop ≤ x.item.depth
     → walked a stop (x ∷ rest) ≡ x ∷ cond (is_hit a x)
     (cond (ends_at_once a x) [] (walked a (max stop (stop_depth_of x.around)) rest)) (walked a stop rest)
 unfolding walked

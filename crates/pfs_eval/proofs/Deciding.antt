@@ -14,15 +14,15 @@ use Rattle.pfs_eval.specs.Asking.{asking}
 use Rattle.pfs_eval.specs.Entries.{Entry}
 use Rattle.pfs_eval.specs.Lines.{passed_at}
 use Rattle.pfs_eval.specs.Translating.{TakenKeys}
-use Rattle.pfs_eval.specs.Verdict.{Asking, Place, packet_past, hides, is_shown, path_from, is_hit, ends_before, cut_from, cut, decider, last_or, lost_by, packet_at_cut, packet_behind, passed_by, verdict, IsRuleAt}
+use Rattle.pfs_eval.specs.Verdict.{Asking, PathPlace, packet_past, hides, is_shown, path_from, is_hit, ends_before, cut_from, cut, decider, last_or, lost_by, packet_at_cut, packet_behind, passed_by, verdict, IsRuleAt}
 use Rattle.pfs_eval.proofs.Paths.{place_at}
 
 -- each place has the item of its number
-unfoldable AreAt : List Item → List Place → Type 0
+unfoldable AreAt : List Item → List PathPlace → Type 0
 AreAt items [] = Unit {0}
 AreAt items (x ∷ xs) = (slice_get items x.no ≡ Some x.item) × AreAt items xs
 
-cond-at : (items : List Item) (b : Bool) (xs ys : List Place) → AreAt items xs → AreAt items ys
+cond-at : (items : List Item) (b : Bool) (xs ys : List PathPlace) → AreAt items xs → AreAt items ys
     → AreAt items (cond b xs ys)
 cond-at items true xs ys h k = h
 cond-at items false xs ys h k = k
@@ -41,12 +41,12 @@ path-at items a q h before n (i ∷ rest) e =
     (at, path-at items a (packet_past a q i) (hides (a.holds q i) i.depth) (i ∷ before) (n + 1) rest more)
     (path-at items a q h (i ∷ before) (n + 1) rest more)
 
-cut-at : (items : List Item) (a : Asking) (seen xs : List Place) → AreAt items xs
+cut-at : (items : List Item) (a : Asking) (seen xs : List PathPlace) → AreAt items xs
     → AreAt items (cut_from a seen xs)
 unfolding AreAt
 cut-at items a seen [] h = tt
 cut-at items a seen (x ∷ xs) h =
-    cond-at items (list_any (λ (r : Place). is_hit a r && ends_before a x r) seen) [] (x ∷ cut_from a (x ∷ seen) xs) tt (h.0, cut-at items a (x ∷ seen) xs h.1)
+    cond-at items (list_any (λ (r : PathPlace). is_hit a r && ends_before a x r) seen) [] (x ∷ cut_from a (x ∷ seen) xs) tt (h.0, cut-at items a (x ∷ seen) xs h.1)
 
 in_rule : (w : ItemKind) → is_rule w ≡ true → IsSome (rule_in w)
 in_rule (Rule r) e = refl
@@ -58,19 +58,19 @@ rule-at items n i at e = rw at (in_rule i.what e)
 hit-rule : (r h c d : Bool) → ((r && h && c) && d) ≡ true → r ≡ true
 hit-rule r h c d e = grind arith
 
-last_step : (items : List Item) (a : Asking) (found : Option ℕ) (x : Place) (xs : List Place) (b : Bool)
+last_step : (items : List Item) (a : Asking) (found : Option ℕ) (x : PathPlace) (xs : List PathPlace) (b : Bool)
     → is_hit a x ≡ b → slice_get items x.no ≡ Some x.item
     → ((f : Option ℕ) → IfSome f (IsRuleAt items)
-    → IfSome (last_or f (map (λ (y : Place). y.no) (filter (is_hit a) xs))) (IsRuleAt items))
+    → IfSome (last_or f (map (λ (y : PathPlace). y.no) (filter (is_hit a) xs))) (IsRuleAt items))
     → IfSome found (IsRuleAt items)
-    → IfSome (last_or found (map (λ (y : Place). y.no) (cond b (x ∷ filter (is_hit a) xs) (filter (is_hit a) xs))))
+    → IfSome (last_or found (map (λ (y : PathPlace). y.no) (cond b (x ∷ filter (is_hit a) xs) (filter (is_hit a) xs))))
     (IsRuleAt items)
 last_step items a found x xs true e at h k = h (Some x.no) (rule-at items x.no x.item at (hit-rule _ _ _ _ e))
 last_step items a found x xs false e at h k = h found k
 
-last-rule : (items : List Item) (a : Asking) (found : Option ℕ) (xs : List Place) → AreAt items xs
+last-rule : (items : List Item) (a : Asking) (found : Option ℕ) (xs : List PathPlace) → AreAt items xs
     → IfSome found (IsRuleAt items)
-    → IfSome (last_or found (map (λ (x : Place). x.no) (filter (is_hit a) xs))) (IsRuleAt items)
+    → IfSome (last_or found (map (λ (x : PathPlace). x.no) (filter (is_hit a) xs))) (IsRuleAt items)
 unfolding AreAt
 last-rule items a found [] h k = k
 last-rule items a found (x ∷ xs) h k = last_step items a found x xs (is_hit a x) refl h.0 (λ f l. last-rule items a f xs h.1 l) k

@@ -11,7 +11,7 @@ use Rattle.pfs_conf_values.specs.Invariants.{IsTable}
 use Rattle.pfs_conf_values.specs.declared.tables.TableDef.{TableDef}
 use Rattle.pfs_eval.specs.Entries.{AreDistinct, Entry, entry_of_text}
 use Rattle.pfs_eval.specs.Holdings.{HeldEntries}
-use Rattle.pfs_eval.proofs.Rooms.{entries_of}
+use Rattle.pfs_eval.proofs.OneTableChanged.{entries_of}
 
 -- fewer entries
 pub distinct-filter : (stays : Entry → Bool) (es : List Entry) → AreDistinct es → AreDistinct (filter stays es)

@@ -31,7 +31,7 @@ use Rattle.pfs_eval.specs.declared.glances.NearKind.TheVariants as near
 use Rattle.pfs_eval.specs.declared.glances.OnKind.{OnKind}
 use Rattle.pfs_eval.specs.declared.glances.OnKind.TheVariants as on
 use Rattle.pfs_eval.specs.declared.lines.Line.{Line}
-use Rattle.pfs_eval.specs.declared.walks.Walk.{Walk}
+use Rattle.pfs_eval.specs.declared.walks.RuleWalk.{RuleWalk}
 use Rattle.pfs_eval.proofs.LinesMade.{get-more}
 use Rattle.pfs_eval.proofs.Bodies.{some_at}
 use Rattle.pfs_eval.proofs.Paths.{some_same}
@@ -193,7 +193,7 @@ pub deep-enough : (glances : List Glance) (p stop : ℕ) (line : Line) (g : Glan
     → stop ≤ (get_or glances p g).depth → stop ≤ line.item.depth
 deep-enough glances p stop line g k e h = subst (λ d. stop ≤ d) (ap (λ (x : Glance). x.depth) (sym e) ∙ k.depth) h
 
-pub ends-there : {kept lines : List Line} {held glances : List Glance} (w : Walk) (g : Glance) → AreGlances kept held → lines ≡ kept
+pub ends-there : {kept lines : List Line} {held glances : List Glance} (w : RuleWalk) (g : Glance) → AreGlances kept held → lines ≡ kept
     → glances ≡ held → w.place < length glances → g ≡ get_or glances w.place g → (get_or glances w.place g).depth < w.stop_depth → IsEnd lines w
 ends-there {kept} {lines} {held} {glances} w g a e f near there h =
     let k : AreGlances lines glances = glances_of a e f in

@@ -53,12 +53,12 @@ not-there words a n (x ∷ es) k e =
 -- ---- one more entry
 
 -- the prefix of an address is noted, beside those that were
-pub record Knows (words more : List ℕ) (a : Addr) (n : ℕ) : Type 0 where
+pub record NotesPrefix (words more : List ℕ) (a : Addr) (n : ℕ) : Type 0 where
   pub noted : may_have more a n ≡ true
   pub kept : (b : Addr) (m : ℕ) → may_have words b m ≡ true → may_have more b m ≡ true
 
 pub known-added : (es : List Entry) (words more : List ℕ) (a : Addr) (n : ℕ) (mark : Mark) → IsAddr a → AreKnown words es
-    → Knows words more a n → AreKnown more (es ++ (network_of a n, mark) ∷ [])
+    → NotesPrefix words more a n → AreKnown more (es ++ (network_of a n, mark) ∷ [])
 known-added es words more a n mark h k knows =
     let P : Entry → Type 0 = λ x. may_have more x.0.addr x.0.bits ≡ true in
     All-append P es ((network_of a n, mark) ∷ []) (λ i d l. knows.kept _ _ (k i d l))
@@ -176,7 +176,7 @@ pub known-none : (words : List ℕ) (es : List Entry) → AreKnownBefore 0 words
 known-none words es k x l at = absurd (omega (arith, l))
 
 pub known-more : (es : List Entry) (words more : List ℕ) (p : ℕ) (y : Entry) (a : Addr) (n : ℕ) → AreKnownBefore p words es
-    → slice_get es p ≡ Some y → a ≡ y.0.addr → n ≡ y.0.bits → Knows words more a n → AreKnownBefore (p + 1) more es
+    → slice_get es p ≡ Some y → a ≡ y.0.addr → n ≡ y.0.bits → NotesPrefix words more a n → AreKnownBefore (p + 1) more es
 known-more es words more p y a n before at e f knows k x l there = by (cases_eq k p)
   where
     by : (k ≡ p) ⊎ (k ≡ p → ⊥) → may_have more x.0.addr x.0.bits ≡ true

@@ -7,15 +7,15 @@ use Rattle.std.proofs.lemmas.List.Sums.{sum_by-set}
 use Rattle.pfs_addr_values.specs.Prefixes.{IsNetwork}
 use Rattle.pfs_eval.specs.Blooms.{may_have}
 use Rattle.pfs_eval.specs.Entries.{Entry}
-use Rattle.pfs_eval.specs.Holdings.{AreKept, HeldEntries}
+use Rattle.pfs_eval.specs.Holdings.{AreEntriesKept, HeldEntries}
 use Rattle.pfs_eval.specs.Lengths.{IsLengthNoted}
 use Rattle.pfs_eval.specs.declared.lengths.Lengths.{Lengths}
 use Rattle.pfs_eval.specs.Tables.{entries_at, entry_count}
-use Rattle.pfs_eval.proofs.Rooms.{entries_at-held, entries_of}
+use Rattle.pfs_eval.proofs.OneTableChanged.{entries_at-held, entries_of}
 
 -- fewer entries are prefixes still, and their lengths are noted
-pub kept-filtered : (p : Entry → Bool) (es : List Entry) (lengths : Lengths) (words : List ℕ) → AreKept es lengths words
-    → AreKept (filter p es) lengths words
+pub kept-filtered : (p : Entry → Bool) (es : List Entry) (lengths : Lengths) (words : List ℕ) → AreEntriesKept es lengths words
+    → AreEntriesKept (filter p es) lengths words
 kept-filtered p es lengths words k = record {
   networks = All-filter p (λ (x : Entry). IsNetwork x.0) es k.networks;
   long = k.long;

@@ -10,7 +10,7 @@ pub mod Known
 pub mod LinesMade
 pub mod Narrowest
 pub mod Paths
-pub mod Rooms
+pub mod OneTableChanged
 pub mod Routes
 pub mod SameAsked
 pub mod SameFlags

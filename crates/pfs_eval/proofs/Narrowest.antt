@@ -15,11 +15,11 @@ use Rattle.pfs_addr_values.proofs.PrefixLaws.{cleared_family, cleared_width, cov
 use Rattle.pfs_eval.specs.Blooms.{may_have}
 use Rattle.pfs_eval.specs.Covering.{narrower, narrowest}
 use Rattle.pfs_eval.specs.Entries.{Entry, says_yes, answer_of, is_prefix_of, mark_at, holds_prefix}
-use Rattle.pfs_eval.specs.Holdings.{AreKept}
+use Rattle.pfs_eval.specs.Holdings.{AreEntriesKept}
 use Rattle.pfs_eval.specs.Lengths.{AreLong, AreOn, IsLengthNoted, next}
 use Rattle.pfs_eval.specs.declared.lengths.Lengths.{Lengths}
 use Rattle.pfs_eval.specs.declared.entries.Mark.{Mark}
-use Rattle.pfs_eval.proofs.Known.{Knows, known-added}
+use Rattle.pfs_eval.proofs.Known.{NotesPrefix, known-added}
 
 -- ---- the test of one prefix
 
@@ -299,7 +299,7 @@ none_next (V4 x) n h = get_or-replicate 34 n 33 0 (omega arith)
 none_next (V6 x) n h = get_or-replicate 130 n 129 0 (omega arith)
 
 -- without an entry no length is noted
-pub kept-none : (words : List ℕ) → AreKept [] (record { inet = replicate 34 33; inet6 = replicate 130 129 }) words
+pub kept-none : (words : List ℕ) → AreEntriesKept [] (record { inet = replicate 34 33; inet6 = replicate 130 129 }) words
 kept-none words = record {
   networks = All-nil (λ (x : Entry). IsNetwork x.0);
   long = (refl, refl);
@@ -345,9 +345,9 @@ still_noted old new b hidden p notes on h n few =
     omega arith
 
 -- one more entry, with its length noted
-pub kept-added : (es : List Entry) (old new : Lengths) (words more : List ℕ) (a : Addr) (n hidden : ℕ) (mark : Mark) → AreKept es old words
-    → IsAddr a → n ≤ width_of a → hidden ≡ width_of a - n → AreLong new → Notes old new a hidden → Knows words more a n
-    → AreKept (es ++ (network_of a n, mark) ∷ []) new more
+pub kept-added : (es : List Entry) (old new : Lengths) (words more : List ℕ) (a : Addr) (n hidden : ℕ) (mark : Mark) → AreEntriesKept es old words
+    → IsAddr a → n ≤ width_of a → hidden ≡ width_of a - n → AreLong new → Notes old new a hidden → NotesPrefix words more a n
+    → AreEntriesKept (es ++ (network_of a n, mark) ∷ []) new more
 kept-added es old new words more a n hidden mark h k short rest long notes knows =
     let P : Entry → Type 0 = λ x. IsLengthNoted new x.0 in
     let wide = cleared_width n a in

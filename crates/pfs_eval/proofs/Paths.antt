@@ -6,7 +6,7 @@ use Rattle.std.proofs.lemmas.Option.{slice_get_within, get_or_from_slice_get}
 use Rattle.std.proofs.lemmas.Bool.Decides.{nat_tests}
 use Rattle.pfs_addr_values.specs.Packets.{PacketView}
 use Rattle.pfs_conf_values.specs.declared.items.Item.{Item}
-use Rattle.pfs_eval.specs.Verdict.{Asking, Place, packet_past, enclosing, hides, path_from}
+use Rattle.pfs_eval.specs.Verdict.{Asking, PathPlace, packet_past, enclosing, hides, path_from}
 use Rattle.pfs_eval.specs.Lines.{back}
 use Rattle.pfs_eval.specs.Skips.{body_length}
 
@@ -15,7 +15,7 @@ pub some_same : {X : Type 0} {x y : X} → Some x ≡ Some y → x ≡ y
 some_same h = cc
 
 -- the place of an item, where this is the packet
-abbrev pub place_at : PacketView → List Item → ℕ → Item → List Item → Place
+abbrev pub place_at : PacketView → List Item → ℕ → Item → List Item → PathPlace
 place_at q before n i rest = record { no = n; item = i; packet = q; around = enclosing i.depth before; after = rest }
 
 no_rule : (r h c : Bool) → h ≡ false → (r && h && c) ≡ false
@@ -34,7 +34,7 @@ same_cond b false x y x' y' e h k = rw e (k refl)
 -- ---- places in the list
 
 -- the path from a place on, where it is on it
-unfoldable pub rest_of : Asking → PacketView → List Item → ℕ → List Place
+unfoldable pub rest_of : Asking → PacketView → List Item → ℕ → List PathPlace
 rest_of a q items p = path_from a q None (back p [] items) p (drop p items)
 
 back-nil : (k : ℕ) (before : List Item) → back k before [] ≡ before

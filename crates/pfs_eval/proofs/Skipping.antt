@@ -11,7 +11,7 @@ use Rattle.pfs_eval.specs.Parameters.{IsSame, holds_at}
 use Rattle.pfs_eval.specs.Skips.{IsPassed, IsSkip}
 use Rattle.pfs_eval.specs.Asking.{asking}
 use Rattle.pfs_eval.specs.Translating.{TakenKeys}
-use Rattle.pfs_eval.specs.Verdict.{Asking, Place, behind_all, is_hit}
+use Rattle.pfs_eval.specs.Verdict.{Asking, PathPlace, behind_all, is_hit}
 use Rattle.pfs_eval.specs.Visits.{holds_there}
 use Rattle.pfs_eval.specs.declared.comparing.Parameter.{Parameter}
 use Rattle.pfs_eval.specs.declared.comparing.Parameter.TheVariants as parameter
@@ -20,19 +20,19 @@ use Rattle.pfs_eval.proofs.Paths.{behind-miss, place_at, rest_of, rest-jump}
 use Rattle.pfs_eval.proofs.Cuts.{walked, found_of, found-cons, walked-on}
 
 -- of how many of those places what the item asks in its filter holds
-unfoldable pub matching : Asking → List Place → ℕ
+unfoldable pub matching : Asking → List PathPlace → ℕ
 matching a xs = length (filter (holds_there a) xs)
 
-matching-miss : (a : Asking) (x : Place) (xs : List Place) → holds_there a x ≡ false
+matching-miss : (a : Asking) (x : PathPlace) (xs : List PathPlace) → holds_there a x ≡ false
     → matching a (x ∷ xs) ≡ matching a xs
 unfolding matching
-matching-miss a x xs e = ap (λ (ys : List Place). length ys) (cond-false (holds_there a x) _ _ e)
+matching-miss a x xs e = ap (λ (ys : List PathPlace). length ys) (cond-false (holds_there a x) _ _ e)
 
-found-miss : (a : Asking) (f : Option ℕ) (x : Place) (xs : List Place) → is_hit a x ≡ false
+found-miss : (a : Asking) (f : Option ℕ) (x : PathPlace) (xs : List PathPlace) → is_hit a x ≡ false
     → found_of a f (x ∷ xs) ≡ found_of a f xs
 found-miss a f x xs e = found-cons a f x xs ∙ ap (λ g. found_of a g xs) (cond-false _ _ _ e)
 
-pub walked-miss : (a : Asking) (stop : ℕ) (x : Place) (rest : List Place) → stop ≤ x.item.depth
+pub walked-miss : (a : Asking) (stop : ℕ) (x : PathPlace) (rest : List PathPlace) → stop ≤ x.item.depth
     → is_hit a x ≡ false → walked a stop (x ∷ rest) ≡ x ∷ walked a stop rest
 walked-miss a stop x rest d e = walked-on a stop x rest d ∙ ap (λ t. x ∷ t) (cond-false (is_hit a x) _ _ e)
 
@@ -54,7 +54,7 @@ pub record MayGoOn (a : Asking) (q : PacketView) (items : List Item) (stop p r :
   pub forward : p < r
 
 -- the place of an item
-abbrev pub here : PacketView → List Item → ℕ → Item → Place
+abbrev pub here : PacketView → List Item → ℕ → Item → PathPlace
 here q items p i = place_at q (back p [] items) p i (drop (p + 1) items)
 
 -- behind an item that does not match, a walk goes on behind its body
@@ -73,7 +73,7 @@ one_on a q items stop p i at d e =
       found = λ f. ap (found_of a f) step ∙ found-miss a f x _ miss;
       packet = ap (behind_all a q) step ∙ ap (λ r. behind_all a r (walked a stop (rest_of a q items (place_behind items p i)))) (behind-miss a q i e);
       matches = ap (matching a) step ∙ matching-miss a x _ e;
-      fewer = let l = ap (λ (xs : List Place). length xs) step in omega (arith, l);
+      fewer = let l = ap (λ (xs : List PathPlace). length xs) step in omega (arith, l);
       forward = omega arith;
     }
 

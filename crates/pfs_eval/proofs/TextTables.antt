@@ -18,7 +18,7 @@ use Rattle.pfs_eval.specs.Entries.{Entry, entry_of_text, holds_prefix, is_prefix
 use Rattle.pfs_eval.specs.Holdings.{HeldEntries}
 use Rattle.pfs_eval.specs.Tables.{config_entries, entry_count}
 use Rattle.pfs_eval.proofs.Narrowest.{own_prefix}
-use Rattle.pfs_eval.proofs.Rooms.{entries_of}
+use Rattle.pfs_eval.proofs.OneTableChanged.{entries_of}
 
 -- a prefix is that of its own address
 pub own_network : (p : Network) → IsNetwork p → network_of p.addr p.bits ≡ p

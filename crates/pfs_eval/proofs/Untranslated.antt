@@ -17,7 +17,7 @@ use Rattle.pfs_conf_values.specs.declared.items.ItemKind.TheVariants as what
 use Rattle.pfs_eval.specs.Asking.{asking, decided_by, given_tag, marked_by, translation_at_once}
 use Rattle.pfs_eval.specs.Entries.{Entry}
 use Rattle.pfs_eval.specs.Translating.{TakenKeys, translated}
-use Rattle.pfs_eval.specs.Verdict.{Asking, Place, behind_all, can_decide, cut, cut_from, decider, ends_before, hides, is_hit, is_shown, last_or, lost_by, matches_rule, packet_at_cut, packet_behind, packet_past, passed_by, path_from, verdict}
+use Rattle.pfs_eval.specs.Verdict.{Asking, PathPlace, behind_all, can_decide, cut, cut_from, decider, ends_before, hides, is_hit, is_shown, last_or, lost_by, matches_rule, packet_at_cut, packet_behind, packet_past, passed_by, path_from, verdict}
 use Rattle.pfs_eval.proofs.Paths.{place_at, some_same}
 use Rattle.pfs_eval.proofs.Translations.{nothing_translated, untranslated}
 
@@ -72,11 +72,11 @@ IsTagged p q = q ≡ with_tag p q.tag
 -- ---- the places of the path
 
 -- each has an item that translates nothing, and the packet with a tag of its own
-unfoldable AreStill : PacketView → List Item → List Place → Type 0
+unfoldable AreStill : PacketView → List Item → List PathPlace → Type 0
 AreStill p items [] = Unit {0}
 AreStill p items (x ∷ xs) = (slice_get items x.no ≡ Some x.item) × IsTagged p x.packet × AreStill p items xs
 
-still_if : (p : PacketView) (items : List Item) (b : Bool) (xs ys : List Place) → AreStill p items xs → AreStill p items ys → AreStill p items (cond b xs ys)
+still_if : (p : PacketView) (items : List Item) (b : Bool) (xs ys : List PathPlace) → AreStill p items xs → AreStill p items ys → AreStill p items (cond b xs ys)
 still_if p items true xs ys h k = h
 still_if p items false xs ys h k = k
 
@@ -113,16 +113,16 @@ module _ (items : List Item) (tables : List (List Entry)) (taken : TakenKeys) (p
       (at, t, path_still (packet_past a q i) (hides (a.holds q i) i.depth) (i ∷ before) (n + 1) rest more (past q n i at t))
       (path_still q h (i ∷ before) (n + 1) rest more t)
 
-  cut_still : (seen xs : List Place) → AreStill p items xs → AreStill p items (cut_from a seen xs)
+  cut_still : (seen xs : List PathPlace) → AreStill p items xs → AreStill p items (cut_from a seen xs)
   unfolding AreStill
   cut_still seen [] h = tt
   cut_still seen (x ∷ xs) h =
-      still_if p items (list_any (λ (r : Place). is_hit a r && ends_before a x r) seen) [] (x ∷ cut_from a (x ∷ seen) xs) tt (h.0, h.1, cut_still (x ∷ seen) xs h.2)
+      still_if p items (list_any (λ (r : PathPlace). is_hit a r && ends_before a x r) seen) [] (x ∷ cut_from a (x ∷ seen) xs) tt (h.0, h.1, cut_still (x ∷ seen) xs h.2)
 
   here : AreStill p items (cut a p items)
   here = cut_still [] (path_from a p None [] 0 items) (path_still p None [] 0 items (λ k. ap (slice_get items) (omega arith)) refl)
 
-  behind_still : (q : PacketView) (xs : List Place) → AreStill p items xs → IsTagged p q → IsTagged p (behind_all a q xs)
+  behind_still : (q : PacketView) (xs : List PathPlace) → AreStill p items xs → IsTagged p q → IsTagged p (behind_all a q xs)
   unfolding AreStill
   behind_still q [] h t = t
   behind_still q (x ∷ xs) h t = behind_still (packet_past a x.packet x.item) xs h.2 (past x.packet x.no x.item h.0 h.1)
@@ -154,19 +154,19 @@ module _ (items : List Item) (tables : List (List Entry)) (taken : TakenKeys) (p
   hit_decides : (m d l : Bool) → (m && (d || l)) ≡ true → l ≡ false → d ≡ true
   hit_decides m d l e f = grind arith
 
-  of_hit : (x : Place) → slice_get items x.no ≡ Some x.item → is_hit a x ≡ true → CanDecideAt x.no
+  of_hit : (x : PathPlace) → slice_get items x.no ≡ Some x.item → is_hit a x ≡ true → CanDecideAt x.no
   of_hit x at hit i there =
       ap (λ (y : Item). can_decide y.what) (some_same (sym there ∙ at))
       ∙ hit_decides (matches_rule a x.packet x.item) (can_decide x.item.what) (a.lost x.packet x.item) hit
       (ap (λ (o : Option PacketView). is_none o) (at_once taken x.item.what (marked_by (given_tag items x.item.what) x.packet) (nothing_at items x.no x.item still at)))
 
-  last_decides : (found : Option ℕ) (xs : List Place) → AreStill p items xs → IfSome found CanDecideAt → IfSome (last_or found (map (λ (x : Place). x.no) (filter (is_hit a) xs))) CanDecideAt
+  last_decides : (found : Option ℕ) (xs : List PathPlace) → AreStill p items xs → IfSome found CanDecideAt → IfSome (last_or found (map (λ (x : PathPlace). x.no) (filter (is_hit a) xs))) CanDecideAt
   unfolding AreStill
   last_decides found [] h k = k
   last_decides found (x ∷ xs) h k = by (is_hit a x) refl (λ f l. last_decides f xs h.2 l)
     where
-      by : (b : Bool) → is_hit a x ≡ b → ((f : Option ℕ) → IfSome f CanDecideAt → IfSome (last_or f (map (λ (y : Place). y.no) (filter (is_hit a) xs))) CanDecideAt)
-          → IfSome (last_or found (map (λ (y : Place). y.no) (cond b (x ∷ filter (is_hit a) xs) (filter (is_hit a) xs)))) CanDecideAt
+      by : (b : Bool) → is_hit a x ≡ b → ((f : Option ℕ) → IfSome f CanDecideAt → IfSome (last_or f (map (λ (y : PathPlace). y.no) (filter (is_hit a) xs))) CanDecideAt)
+          → IfSome (last_or found (map (λ (y : PathPlace). y.no) (cond b (x ∷ filter (is_hit a) xs) (filter (is_hit a) xs)))) CanDecideAt
       by true e more = more (Some x.no) (of_hit x h.0 e)
       by false e more = more found k
 

@@ -68,7 +68,7 @@ asks_flags flag_test.Any = false
 asks_flags (flag_test.Exactly set among) = true
 
 -- what is kept of a filter
-pub record IsKept (f : Filter) (g : Glance) : Type 0 where
+pub record IsFilterKept (f : Filter) (g : Glance) : Type 0 where
   pub on : IsOnKept f.on g.on g.word
   pub dir : g.dir ≡ f.dir
   pub family : g.family ≡ f.family
@@ -83,7 +83,7 @@ pub record IsKept (f : Filter) (g : Glance) : Type 0 where
 pub record IsGlance (line : Line) (g : Glance) : Type 0 where
   pub skips : g.skips ≡ line.skips
   pub depth : g.depth ≡ line.item.depth
-  pub filter : IsKept (filter_of line.item.what) g
+  pub filter : IsFilterKept (filter_of line.item.what) g
 
 -- what is kept of each of these lines
 pub record AreGlances (lines : List Line) (glances : List Glance) : Type 0 where

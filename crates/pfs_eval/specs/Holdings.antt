@@ -27,7 +27,7 @@ holdings tables limit = record {
 }
 
 -- what the entries of a table keep: each is a prefix, its length is noted, and so is that it may be there
-pub record AreKept (entries : List Entry) (lengths : Lengths) (words : List ℕ) : Type 0 where
+pub record AreEntriesKept (entries : List Entry) (lengths : Lengths) (words : List ℕ) : Type 0 where
   pub networks : All (λ (x : Entry). IsNetwork x.0) entries
   pub long : AreLong lengths
   pub on : AreOn lengths

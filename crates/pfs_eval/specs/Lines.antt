@@ -11,7 +11,7 @@ use Rattle.pfs_eval.specs.Translating.{TakenKeys}
 use Rattle.pfs_eval.specs.Verdict.{can_decide, enclosing, is_quick}
 use Rattle.pfs_eval.specs.declared.comparing.Parameter.{Parameter}
 use Rattle.pfs_eval.specs.declared.lines.Line.{Line}
-use Rattle.pfs_eval.specs.declared.walks.Walk.{Walk}
+use Rattle.pfs_eval.specs.declared.walks.RuleWalk.{RuleWalk}
 
 -- the items in front of a place, the nearest first, and then those before
 unfoldable pub back : ℕ → List Item → List Item → List Item
@@ -74,7 +74,7 @@ packet_after taken p line (Some k) = p
 packet_after taken p line None = if is_matched line p then made_by taken line.given line.item.what p else p
 
 -- the walk after it; p is the packet before it
-abbrev pub walk_after : TakenKeys → Walk → PacketView → Line → Option Parameter → Walk
+abbrev pub walk_after : TakenKeys → RuleWalk → PacketView → Line → Option Parameter → RuleWalk
 walk_after taken w p line (Some k) = record { place = skip_of line.skips k; stop_depth = w.stop_depth; found = w.found }
 walk_after taken w p line None =
     if is_matched line p && is_deciding taken line p

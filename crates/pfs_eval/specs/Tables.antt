@@ -11,7 +11,7 @@ use Rattle.pfs_eval.specs.Holdings.{Holdings}
 use Rattle.pfs_eval.specs.declared.entries.Mark.{Mark}
 use Rattle.pfs_eval.specs.declared.tables.Added.{Added}
 use Rattle.pfs_eval.specs.declared.entries.TableEntry.{TableEntry}
-use Rattle.pfs_eval.specs.declared.tables.Added.TheVariants.{New, Held, Full}
+use Rattle.pfs_eval.specs.declared.tables.Added.TheVariants.{New, AlreadyThere, Full}
 use Rattle.pfs_eval.specs.declared.tables.Entered.{Entered}
 use Rattle.pfs_eval.specs.declared.tables.Entered.TheVariants as entered
 
@@ -48,13 +48,13 @@ host_entry a now = (network_of a (width_of a), record { negated = false; moment 
 -- tables together have as many entries as the limit; else new
 abbrev pub added_to : List (List Entry) → ℕ → ℕ → Addr → Added
 added_to tables limit t a =
-    if holds_host (entries_at tables t) a then Held else (if nat_le limit (entry_count tables) then Full else New)
+    if holds_host (entries_at tables t) a then AlreadyThere else (if nat_le limit (entry_count tables) then Full else New)
 
 -- the entries after that: a new host is last in its table, and else nothing changes; a host that is held keeps
 -- the moment at which it was added
 abbrev pub entries_after : List (List Entry) → ℕ → Addr → ℕ → Added → List (List Entry)
 entries_after tables t a now New = put_last tables t (host_entry a now)
-entries_after tables t a now Held = tables
+entries_after tables t a now AlreadyThere = tables
 entries_after tables t a now Full = tables
 
 -- ---- an entry is added (pfctl(8), "-T add")
@@ -66,7 +66,7 @@ entry_since e now = (e.prefix, record { negated = e.negated; moment = Some now }
 -- what becomes of it, by the mark of its prefix in the table and whether the entries are at their limit: held where the sign is
 -- the same, a conflict where it is the other; where the prefix is not there full, or new
 abbrev pub entered_beside : Option Mark → Bool → Bool → Entered
-entered_beside (Some m) negated full = if same_sign m.negated negated then entered.Held else entered.Conflict
+entered_beside (Some m) negated full = if same_sign m.negated negated then entered.AlreadyThere else entered.Conflict
 entered_beside None negated full = if full then entered.Full else entered.New
 
 abbrev pub entered_to : List (List Entry) → ℕ → ℕ → TableEntry → Entered
@@ -75,7 +75,7 @@ entered_to tables limit t e = entered_beside (mark_of (entries_at tables t) e.pr
 -- the entries after that: a new one is last in its table, and else nothing changes
 abbrev pub entries_entered : List (List Entry) → ℕ → TableEntry → ℕ → Entered → List (List Entry)
 entries_entered tables t e now entered.New = put_last tables t (entry_since e now)
-entries_entered tables t e now entered.Held = tables
+entries_entered tables t e now entered.AlreadyThere = tables
 entries_entered tables t e now entered.Conflict = tables
 entries_entered tables t e now entered.Full = tables
 

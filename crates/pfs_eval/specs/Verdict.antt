@@ -42,7 +42,7 @@ packet_past a p i = if matches_rule a p i then a.marked p i else p
 
 -- a place on the path: the number of its item, the item, the packet as it is there, the anchors around it from the inside out, the items
 -- after it
-pub record Place : Type 0 where
+pub record PathPlace : Type 0 where
   pub no : ℕ
   pub item : Item
   pub packet : PacketView
@@ -64,7 +64,7 @@ hides true depth = None
 hides false depth = Some depth
 
 -- the places of the items that no anchor hides, in order. before: the items in front, the nearest first
-unfoldable pub path_from : Asking → PacketView → Option ℕ → List Item → ℕ → List Item → List Place
+unfoldable pub path_from : Asking → PacketView → Option ℕ → List Item → ℕ → List Item → List PathPlace
 path_from a p hidden before n [] = []
 path_from a p hidden before n (i ∷ rest) =
     if is_shown hidden i.depth
@@ -73,31 +73,31 @@ path_from a p hidden before n (i ∷ rest) =
     else path_from a p hidden (i ∷ before) (n + 1) rest
 
 -- the path of a packet
-abbrev pub path : Asking → PacketView → List Item → List Place
+abbrev pub path : Asking → PacketView → List Item → List PathPlace
 path a p items = path_from a p None [] 0 items
 
 -- ---- the cut (pf.conf(5), PACKET FILTERING, "quick"; ANCHORS)
 
 -- a rule that decides, if none behind it does, is at this place: one that matches, and can decide or loses the packet
-abbrev pub is_hit : Asking → Place → Bool
+abbrev pub is_hit : Asking → PathPlace → Bool
 is_hit a x = matches_rule a x.packet x.item && (can_decide x.item.what || a.lost x.packet x.item)
 
 -- such a rule ends the evaluation at once: it is quick, or it loses the packet
-abbrev pub ends_at_once : Asking → Place → Bool
+abbrev pub ends_at_once : Asking → PathPlace → Bool
 ends_at_once a x = is_quick x.item.what || a.lost x.packet x.item
 
 -- the rule at r, where it decides, ends the evaluation before x: it does so at once, or a quick anchor around it is left at x
-abbrev pub ends_before : Asking → Place → Place → Bool
+abbrev pub ends_before : Asking → PathPlace → PathPlace → Bool
 ends_before a x r = ends_at_once a r || list_any (λ (i : Item). is_quick i.what && nat_le x.item.depth i.depth) r.around
 
 -- the places up to the first one before which a rule ends the evaluation. seen: those in front
-abbrev pub cut_from : Asking → List Place → List Place → List Place
+abbrev pub cut_from : Asking → List PathPlace → List PathPlace → List PathPlace
 cut_from a seen [] = []
 cut_from a seen (x ∷ rest) =
-    if list_any (λ (r : Place). is_hit a r && ends_before a x r) seen then [] else x ∷ cut_from a (x ∷ seen) rest
+    if list_any (λ (r : PathPlace). is_hit a r && ends_before a x r) seen then [] else x ∷ cut_from a (x ∷ seen) rest
 
 -- the path before its cut: what the packet is compared with
-abbrev pub cut : Asking → PacketView → List Item → List Place
+abbrev pub cut : Asking → PacketView → List Item → List PathPlace
 cut a p items = cut_from a [] (path a p items)
 
 -- ---- the verdict (pf.conf(5), PACKET FILTERING: the last matching rule decides)
@@ -109,10 +109,10 @@ last_or found (n ∷ ns) = last_or (Some n) ns
 
 -- the number of the last rule before the cut that decides, or none
 unfoldable pub verdict : Asking → PacketView → List Item → Option ℕ
-verdict a p items = last_or None (map (λ (x : Place). x.no) (filter (is_hit a) (cut a p items)))
+verdict a p items = last_or None (map (λ (x : PathPlace). x.no) (filter (is_hit a) (cut a p items)))
 
 -- a packet behind the last of these places, or as it was before them
-abbrev pub behind_all : Asking → PacketView → List Place → PacketView
+abbrev pub behind_all : Asking → PacketView → List PathPlace → PacketView
 behind_all a p [] = p
 behind_all a p (x ∷ xs) = behind_all a (packet_past a x.packet x.item) xs
 

@@ -9,7 +9,7 @@ use Rattle.pfs_eval.specs.Asking.{asking}
 use Rattle.pfs_eval.specs.Matching.{filter_of}
 use Rattle.pfs_eval.specs.Parameters.{asks_same, failing_at}
 use Rattle.pfs_eval.specs.Translating.{TakenKeys}
-use Rattle.pfs_eval.specs.Verdict.{Asking, Place, cut}
+use Rattle.pfs_eval.specs.Verdict.{Asking, PathPlace, cut}
 use Rattle.pfs_eval.specs.declared.comparing.Parameter.{Parameter}
 
 -- ---- the comparisons (pf's skip steps)
@@ -20,7 +20,7 @@ is_left_on None i j = false
 is_left_on (Some k) i j = (i.depth == j.depth) && asks_same k (filter_of i.what) (filter_of j.what)
 
 -- a packet leaves x behind with y, which was compared last
-abbrev pub is_left_with : List (List Entry) → Place → Place → Bool
+abbrev pub is_left_with : List (List Entry) → PathPlace → PathPlace → Bool
 is_left_with tables x y = is_left_on (failing_at tables y.packet (filter_of y.item.what)) y.item x.item
 
 -- how many items are compared: those before the cut, but for each that is left behind with the one compared last
@@ -34,15 +34,15 @@ abbrev pub count_at : ℕ → List Item → ℕ
 count_at depth items = length (filter (λ (i : Item). i.depth == depth) items)
 
 -- the number of the direct items of an anchor: those of its body that are one deeper than it
-abbrev pub direct_items : Place → ℕ
+abbrev pub direct_items : PathPlace → ℕ
 direct_items x = count_at (x.item.depth + 1) (take_while (λ (i : Item). nat_lt x.item.depth i.depth) x.after)
 
 -- whether what the item of a place asks holds of the packet there
-abbrev pub holds_there : Asking → Place → Bool
+abbrev pub holds_there : Asking → PathPlace → Bool
 holds_there a x = a.holds x.packet x.item
 
 -- the direct items of the matching anchors among these places, together
-abbrev pub opened_items : Asking → List Place → ℕ
+abbrev pub opened_items : Asking → List PathPlace → ℕ
 opened_items a [] = 0
 opened_items a (x ∷ xs) = (if not (is_rule x.item.what) && holds_there a x then direct_items x else 0) + opened_items a xs
 

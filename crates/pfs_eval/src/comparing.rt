@@ -3,7 +3,7 @@
 ghost use Rattle.std.specs.Prelude.{◌≡◌, ◌+◌, ◌-◌, ◌<◌, ◌^◌, ◌↔◌, ◌≤◌, ◌/◌, IsTrue, MatchOption, false, true};
 ghost use Rattle.pfs_addr_values.specs.Packets.{came_in_on};
 ghost use Rattle.pfs_eval.specs.Asking.{came_to, is_same_tag, is_this_interface, received_on_holds, tagged_holds};
-ghost use Rattle.pfs_eval.specs.Glances.{IsKept, IsOnKept, IsWordOf, asks_flags, inet_holds, near_host};
+ghost use Rattle.pfs_eval.specs.Glances.{IsFilterKept, IsOnKept, IsWordOf, asks_flags, inet_holds, near_host};
 ghost use Rattle.pfs_eval.specs.Matching.{common_flags, dir_holds, family_holds, filter_holds, filter_of, flags_hold, host_holds, interface_holds, ports_hold, prefix_holds, proto_holds, same_flags, turned_if};
 ghost use Rattle.pfs_eval.specs.Tables.{table_answer};
 ghost use Rattle.pfs_eval.specs.Parameters.{IsSame, failing_at, holds_at, same_test};
@@ -49,7 +49,7 @@ pub fn failing(
     packet: &Packet,
     visits: &mut Meter,
 ) -> Option<Parameter>
-    requires kept { IsKept (filter_of what.now) glance.now }
+    requires kept { IsFilterKept (filter_of what.now) glance.now }
     requires name { IsWordOf packet.now.ifname name }
     requires visits { visits.old < 2 ^ 64 - 1 }
     ensures answer { MatchOption result (filter_holds tables.now.entries packet.now (filter_of what.now) ≡ true) (λ k. holds_at tables.now.entries packet.now k (filter_of what.now) ≡ false) }
@@ -97,7 +97,7 @@ fn first_failing(
     tables: &Tables,
     packet: &Packet,
 ) -> Option<Parameter>
-    requires kept { IsKept (filter_of what.now) glance.now }
+    requires kept { IsFilterKept (filter_of what.now) glance.now }
     requires name { IsWordOf packet.now.ifname name }
     ensures first { result ≡ failing_at tables.now.entries packet.now (filter_of what.now) }
     ensures answer { MatchOption result (filter_holds tables.now.entries packet.now (filter_of what.now) ≡ true) (λ k. holds_at tables.now.entries packet.now k (filter_of what.now) ≡ false) }

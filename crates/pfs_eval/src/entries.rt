@@ -4,7 +4,7 @@ ghost use Rattle.std.specs.Prelude.{◌≡◌, All, ◌<◌, ◌≤◌, ◌++◌
 ghost use Rattle.pfs_addr_values.specs.Addresses.{width_of};
 ghost use Rattle.pfs_addr_values.specs.Prefixes.{IsNetwork, network_of};
 ghost use Rattle.pfs_eval.specs.Blooms.{AreKnown};
-ghost use Rattle.pfs_eval.specs.Holdings.{AreKept};
+ghost use Rattle.pfs_eval.specs.Holdings.{AreEntriesKept};
 ghost use Rattle.pfs_eval.specs.Entries.{AreDistinct, Entry, answer_of, entry_of_text, holds_host, holds_prefix, is_entry, mark_at, mark_of};
 ghost use Rattle.pfs_eval.specs.Tables.{is_old, old_count, young};
 
@@ -34,7 +34,7 @@ pub struct TableEntry {
     pub negated: bool,
 }
 
-/// One table. Clauses see `Held`: its entries in order, and how many more fit without memory.
+/// One table. Clauses see `HeldEntries`: its entries in order, and how many more fit without memory.
 #[derive(Drop)]
 pub struct Table {
     map: IndexMap<Prefix, Mark, RulesHasher>,
@@ -46,13 +46,13 @@ pub struct Table {
 
 impl Model for Table {
     ghost use Rattle.std.specs.HashMap.{spare};
-    ghost use Rattle.pfs_eval.specs.Holdings.{AreKept, HeldEntries};
+    ghost use Rattle.pfs_eval.specs.Holdings.{AreEntriesKept, HeldEntries};
 
     ghost Value = { HeldEntries };
 
     ghost view = { λ e. record { entries = e.map.entries; spare = spare e.map } };
 
-    ghost invariant = { λ e. AreKept e.map.entries e.lengths e.bloom };
+    ghost invariant = { λ e. AreEntriesKept e.map.entries e.lengths e.bloom };
 }
 
 impl Table {
@@ -200,7 +200,7 @@ fn answer(
     bloom: &Bloom,
     addr: Addr,
 ) -> bool
-    requires { AreKept map.now.entries lengths.now bloom.now }
+    requires { AreEntriesKept map.now.entries lengths.now bloom.now }
     ensures { result ≡ answer_of map.now.entries addr }
 {
     // A loop for each family: no turn asks again which it is.
@@ -217,7 +217,7 @@ fn answer_by_lengths(
     bloom: &Bloom,
     addr: Addr,
 ) -> bool
-    requires { AreKept map.now.entries lengths.now bloom.now }
+    requires { AreEntriesKept map.now.entries lengths.now bloom.now }
     ensures { result ≡ answer_of map.now.entries addr }
 {
     let width = addr.width();

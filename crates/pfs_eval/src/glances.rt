@@ -3,7 +3,7 @@
 ghost use Rattle.std.specs.Prelude.{◌≡◌, ◌==◌, ◌≤◌, IfOk, false, slice_index};
 ghost use Rattle.std.specs.Int.{from_be_bytes, w32};
 ghost use Rattle.pfs_addr_values.specs.declared.addresses.Addr.{Addr};
-ghost use Rattle.pfs_eval.specs.Glances.{AreGlances, IsGlance, IsKept, IsOnKept, IsWordOf, asks_flags, near_host, near_prefix, on_kind};
+ghost use Rattle.pfs_eval.specs.Glances.{AreGlances, IsGlance, IsFilterKept, IsOnKept, IsWordOf, asks_flags, near_host, near_prefix, on_kind};
 ghost use Rattle.pfs_eval.specs.Matching.{filter_of};
 
 use crate::comparing::filter_of;

@@ -2,20 +2,20 @@
 #![tactic(auto)]
 
 mod blooms;
-mod books;
 mod comparing;
 mod entries;
 mod glances;
 mod lengths;
 mod lines;
 mod routing;
+mod rulesets;
 mod skips;
 mod tables;
 mod translating;
 mod walks;
 
-pub use books::{Book, Decision};
 pub use entries::{Mark, TableEntry};
 pub use routing::interface_to;
+pub use rulesets::{CompiledRuleset, Decision};
 pub use tables::{Added, Entered, Tables};
 pub use translating::{NoSides, Sides};

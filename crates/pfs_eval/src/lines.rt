@@ -1,4 +1,4 @@
-//! The items of a book, and where a walk goes on from each.
+//! The items of a compiled ruleset, and where a walk goes on from each.
 
 ghost use Rattle.std.specs.Prelude.{◌≡◌, ◌+◌, ◌<◌, ◌≤◌, ℕ, [], IfOk, Some, drop, if◌then◌else◌, length, max, nat_le, slice_get, slice_index};
 ghost use Rattle.std.specs.Option.{option_and_then};

@@ -19,7 +19,7 @@ pub enum Added {
     /// It is now an entry.
     New,
     /// The table has an entry for exactly that host already, negated or not.
-    Held,
+    AlreadyThere,
     /// All tables together have as many entries as `set limit table-entries` allows.
     Full,
 }
@@ -30,7 +30,7 @@ pub enum Entered {
     /// It is now an entry.
     New,
     /// The table has that very entry already.
-    Held,
+    AlreadyThere,
     /// The table has its prefix with the other sign.
     Conflict,
     /// All tables together have as many entries as `set limit table-entries` allows.
@@ -148,7 +148,7 @@ impl Tables {
         ensures others { OthersKept table.0 self.old self.new }
     {
         if self.tables[table.0 as usize].holds(host) {
-            return Ok(Added::Held);
+            return Ok(Added::AlreadyThere);
         }
         if self.is_full() {
             return Ok(Added::Full);
@@ -259,10 +259,10 @@ impl Tables {
 
 /// What becomes of an entry whose prefix is held, by both signs.
 fn entered_beside(held: bool, negated: bool) -> Entered
-    ensures { result ≡ (if same_sign held negated then Entered.Held else Entered.Conflict) }
+    ensures { result ≡ (if same_sign held negated then Entered.AlreadyThere else Entered.Conflict) }
 {
     if held == negated {
-        Entered::Held
+        Entered::AlreadyThere
     } else {
         Entered::Conflict
     }

@@ -1,4 +1,4 @@
-//! A walk over the lines of a book: where it is, where it ends, the last rule that matched, and what a visit makes of a packet.
+//! A walk over the lines of a compiled ruleset: where it is, where it ends, the last rule that matched, and what a visit makes of a packet.
 
 ghost use Rattle.std.specs.Prelude.{◌≡◌, ◌+◌, ◌-◌, ◌<◌, ◌^◌, ◌||◌, is_none, unwrap_or};
 ghost use Rattle.pfs_eval.specs.Asking.{is_lost_at_once, made_by, marked_by, translation_at_once};
@@ -15,7 +15,7 @@ use pfs_conf_values::{Action, ItemKind};
 
 /// Where a walk is.
 #[derive(Clone, Copy)]
-pub struct Walk {
+pub struct RuleWalk {
     /// The place of the next line.
     pub place: u32,
     /// The walk ends at the first item of lesser depth than this.
@@ -24,7 +24,7 @@ pub struct Walk {
     pub found: Option<u32>,
 }
 
-impl Walk {
+impl RuleWalk {
     ghost use Rattle.pfs_eval.specs.Lines.{packet_after, walk_after};
 
     /// The walk after a visit to this line, where a parameter failed, or none. A rule that matches gives the packet its tag, and if it is
@@ -36,14 +36,14 @@ impl Walk {
         failed: Option<Parameter>,
         sides: &S,
         packet: &mut Packet,
-    ) -> Walk
+    ) -> RuleWalk
         requires place { self.place < 2 ^ 32 - 1 }
         requires skips { glance.now.skips ≡ line.now.skips }
         ensures walk { result ≡ walk_after (S.taken sides.now) self packet.old line.now failed }
         ensures packet { packet.new ≡ packet_after (S.taken sides.now) packet.old line.now failed }
     {
         if let Some(parameter) = failed {
-            return Walk {
+            return RuleWalk {
                 place: u32::from(glance.skips.to(parameter)),
                 ..self
             };
@@ -54,7 +54,7 @@ impl Walk {
         if !decides(line, sides, packet) {
             return self.past();
         }
-        Walk {
+        RuleWalk {
             place: line.next,
             stop_depth: self.stop_depth.max(line.stop_depth),
             found: Some(self.place),
@@ -62,11 +62,11 @@ impl Walk {
     }
 
     /// The walk at the next line, where nothing was found.
-    fn past(self) -> Walk
+    fn past(self) -> RuleWalk
         requires { self.place < 2 ^ 32 - 1 }
         ensures { result ≡ record { place = self.place + 1; stop_depth = self.stop_depth; found = self.found } }
     {
-        Walk {
+        RuleWalk {
             place: self.place + 1,
             ..self
         }

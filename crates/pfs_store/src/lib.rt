@@ -2,7 +2,7 @@
 #![tactic(auto)]
 
 pub use pfs_store_contract::{
-    Found, Limit, Node, NodeScope, Purged, Slice, State, StateNo, Store, Touched,
+    Limit, Node, NodeScope, Purged, Slice, State, StateHandle, StateNo, Store, Touched,
 };
 pub use pfs_store_index::{IndexStore, looks_are_counted};
 pub use pfs_store_plain::PlainStore;

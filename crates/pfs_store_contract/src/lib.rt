@@ -9,6 +9,6 @@ mod two_keys;
 
 pub use kills::FromTo;
 pub use proxies::{asks_in, is_answered};
-pub use records::{Found, Limit, Node, NodeScope, Purged, Slice, State, StateNo, Touched};
+pub use records::{Limit, Node, NodeScope, Purged, Slice, State, StateHandle, StateNo, Touched};
 pub use store::Store;
 pub use two_keys::{apart, inner_key, wire_key};

@@ -78,7 +78,7 @@ pub enum Limit {
 
 /// A state that a store found, and by what that store reaches it again, as long as the state is held.
 #[derive(Clone, Copy)]
-pub struct Found {
+pub struct StateHandle {
     /// The number of the state.
     pub number: StateNo,
     /// The rule that made it.

@@ -11,11 +11,11 @@ ghost use Rattle.pfs_store_contract.specs.Counts.{half_open};
 ghost use Rattle.pfs_store_contract.specs.Purging.{node_slice, state_slice};
 ghost use Rattle.pfs_store_contract.specs.Seconds.{purged_of, seconds, world_after_purges};
 ghost use Rattle.pfs_store_contract.specs.Worlds.{IsUpToNow, World, holds_number, state_inside, state_numbered, state_with};
-ghost use Rattle.pfs_store_contract.specs.declared.records.Found.{Found};
+ghost use Rattle.pfs_store_contract.specs.declared.records.StateHandle.{StateHandle};
 ghost use Rattle.pfs_store_contract.specs.declared.records.State.{State};
 
 use crate::kills::FromTo;
-use crate::records::{Found, Limit, Purged, Slice, StateNo, Touched};
+use crate::records::{Limit, Purged, Slice, StateHandle, StateNo, Touched};
 use pfs_addr_values::{Addr, Dir, FlowKey, Meter, NoMemory, Packet};
 use pfs_conf_values::RuleNo;
 
@@ -35,23 +35,23 @@ pub trait Store {
     ghost counts: { Bool };
 
     // whether the state that was found is still reached by what was said of it
-    ghost reaches: { Self → Found → Bool };
+    ghost reaches: { Self → StateHandle → Bool };
 
     /// The state that has this key on the wire: its number, its rule, and by what it is reached. It looks at no record.
-    fn find(&self, key: &FlowKey) -> Option<Found>
+    fn find(&self, key: &FlowKey) -> Option<StateHandle>
         ensures number { option_map (λ f. f.number) result ≡ option_map state_number (state_with key.now (world self.now)) }
         ensures rule { option_map (λ f. f.rule) result ≡ option_map state_rule (state_with key.now (world self.now)) }
         ensures reached { IfSome result (λ f. reaches self.now f ≡ true) };
 
     /// The state that has this key inside. It looks at no record. (pf.conf(5), TRANSLATION)
-    fn find_inside(&self, key: &FlowKey) -> Option<Found>
+    fn find_inside(&self, key: &FlowKey) -> Option<StateHandle>
         ensures number { option_map (λ f. f.number) result ≡ option_map state_number (state_inside key.now (world self.now)) }
         ensures rule { option_map (λ f. f.rule) result ≡ option_map state_rule (state_inside key.now (world self.now)) }
         ensures reached { IfSome result (λ f. reaches self.now f ≡ true) };
 
     /// The key with which packets of this direction go on, of the state that was found, where it is another than that with which they
     /// come. It looks at no record. (pf.conf(5), TRANSLATION)
-    fn onward_key(&self, found: Found, dir: Dir) -> Option<FlowKey>
+    fn onward_key(&self, found: StateHandle, dir: Dir) -> Option<FlowKey>
         requires reached { reaches self.now found ≡ true }
         ensures { result ≡ option_and_then (onward_key dir) (state_numbered found.number.0 (world self.now)) };
 
@@ -164,7 +164,7 @@ pub trait Store {
     /// pf takes this one itself; and where the handshake completes at a rule that tracks sources and has `max-src-conn-rate`, the score of its source's
     /// node. No handshake that a score counts came after `now`. It looks at one record, and the state is still reached.
     /// (pf.conf(5), STATEFUL TRACKING OPTIONS; the table of phases and the score are own to this profile)
-    fn touch(&mut self, found: Found, packet: &Packet, now: u64, meter: &mut Meter) -> Touched
+    fn touch(&mut self, found: StateHandle, packet: &Packet, now: u64, meter: &mut Meter) -> Touched
         requires held { holds_number (world self.old).states found.number.0 ≡ true }
         requires reached { reaches self.old found ≡ true }
         requires order { IsUpToNow now (world self.old) }
@@ -181,7 +181,7 @@ pub trait Store {
 
     /// Takes a packet as `touch` does. Where the handshake does not complete it need not look for the source's node: it tells no
     /// connections then, and the score 0 at moment 0. (own)
-    fn renew(&mut self, found: Found, packet: &Packet, now: u64, meter: &mut Meter) -> Touched
+    fn renew(&mut self, found: StateHandle, packet: &Packet, now: u64, meter: &mut Meter) -> Touched
         requires held { holds_number (world self.old).states found.number.0 ≡ true }
         requires reached { reaches self.old found ≡ true }
         requires order { IsUpToNow now (world self.old) }
@@ -200,7 +200,7 @@ pub trait Store {
     }
 
     /// Whether both peers of the state that was found have closed their connection, or it was reset. It looks at one record.
-    fn has_closed(&self, found: Found, meter: &mut Meter) -> bool
+    fn has_closed(&self, found: StateHandle, meter: &mut Meter) -> bool
         requires held { holds_number (world self.now).states found.number.0 ≡ true }
         requires reached { reaches self.now found ≡ true }
         requires meter { meter.old ≤ 2 ^ 63 }
@@ -211,7 +211,7 @@ pub trait Store {
 
     /// Takes out the state that was found. A node that loses its last state is kept for its retention from `now` on. It looks at
     /// one record.
-    fn kill(&mut self, found: Found, now: u64, meter: &mut Meter)
+    fn kill(&mut self, found: StateHandle, now: u64, meter: &mut Meter)
         requires reached { reaches self.old found ≡ true }
         requires moment { now ≤ 2 ^ 63 }
         requires meter { meter.old ≤ 2 ^ 63 }

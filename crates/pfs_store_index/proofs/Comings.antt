@@ -31,10 +31,10 @@ use Rattle.pfs_store_contract.specs.declared.records.State.{State}
 use Rattle.pfs_store_records.specs.Records.{IsAbove, Placed}
 use Rattle.pfs_store_records.specs.Sourced.{source_at}
 use Rattle.pfs_store_records.specs.Tallies.{is_tally, nodes_of}
-use Rattle.pfs_store_records.specs.declared.nodes.Tally.{Tally}
-use Rattle.pfs_store_index.specs.declared.indexes.Entry.{Entry}
+use Rattle.pfs_store_records.specs.declared.nodes.NodeTally.{NodeTally}
+use Rattle.pfs_store_index.specs.declared.indexes.IndexEntry.{IndexEntry}
 use Rattle.pfs_store_index.specs.Filed.{is_pair}
-use Rattle.pfs_store_index.specs.Ties.{HasRule, IsCounted, entry_of}
+use Rattle.pfs_store_index.specs.IndexInvariants.{HasRule, IsCounted, entry_of}
 use Rattle.pfs_store_records.specs.Changes.{HasTally, IsFew, IsScope, IsScored, IsScoped, at_node, is_at, tallies_with_state, joined_of, new_tally}
 use Rattle.pfs_store_records.proofs.OneNode.{of_node, scope_of-IsScope, scoped-at, tally-at}
 use Rattle.std.proofs.lemmas.Bool.{and_parts, and_from, and_right}
@@ -55,15 +55,15 @@ count-more p s xs h = count-push p s xs ∙ ap (λ b. length (filter p xs) + con
 count-same : (p : State → Bool) (s : State) (xs : List State) → p s ≡ false → length (filter p (xs ++ s ∷ [])) ≡ length (filter p xs)
 count-same p s xs h = let e = count-push p s xs ∙ ap (λ b. length (filter p xs) + cond b 1 0) h in omega (arith, e)
 
-counted-joined : (conf : Conf) (s : State) (xs : List State) (t : Tally) → is_done s.phase ≡ false → IsScoped conf t → IsCounted conf xs t
+counted-joined : (conf : Conf) (s : State) (xs : List State) (t : NodeTally) → is_done s.phase ≡ false → IsScoped conf t → IsCounted conf xs t
     → IsCounted conf (xs ++ s ∷ []) (at_node (node_scope_of conf s.rule.0) s.source joined_of t)
 counted-joined conf s xs t p h e = go (is_at (node_scope_of conf s.rule.0) s.source t) refl
   where
     es : t.states ≡ node_states conf t.node.scope t.node.source xs
-    es = ap (λ (u : Tally). u.states) e
+    es = ap (λ (u : NodeTally). u.states) e
 
     ec : t.connections ≡ node_connections conf t.node.scope t.node.source xs
-    ec = ap (λ (u : Tally). u.connections) e
+    ec = ap (λ (u : NodeTally). u.connections) e
 
     d : node_connections conf t.node.scope t.node.source (xs ++ s ∷ []) ≡ node_connections conf t.node.scope t.node.source xs
     d = count-same (is_connection conf t.node.scope t.node.source) s xs (rw p refl)
@@ -85,17 +85,17 @@ counted-joined conf s xs t p h e = go (is_at (node_scope_of conf s.rule.0) s.sou
         subst (IsCounted conf (xs ++ s ∷ [])) (sym w) (λ j. record { node = t.node; states = m j; connections = n j })
 
 -- a state of a rule without a scope counts for no node
-counted-apart : (conf : Conf) (s : State) (xs : List State) (t : Tally) → is_done s.phase ≡ false → IsScoped conf t → is_at (node_scope_of conf s.rule.0) s.source t ≡ false
+counted-apart : (conf : Conf) (s : State) (xs : List State) (t : NodeTally) → is_done s.phase ≡ false → IsScoped conf t → is_at (node_scope_of conf s.rule.0) s.source t ≡ false
     → IsCounted conf xs t → IsCounted conf (xs ++ s ∷ []) t
 counted-apart conf s xs t p h i e =
     subst (IsCounted conf (xs ++ s ∷ [])) (ap (λ (b : Bool). if b then joined_of t else t) i) (counted-joined conf s xs t p h e)
 
-all-joined : (conf : Conf) (s : State) (xs : List State) (ts : List Tally) → is_done s.phase ≡ false → AllByRecursion (IsScoped conf) ts → AllByRecursion (IsCounted conf xs) ts
+all-joined : (conf : Conf) (s : State) (xs : List State) (ts : List NodeTally) → is_done s.phase ≡ false → AllByRecursion (IsScoped conf) ts → AllByRecursion (IsCounted conf xs) ts
     → AllByRecursion (IsCounted conf (xs ++ s ∷ [])) (map (at_node (node_scope_of conf s.rule.0) s.source joined_of) ts)
 all-joined conf s xs [] p g h = tt
 all-joined conf s xs (t ∷ ts) p (g, gs) (h, hs) = (counted-joined conf s xs t p g h, all-joined conf s xs ts p gs hs)
 
-all-apart : (conf : Conf) (s : State) (xs : List State) (ts : List Tally) → is_done s.phase ≡ false → AllByRecursion (IsScoped conf) ts
+all-apart : (conf : Conf) (s : State) (xs : List State) (ts : List NodeTally) → is_done s.phase ≡ false → AllByRecursion (IsScoped conf) ts
     → AllByRecursion (λ t. is_at (node_scope_of conf s.rule.0) s.source t ≡ false) ts → AllByRecursion (IsCounted conf xs) ts → AllByRecursion (IsCounted conf (xs ++ s ∷ [])) ts
 all-apart conf s xs [] p g a h = tt
 all-apart conf s xs (t ∷ ts) p (g, gs) (a, more) (h, hs) = (counted-apart conf s xs t p g a h, all-apart conf s xs ts p gs more hs)
@@ -114,7 +114,7 @@ in_scope-of conf node_scope.Global rule k h = by (scope_of conf rule) refl h
     by (Some scope.Rule) e z = absurd cc
     by (Some scope.Global) e z = refl
 
-none-counted : (conf : Conf) (sc : NodeScope) (a : Addr) (xs : List State) (ts : List Tally) → IsScope conf sc → list_any (is_tally sc a) ts ≡ false → AllByRecursion (HasTally conf ts) xs
+none-counted : (conf : Conf) (sc : NodeScope) (a : Addr) (xs : List State) (ts : List NodeTally) → IsScope conf sc → list_any (is_tally sc a) ts ≡ false → AllByRecursion (HasTally conf ts) xs
     → node_states conf sc a xs ≡ 0
 none-counted conf sc a [] ts k f h = refl
 none-counted conf sc a (x ∷ xs) ts k f (h, hs) = go (none-counted conf sc a xs ts k f hs) (is_of_node conf sc a x) refl
@@ -145,7 +145,7 @@ own-node conf sc s e =
     ∙ ap (λ (o : Option NodeScope). is_at o s.source (new_tally sc s)) e
     ∙ and_from _ _ (same_scope_self sc) (same_addr_self s.source)
 
-new-counted : (conf : Conf) (sc : NodeScope) (s : State) (xs : List State) (ts : List Tally) → node_scope_of conf s.rule.0 ≡ Some sc → is_done s.phase ≡ false
+new-counted : (conf : Conf) (sc : NodeScope) (s : State) (xs : List State) (ts : List NodeTally) → node_scope_of conf s.rule.0 ≡ Some sc → is_done s.phase ≡ false
     → list_any (is_tally sc s.source) ts ≡ false → AllByRecursion (HasTally conf ts) xs → IsCounted conf (xs ++ s ∷ []) (new_tally sc s)
 new-counted conf sc s xs ts e p f h =
     let n = none-counted conf sc s.source xs ts (scope_of-IsScope conf s.rule.0 sc e) f h in
@@ -156,7 +156,7 @@ new-counted conf sc s xs ts e p f h =
     (λ j. record { node = new_node s.number sc s.source s.last; states = m j; connections = z j })
 
 -- a node that comes without a state has none
-pub stateless-counted : (conf : Conf) (number : ℕ) (sc : NodeScope) (a : Addr) (now : ℕ) (xs : List State) (ts : List Tally) → IsScope conf sc → list_any (is_tally sc a) ts ≡ false
+pub stateless-counted : (conf : Conf) (number : ℕ) (sc : NodeScope) (a : Addr) (now : ℕ) (xs : List State) (ts : List NodeTally) → IsScope conf sc → list_any (is_tally sc a) ts ≡ false
     → AllByRecursion (HasTally conf ts) xs → IsCounted conf xs (record { node = new_node number sc a now; states = 0; connections = 0 })
 stateless-counted conf number sc a now xs ts k f h =
     let n = none-counted conf sc a xs ts k f h in
@@ -164,7 +164,7 @@ stateless-counted conf number sc a now xs ts k f h =
     let z : 0 ≡ node_connections conf sc a xs = omega (arith, n, connections-le conf sc a xs) in
     (λ j. record { node = new_node number sc a now; states = m j; connections = z j })
 
-none-of : (sc : NodeScope) (a : Addr) (ts : List Tally) → find (is_tally sc a) ts ≡ None → AllByRecursion (λ t. is_at (Some sc) a t ≡ false) ts
+none-of : (sc : NodeScope) (a : Addr) (ts : List NodeTally) → find (is_tally sc a) ts ≡ None → AllByRecursion (λ t. is_at (Some sc) a t ≡ false) ts
 none-of sc a [] f = tt
 none-of sc a (t ∷ ts) f = go (none-of sc a ts) (is_tally sc a t) refl
   where
@@ -173,18 +173,18 @@ none-of sc a (t ∷ ts) f = go (none-of sc a ts) (is_tally sc a t) refl
     go m true i = let f' : Some t ≡ None = (rw i at f) in absurd (cc f')
     go m false i = (i, m (rw i at f))
 
-none-untracked : (a : Addr) (ts : List Tally) → AllByRecursion (λ t. is_at None a t ≡ false) ts
+none-untracked : (a : Addr) (ts : List NodeTally) → AllByRecursion (λ t. is_at None a t ≡ false) ts
 none-untracked a [] = tt
 none-untracked a (t ∷ ts) = (refl, none-untracked a ts)
 
-pub counted-came : (conf : Conf) (o : Option NodeScope) (s : State) (xs : List State) (ts : List Tally) → node_scope_of conf s.rule.0 ≡ o → is_done s.phase ≡ false
+pub counted-came : (conf : Conf) (o : Option NodeScope) (s : State) (xs : List State) (ts : List NodeTally) → node_scope_of conf s.rule.0 ≡ o → is_done s.phase ≡ false
     → AllByRecursion (IsScoped conf) ts → AllByRecursion (IsCounted conf xs) ts → AllByRecursion (HasTally conf ts) xs
     → AllByRecursion (IsCounted conf (xs ++ s ∷ [])) (tallies_with_state o s ts)
 counted-came conf None s xs ts e p g h n =
     all-apart conf s xs ts p g (subst (λ (o : Option NodeScope). AllByRecursion (λ t. is_at o s.source t ≡ false) ts) (sym e) (none-untracked s.source ts)) h
 counted-came conf (Some sc) s xs ts e p g h n = go (find (is_tally sc s.source) ts) refl
   where
-    go : (o : Option Tally) → find (is_tally sc s.source) ts ≡ o → AllByRecursion (IsCounted conf (xs ++ s ∷ [])) (tallies_with_state (Some sc) s ts)
+    go : (o : Option NodeTally) → find (is_tally sc s.source) ts ≡ o → AllByRecursion (IsCounted conf (xs ++ s ∷ [])) (tallies_with_state (Some sc) s ts)
     go (Some t) f =
         let w = subst (λ (o : Option NodeScope). AllByRecursion (IsCounted conf (xs ++ s ∷ [])) (map (at_node o s.source joined_of) ts)) e (all-joined conf s xs ts p g h) in
         rw f w
@@ -194,7 +194,7 @@ counted-came conf (Some sc) s xs ts e p g h n = go (find (is_tally sc s.source) 
 
 -- ---- what the tallies are of
 
-pub scoped-came : (conf : Conf) (o : Option NodeScope) (s : State) (ts : List Tally) → node_scope_of conf s.rule.0 ≡ o → AllByRecursion (IsScoped conf) ts
+pub scoped-came : (conf : Conf) (o : Option NodeScope) (s : State) (ts : List NodeTally) → node_scope_of conf s.rule.0 ≡ o → AllByRecursion (IsScoped conf) ts
     → AllByRecursion (IsScoped conf) (tallies_with_state o s ts)
 scoped-came conf None s ts e h = h
 scoped-came conf (Some sc) s ts e h = go (is_some (find (is_tally sc s.source) ts))
@@ -203,11 +203,11 @@ scoped-came conf (Some sc) s ts e h = go (is_some (find (is_tally sc s.source) t
     go true = scoped-at conf (Some sc) s.source joined_of joined-faithful ts h
     go false = all-push (IsScoped conf) (new_tally sc s) ts h (scope_of-IsScope conf s.rule.0 sc e)
 
-pub scored-came : (o : Option NodeScope) (s : State) (ts : List Tally) → AllByRecursion IsScored ts → AllByRecursion IsScored (tallies_with_state o s ts)
+pub scored-came : (o : Option NodeScope) (s : State) (ts : List NodeTally) → AllByRecursion IsScored ts → AllByRecursion IsScored (tallies_with_state o s ts)
 scored-came None s ts h = h
 scored-came (Some sc) s ts h = go (is_some (find (is_tally sc s.source) ts))
   where
-    keep : (t : Tally) → IsScored t → IsScored (at_node (Some sc) s.source joined_of t)
+    keep : (t : NodeTally) → IsScored t → IsScored (at_node (Some sc) s.source joined_of t)
     keep t k = by (is_tally sc s.source t)
       where
         by : (b : Bool) → IsScored (if b then joined_of t else t)
@@ -223,10 +223,10 @@ or_true true = refl
 or_true false = refl
 
 -- what is there is there with one more
-pub any-more : (test : Tally → Bool) (t : Tally) (ts : List Tally) → list_any test ts ≡ true → list_any test (ts ++ t ∷ []) ≡ true
+pub any-more : (test : NodeTally → Bool) (t : NodeTally) (ts : List NodeTally) → list_any test ts ≡ true → list_any test (ts ++ t ∷ []) ≡ true
 any-more test t ts h = any-push test t ts ∙ ap (λ b. test t || b) h ∙ or_true (test t)
 
-has-joined : (o : Option NodeScope) (s : State) (ts : List Tally) (sc : NodeScope) (a : Addr) → list_any (is_tally sc a) ts ≡ true → list_any (is_tally sc a) (tallies_with_state o s ts) ≡ true
+has-joined : (o : Option NodeScope) (s : State) (ts : List NodeTally) (sc : NodeScope) (a : Addr) → list_any (is_tally sc a) ts ≡ true → list_any (is_tally sc a) (tallies_with_state o s ts) ≡ true
 has-joined None s ts sc a h = h
 has-joined (Some own) s ts sc a h = go (is_some (find (is_tally own s.source) ts))
   where
@@ -234,7 +234,7 @@ has-joined (Some own) s ts sc a h = go (is_some (find (is_tally own s.source) ts
     go true = tally-at sc a (Some own) s.source joined_of joined-faithful ts ∙ h
     go false = any-more (is_tally sc a) (new_tally own s) ts h
 
-has-own : (sc : NodeScope) (s : State) (ts : List Tally) → list_any (is_tally sc s.source) (tallies_with_state (Some sc) s ts) ≡ true
+has-own : (sc : NodeScope) (s : State) (ts : List NodeTally) → list_any (is_tally sc s.source) (tallies_with_state (Some sc) s ts) ≡ true
 has-own sc s ts = go (is_some (find (is_tally sc s.source) ts)) refl
   where
     go : (b : Bool) → is_some (find (is_tally sc s.source) ts) ≡ b → list_any (is_tally sc s.source) (if b then map (at_node (Some sc) s.source joined_of) ts else ts ++ new_tally sc s ∷ []) ≡ true
@@ -243,7 +243,7 @@ has-own sc s ts = go (is_some (find (is_tally sc s.source) ts)) refl
         let y : is_tally sc s.source (new_tally sc s) ≡ true = and_from _ _ (same_scope_self sc) (same_addr_self s.source) in
         any-push (is_tally sc s.source) (new_tally sc s) ts ∙ ap (λ b. b || list_any (is_tally sc s.source) ts) y
 
-pub noded-came : (conf : Conf) (o : Option NodeScope) (s : State) (xs : List State) (ts : List Tally) → node_scope_of conf s.rule.0 ≡ o → AllByRecursion (HasTally conf ts) xs
+pub noded-came : (conf : Conf) (o : Option NodeScope) (s : State) (xs : List State) (ts : List NodeTally) → node_scope_of conf s.rule.0 ≡ o → AllByRecursion (HasTally conf ts) xs
     → AllByRecursion (HasTally conf (tallies_with_state o s ts)) (xs ++ s ∷ [])
 noded-came conf o s xs ts e h =
     all-push (HasTally conf (tallies_with_state o s ts)) s xs
@@ -251,11 +251,11 @@ noded-came conf o s xs ts e h =
     (λ sc f. subst (λ (z : Option NodeScope). list_any (is_tally sc s.source) (tallies_with_state z s ts) ≡ true) (sym f ∙ e) (has-own sc s ts))
 
 -- a list that has one element more, or is as it was, has what both have
-pub on-either : {T E : Type 0} (r : Result T E) (P : List Tally → Type 0) (old more new : List Tally) → OnOk r (new ≡ more) → OnErr r (new ≡ old) → P more → P old → P new
+pub on-either : {T E : Type 0} (r : Result T E) (P : List NodeTally → Type 0) (old more new : List NodeTally) → OnOk r (new ≡ more) → OnErr r (new ≡ old) → P more → P old → P new
 on-either (Ok x) P old more new h k m n = subst P (sym h) m
 on-either (Err e) P old more new h k m n = subst P (sym k) n
 
-nodes-joined : (o : Option NodeScope) (a : Addr) (ts : List Tally) → nodes_of (map (at_node o a joined_of) ts) ≡ nodes_of ts
+nodes-joined : (o : Option NodeScope) (a : Addr) (ts : List NodeTally) → nodes_of (map (at_node o a joined_of) ts) ≡ nodes_of ts
 nodes-joined o a [] = refl
 nodes-joined o a (t ∷ ts) = (λ j. go (is_at o a t) j ∷ nodes-joined o a ts j)
   where
@@ -263,21 +263,21 @@ nodes-joined o a (t ∷ ts) = (λ j. go (is_at o a t) j ∷ nodes-joined o a ts 
     go true = refl
     go false = refl
 
-has_node-of : (sc : NodeScope) (a : Addr) (ts : List Tally) → has_node sc a (nodes_of ts) ≡ list_any (is_tally sc a) ts
+has_node-of : (sc : NodeScope) (a : Addr) (ts : List NodeTally) → has_node sc a (nodes_of ts) ≡ list_any (is_tally sc a) ts
 has_node-of sc a [] = refl
 has_node-of sc a (t ∷ ts) = ap (λ b. is_node sc a t.node || b) (has_node-of sc a ts)
 
-pub has_node-tally : (sc : NodeScope) (a : Addr) (ts : List Tally) → has_node sc a (nodes_of ts) ≡ is_some (find (is_tally sc a) ts)
+pub has_node-tally : (sc : NodeScope) (a : Addr) (ts : List NodeTally) → has_node sc a (nodes_of ts) ≡ is_some (find (is_tally sc a) ts)
 has_node-tally sc a ts = has_node-of sc a ts ∙ sym (any-found (is_tally sc a) ts)
 
-pub node-absent : (sc : NodeScope) (a : Addr) (ts : List Tally) → has_node sc a (nodes_of ts) ≡ false → find (is_tally sc a) ts ≡ None
+pub node-absent : (sc : NodeScope) (a : Addr) (ts : List NodeTally) → has_node sc a (nodes_of ts) ≡ false → find (is_tally sc a) ts ≡ None
 node-absent sc a ts h = go (find (is_tally sc a) ts) (sym (has_node-tally sc a ts) ∙ h)
   where
-    go : (o : Option Tally) → is_some o ≡ false → o ≡ None
+    go : (o : Option NodeTally) → is_some o ≡ false → o ≡ None
     go None k = refl
     go (Some t) k = absurd (cc k)
 
-pub nodes-came : (o : Option NodeScope) (s : State) (ts : List Tally) → nodes_of (tallies_with_state o s ts) ≡ nodes_with (nodes_of ts) s.number s.source s.last o
+pub nodes-came : (o : Option NodeScope) (s : State) (ts : List NodeTally) → nodes_of (tallies_with_state o s ts) ≡ nodes_with (nodes_of ts) s.number s.source s.last o
 nodes-came None s ts = refl
 nodes-came (Some sc) s ts =
     go (is_some (find (is_tally sc s.source) ts))
@@ -285,7 +285,7 @@ nodes-came (Some sc) s ts =
   where
     go : (b : Bool) → nodes_of (if b then map (at_node (Some sc) s.source joined_of) ts else ts ++ new_tally sc s ∷ []) ≡ (if b then nodes_of ts else nodes_of ts ++ new_node s.number sc s.source s.last ∷ [])
     go true = nodes-joined (Some sc) s.source ts
-    go false = map-push (λ (t : Tally). t.node) (new_tally sc s) ts
+    go false = map-push (λ (t : NodeTally). t.node) (new_tally sc s) ts
 
 -- ---- the indexes by key
 
@@ -320,7 +320,7 @@ module _ (key : Placed → FlowKey) where
       go m hd tl true i = let f' : Some x ≡ None = (rw i at f) in absurd (cc f')
       go m hd tl false i = IsDistinct-cons same_key (key x) (map key (xs ++ s ∷ [])) (also xs hd i) (m (rw i at f) tl)
 
-pub entry-came : (p : Placed → Bool) (s : Placed) (xs : List Placed) (g g' : Option Entry) → (p s ≡ true → find p xs ≡ None) → g ≡ option_map entry_of (find p xs)
+pub entry-came : (p : Placed → Bool) (s : Placed) (xs : List Placed) (g g' : Option IndexEntry) → (p s ≡ true → find p xs ≡ None) → g ≡ option_map entry_of (find p xs)
     → g' ≡ cond (p s) (Some (entry_of s)) g → g' ≡ option_map entry_of (find p (xs ++ s ∷ []))
 entry-came p s xs g g' f e e' = rw (e', e, find-push p s xs f) (go (p s))
   where
@@ -385,10 +385,10 @@ ruled-came counts i v s xs w h =
 
 -- ---- the counts can rise
 
-pub few-counted : (conf : Conf) (xs : List State) (t : Tally) → length xs ≤ run_limit → IsCounted conf xs t → IsFew t
+pub few-counted : (conf : Conf) (xs : List State) (t : NodeTally) → length xs ≤ run_limit → IsCounted conf xs t → IsFew t
 few-counted conf xs t l h =
-    let e : t.states ≡ node_states conf t.node.scope t.node.source xs = ap (λ (u : Tally). u.states) h in
-    let d : t.connections ≡ node_connections conf t.node.scope t.node.source xs = ap (λ (u : Tally). u.connections) h in
+    let e : t.states ≡ node_states conf t.node.scope t.node.source xs = ap (λ (u : NodeTally). u.states) h in
+    let d : t.connections ≡ node_connections conf t.node.scope t.node.source xs = ap (λ (u : NodeTally). u.connections) h in
     (omega (arith, e, count-le (is_of_node conf t.node.scope t.node.source) xs), omega (arith, d, count-le (is_connection conf t.node.scope t.node.source) xs))
 
 -- ---- the source of a state that a packet makes

@@ -11,11 +11,11 @@ use Rattle.pfs_store_contract.specs.declared.records.NodeScope.{NodeScope}
 use Rattle.pfs_store_contract.specs.declared.records.State.{State}
 use Rattle.pfs_store_records.specs.Records.{IsRising, Placed, states_of}
 use Rattle.pfs_store_records.specs.Tallies.{has_node_number, is_tally, nodes_of, other_node}
-use Rattle.pfs_store_records.specs.declared.nodes.Tally.{Tally}
-use Rattle.pfs_store_index.specs.declared.indexes.Entry.{Entry}
-use Rattle.pfs_store_index.specs.declared.filing.Filing.{Filing}
+use Rattle.pfs_store_records.specs.declared.nodes.NodeTally.{NodeTally}
+use Rattle.pfs_store_index.specs.declared.indexes.IndexEntry.{IndexEntry}
+use Rattle.pfs_store_index.specs.declared.flush_index.FlushIndex.{FlushIndex}
 use Rattle.pfs_store_records.specs.Changes.{HasTally, IsScored, IsScoped, is_at}
-use Rattle.pfs_store_index.specs.Ties.{IsCounted, IsTied}
+use Rattle.pfs_store_index.specs.IndexInvariants.{IsCounted, IsTied}
 use Rattle.pfs_store_records.proofs.OneNode.{of_node}
 use Rattle.pfs_store_index.proofs.Removals.{all-filter, any-kept}
 use Rattle.pfs_store_records.proofs.Searches.{find-part, found-all, found-any, part-found}
@@ -28,22 +28,22 @@ none-first p x xs h = go (p x) refl
     go true e = let h' : length (x ∷ filter p xs) ≡ 0 = (rw e at h) in absurd (omega arith)
     go false e = (e, (rw e at h))
 
-noded-dropped : (conf : Conf) (n : ℕ) (t : Tally) (ts : List Tally) (xs : List State) → IsRising (node_numbers (nodes_of ts)) → find (has_node_number n) ts ≡ Some t → IsScoped conf t
+noded-dropped : (conf : Conf) (n : ℕ) (t : NodeTally) (ts : List NodeTally) (xs : List State) → IsRising (node_numbers (nodes_of ts)) → find (has_node_number n) ts ≡ Some t → IsScoped conf t
     → node_states conf t.node.scope t.node.source xs ≡ 0 → AllByRecursion (HasTally conf ts) xs → AllByRecursion (HasTally conf (filter (other_node n) ts)) xs
 noded-dropped conf n t ts [] r f k z h = tt
 noded-dropped conf n t ts (x ∷ xs) r f k z (h, hs) =
     let w = none-first (is_of_node conf t.node.scope t.node.source) x xs z in (
       (λ sc e.
           let apart : is_tally sc x.source t ≡ false = ap (λ (o : Option NodeScope). is_at o x.source t) (sym e) ∙ sym (of_node conf x t k) ∙ w.0 in
-          any-kept (λ (u : Tally). u.node.number) (is_tally sc x.source) n t ts (rising-tallies ts r) f apart ∙ h sc e),
+          any-kept (λ (u : NodeTally). u.node.number) (is_tally sc x.source) n t ts (rising-tallies ts r) f apart ∙ h sc e),
       noded-dropped conf n t ts xs r f k w.1 hs,
     )
 
-pub tied-dropped : {S : Type 0} (conf : Conf) (rs : List Placed) (keys insides : HashMap FlowKey Entry S) (counts : List ℕ) (ts : List Tally) (filing : Filing) (n : Node)
+pub tied-dropped : {S : Type 0} (conf : Conf) (rs : List Placed) (keys insides : HashMap FlowKey IndexEntry S) (counts : List ℕ) (ts : List NodeTally) (filing : FlushIndex) (n : Node)
     → IsTied conf rs keys insides counts ts filing → IsRising (node_numbers (nodes_of ts)) → find (λ (m : Node). m.number == n.number) (nodes_of ts) ≡ Some n
     → node_states conf n.scope n.source (states_of rs) ≡ 0 → IsTied conf rs keys insides counts (filter (other_node n.number) ts) filing
 tied-dropped conf rs keys insides counts ts filing n i r f z =
-    let t = part-found (λ (u : Tally). u.node) (λ (m : Node). m.number == n.number) n ts f in
+    let t = part-found (λ (u : NodeTally). u.node) (λ (m : Node). m.number == n.number) n ts f in
     let k = found-all (IsScoped conf) (has_node_number n.number) t.whole ts i.scoped t.found in
     let y : node_states conf t.whole.node.scope t.whole.node.source (states_of rs) ≡ 0 = ap (λ (m : Node). node_states conf m.scope m.source (states_of rs)) t.same ∙ z in
     record {
@@ -61,10 +61,10 @@ tied-dropped conf rs keys insides counts ts filing n i r f z =
       paired = i.paired;
     }
 
-pub node-held : (n : Node) (ts : List Tally) → find (λ (m : Node). m.number == n.number) (nodes_of ts) ≡ Some n → list_any (has_node_number n.number) ts ≡ true
-node-held n ts f = let t = part-found (λ (u : Tally). u.node) (λ (m : Node). m.number == n.number) n ts f in found-any (has_node_number n.number) t.whole ts t.found
+pub node-held : (n : Node) (ts : List NodeTally) → find (λ (m : Node). m.number == n.number) (nodes_of ts) ≡ Some n → list_any (has_node_number n.number) ts ≡ true
+node-held n ts f = let t = part-found (λ (u : NodeTally). u.node) (λ (m : Node). m.number == n.number) n ts f in found-any (has_node_number n.number) t.whole ts t.found
 
-pub nodes-dropped : (k : ℕ) (ts : List Tally) → nodes_of (filter (other_node k) ts) ≡ filter (λ (m : Node). not (m.number == k)) (nodes_of ts)
+pub nodes-dropped : (k : ℕ) (ts : List NodeTally) → nodes_of (filter (other_node k) ts) ≡ filter (λ (m : Node). not (m.number == k)) (nodes_of ts)
 nodes-dropped k [] = refl
 nodes-dropped k (t ∷ ts) = go (t.node.number == k) (nodes-dropped k ts)
   where
@@ -75,6 +75,6 @@ nodes-dropped k (t ∷ ts) = go (t.node.number == k) (nodes-dropped k ts)
 
 -- ---- the node of a tally
 
-pub node-of : (o : Option Tally) (ts : List Tally) → IfSome o (λ t. find (has_node_number t.node.number) ts ≡ Some t) → IfSome o (λ t. find (λ (n : Node). n.number == t.node.number) (nodes_of ts) ≡ Some t.node)
+pub node-of : (o : Option NodeTally) (ts : List NodeTally) → IfSome o (λ t. find (has_node_number t.node.number) ts ≡ Some t) → IfSome o (λ t. find (λ (n : Node). n.number == t.node.number) (nodes_of ts) ≡ Some t.node)
 node-of None ts h = h
-node-of (Some t) ts h = find-part (λ (u : Tally). u.node) (λ (n : Node). n.number == t.node.number) ts ∙ ap (λ (o : Option Tally). option_map (λ (u : Tally). u.node) o) h
+node-of (Some t) ts h = find-part (λ (u : NodeTally). u.node) (λ (n : Node). n.number == t.node.number) ts ∙ ap (λ (o : Option NodeTally). option_map (λ (u : NodeTally). u.node) o) h

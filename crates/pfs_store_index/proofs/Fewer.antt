@@ -9,7 +9,7 @@ use Rattle.pfs_conf_values.specs.declared.timeouts.TimeoutName.TheVariants.{Adap
 use Rattle.pfs_track.specs.Lifetimes.{lifetime_under, value_for}
 use Rattle.pfs_track.specs.StatePhases.{slot}
 use Rattle.pfs_store_contract.specs.Counts.{is_of_rule, rule_states}
-use Rattle.pfs_store_index.specs.Quiet.{StateStays}
+use Rattle.pfs_store_index.specs.QuietPurges.{StateStays}
 use Rattle.pfs_store_contract.specs.declared.records.State.{State}
 
 -- ---- counts

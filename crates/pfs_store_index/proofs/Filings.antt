@@ -6,7 +6,7 @@ use Rattle.pfs_addr_values.specs.declared.packets.Dir.TheVariants as dir
 use Rattle.pfs_conf_values.specs.declared.profiles.Profile.TheVariants as profile
 use Rattle.pfs_store_contract.specs.declared.records.State.{State}
 use Rattle.pfs_store_index.specs.Filed.{HasFiled, HasPair, LosesFiled, LosesPair, SameFiled, SamePairs, filed_under, ordered_source}
-use Rattle.pfs_store_index.specs.declared.filing.Filing.{Filing}
+use Rattle.pfs_store_index.specs.declared.flush_index.FlushIndex.{FlushIndex}
 use Rattle.pfs_store_index.specs.declared.sources.Source.{Source}
 
 -- what holds of both directions holds of each
@@ -16,25 +16,25 @@ ends P h k dir.Out = k
 
 -- ---- by the source
 
-pub source-has : (s : State) (old new : Filing) (o : Source) → o ≡ ordered_source s.source → HasPair (o, s.number) old.first new.first → HasFiled profile.Own s old new
+pub source-has : (s : State) (old new : FlushIndex) (o : Source) → o ≡ ordered_source s.source → HasPair (o, s.number) old.first new.first → HasFiled profile.Own s old new
 source-has s old new o e h = λ d. subst (λ (x : Source). HasPair (x, s.number) old.first new.first) e h
 
-pub source-loses : (s : State) (old new : Filing) (o : Source) → o ≡ ordered_source s.source → LosesPair (o, s.number) old.first new.first → LosesFiled profile.Own s old new
+pub source-loses : (s : State) (old new : FlushIndex) (o : Source) → o ≡ ordered_source s.source → LosesPair (o, s.number) old.first new.first → LosesFiled profile.Own s old new
 source-loses s old new o e h = λ d. subst (λ (x : Source). LosesPair (x, s.number) old.first new.first) e h
 
 -- ---- by both ends
 
-pub ends-have : (s : State) (old new : Filing) (a b : Source) → a ≡ ordered_source s.key.a.addr → b ≡ ordered_source s.key.b.addr
+pub ends-have : (s : State) (old new : FlushIndex) (a b : Source) → a ≡ ordered_source s.key.a.addr → b ≡ ordered_source s.key.b.addr
     → HasPair (a, s.number) old.first new.first × HasPair (b, s.number) old.second new.second → HasFiled profile.OpenBsd74 s old new
 ends-have s old new a b e f h =
     ends _ (subst (λ (x : Source). HasPair (x, s.number) old.first new.first) e h.0) (subst (λ (x : Source). HasPair (x, s.number) old.second new.second) f h.1)
 
-pub ends-lose : (s : State) (old new : Filing) (a b : Source) → a ≡ ordered_source s.key.a.addr → b ≡ ordered_source s.key.b.addr
+pub ends-lose : (s : State) (old new : FlushIndex) (a b : Source) → a ≡ ordered_source s.key.a.addr → b ≡ ordered_source s.key.b.addr
     → LosesPair (a, s.number) old.first new.first → LosesPair (b, s.number) old.second new.second → LosesFiled profile.OpenBsd74 s old new
 ends-lose s old new a b e f h k =
     ends _ (subst (λ (x : Source). LosesPair (x, s.number) old.first new.first) e h) (subst (λ (x : Source). LosesPair (x, s.number) old.second new.second) f k)
 
-pub ends-same : (old new : Filing) → SamePairs old.first new.first × SamePairs old.second new.second → SameFiled profile.OpenBsd74 old new
+pub ends-same : (old new : FlushIndex) → SamePairs old.first new.first × SamePairs old.second new.second → SameFiled profile.OpenBsd74 old new
 ends-same old new h = ends _ h.0 h.1
 
 pub ends-sound : (s : State) → IsAddr s.key.a.addr → IsAddr s.key.b.addr → (d : Dir) → IsAddr (filed_under profile.OpenBsd74 d s)

@@ -12,8 +12,8 @@ use Rattle.pfs_store_contract.specs.Calls.{onward_key}
 use Rattle.pfs_store_contract.specs.Purging.{state_numbers}
 use Rattle.pfs_store_contract.specs.declared.records.State.{State}
 use Rattle.pfs_store_records.specs.Records.{IsRising, Placed, states_of}
-use Rattle.pfs_store_index.specs.declared.indexes.Entry.{Entry}
-use Rattle.pfs_store_index.specs.Ties.{entry_of, has_apart, has_inside, has_key, inner_in, is_inner, key_in}
+use Rattle.pfs_store_index.specs.declared.indexes.IndexEntry.{IndexEntry}
+use Rattle.pfs_store_index.specs.IndexInvariants.{entry_of, has_apart, has_inside, has_key, inner_in, is_inner, key_in}
 use Rattle.pfs_store_index.proofs.Leavings.{record_number, state_number}
 use Rattle.pfs_store_index.proofs.Removals.{none-passes, passing-found}
 use Rattle.pfs_store_records.proofs.Rising.{IsRisingBy, has_number, head-above, rest-rising}
@@ -116,7 +116,7 @@ pub no-entry : (o : Option Placed) → None ≡ option_map entry_of o → o ≡ 
 no-entry None h = refl
 no-entry (Some p) h = absurd (cc h)
 
-pub apart-entry : (k : FlowKey) (e : Entry) (rs : List Placed) → IsDistinct same_key (map inner_in rs) → Some e ≡ option_map entry_of (find (has_apart k) rs) → Some e ≡ option_map entry_of (find (has_inside k) rs)
+pub apart-entry : (k : FlowKey) (e : IndexEntry) (rs : List Placed) → IsDistinct same_key (map inner_in rs) → Some e ≡ option_map entry_of (find (has_apart k) rs) → Some e ≡ option_map entry_of (find (has_inside k) rs)
 apart-entry k e rs d h = go (find (has_apart k) rs) refl
   where
     go : (o : Option Placed) → find (has_apart k) rs ≡ o → Some e ≡ option_map entry_of (find (has_inside k) rs)
@@ -153,13 +153,13 @@ by-number p s (x ∷ xs) r f = go (by-number p s xs (rest-rising state_number x 
         rw y (more f')
 
 -- the record of an entry of the index by key, and whether its keys are apart
-pub record IsEntryOf (k : FlowKey) (e : Entry) (rs : List Placed) : Type 0 where
+pub record IsEntryOf (k : FlowKey) (e : IndexEntry) (rs : List Placed) : Type 0 where
   pub whole : Placed
   pub found : find (has_key k) rs ≡ Some whole
   pub same : e ≡ entry_of whole
   pub inner : option_and_then (onward_key In) (find (λ (s : State). s.number == e.number) (states_of rs)) ≡ whole.state.inner
 
-pub entry-is : (k : FlowKey) (e : Entry) (rs : List Placed) → IsRising (state_numbers (states_of rs)) → Some e ≡ option_map entry_of (find (has_key k) rs) → IsEntryOf k e rs
+pub entry-is : (k : FlowKey) (e : IndexEntry) (rs : List Placed) → IsRising (state_numbers (states_of rs)) → Some e ≡ option_map entry_of (find (has_key k) rs) → IsEntryOf k e rs
 entry-is k e rs r h = go (find (has_key k) rs) refl
   where
     go : (o : Option Placed) → find (has_key k) rs ≡ o → IsEntryOf k e rs
@@ -172,6 +172,6 @@ entry-is k e rs r h = go (find (has_key k) rs) refl
           whole = p;
           found = f;
           same = q;
-          inner = ap (λ (x : Entry). option_and_then (onward_key In) (find (λ (s : State). s.number == x.number) (states_of rs))) q
+          inner = ap (λ (x : IndexEntry). option_and_then (onward_key In) (find (λ (s : State). s.number == x.number) (states_of rs))) q
               ∙ ap (option_and_then (onward_key In)) (by-number (λ (s : State). same_key s.key k) p.state (states_of rs) r g);
         }

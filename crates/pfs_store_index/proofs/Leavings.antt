@@ -18,10 +18,10 @@ use Rattle.pfs_store_contract.specs.declared.records.NodeScope.{NodeScope}
 use Rattle.pfs_store_contract.specs.declared.records.State.{State}
 use Rattle.pfs_store_records.specs.Records.{Placed}
 use Rattle.pfs_store_records.specs.Tallies.{nodes_of}
-use Rattle.pfs_store_records.specs.declared.nodes.Tally.{Tally}
-use Rattle.pfs_store_index.specs.declared.indexes.Entry.{Entry}
+use Rattle.pfs_store_records.specs.declared.nodes.NodeTally.{NodeTally}
+use Rattle.pfs_store_index.specs.declared.indexes.IndexEntry.{IndexEntry}
 use Rattle.pfs_store_index.specs.Filed.{is_pair}
-use Rattle.pfs_store_index.specs.Ties.{HasRule, IsCounted, entry_of, left_at}
+use Rattle.pfs_store_index.specs.IndexInvariants.{HasRule, IsCounted, entry_of, left_at}
 use Rattle.pfs_store_records.specs.Changes.{HasTally, IsScored, IsScoped, is_at, left_of}
 use Rattle.pfs_store_records.proofs.OneNode.{of_node, tally-at}
 use Rattle.pfs_store_index.proofs.Removals.{any-kept, any-removed, count-removed, passing-removed}
@@ -39,7 +39,7 @@ record_number p = p.state.number
 -- ---- the node of the state
 
 -- a node's tally in the states that are left
-abbrev parted : Conf → List State → List State → ℕ → Tally → Tally
+abbrev parted : Conf → List State → List State → ℕ → NodeTally → NodeTally
 parted conf before after now t = record {
   node = node_after_leaving conf before after now t.node;
   states = node_states conf t.node.scope t.node.source after;
@@ -56,7 +56,7 @@ done_first : (a b : Bool) → b ≡ true → (a && b) ≡ a
 done_first true b h = h
 done_first false b h = refl
 
-left-parted : (conf : Conf) (s : State) (now : ℕ) (xs : List State) (t : Tally) → IsRisingBy state_number xs → find (has_number state_number s.number) xs ≡ Some s
+left-parted : (conf : Conf) (s : State) (now : ℕ) (xs : List State) (t : NodeTally) → IsRisingBy state_number xs → find (has_number state_number s.number) xs ≡ Some s
     → IsScoped conf t → IsCounted conf xs t → left_at conf s now t ≡ parted conf xs (filter (other_than s.number) xs) now t
 left-parted conf s now xs t r f h e = go (is_at (node_scope_of conf s.rule.0) s.source t) refl
   where
@@ -78,10 +78,10 @@ left-parted conf s now xs t r f h e = go (is_at (node_scope_of conf s.rule.0) s.
     d = count-removed state_number (is_connection conf t.node.scope t.node.source) s.number s xs r f
 
     es : t.states ≡ length (filter (is_of_node conf t.node.scope t.node.source) xs)
-    es = ap (λ (u : Tally). u.states) e
+    es = ap (λ (u : NodeTally). u.states) e
 
     ec : t.connections ≡ length (filter (is_connection conf t.node.scope t.node.source) xs)
-    ec = ap (λ (u : Tally). u.connections) e
+    ec = ap (λ (u : NodeTally). u.connections) e
 
     go : (b : Bool) → is_at (node_scope_of conf s.rule.0) s.source t ≡ b → left_at conf s now t ≡ parted conf xs (filter (other_than s.number) xs) now t
     go true i =
@@ -118,7 +118,7 @@ left-parted conf s now xs t r f h e = go (is_at (node_scope_of conf s.rule.0) s.
           connections = n j;
         })
 
-pub counted-left : (conf : Conf) (s : State) (now : ℕ) (xs : List State) (ts : List Tally) → IsRisingBy state_number xs → find (has_number state_number s.number) xs ≡ Some s
+pub counted-left : (conf : Conf) (s : State) (now : ℕ) (xs : List State) (ts : List NodeTally) → IsRisingBy state_number xs → find (has_number state_number s.number) xs ≡ Some s
     → AllByRecursion (IsScoped conf) ts → AllByRecursion (IsCounted conf xs) ts → AllByRecursion (IsCounted conf (filter (other_than s.number) xs)) (map (left_at conf s now) ts)
 counted-left conf s now xs [] r f g h = tt
 counted-left conf s now xs (t ∷ ts) r f (g, gs) (h, hs) =
@@ -141,7 +141,7 @@ counted-left conf s now xs (t ∷ ts) r f (g, gs) (h, hs) =
         go true = refl
         go false = refl
 
-    still : (u : Tally) → u ≡ parted conf xs (filter (other_than s.number) xs) now t → IsCounted conf (filter (other_than s.number) xs) u
+    still : (u : NodeTally) → u ≡ parted conf xs (filter (other_than s.number) xs) now t → IsCounted conf (filter (other_than s.number) xs) u
     still u e = subst (IsCounted conf (filter (other_than s.number) xs)) (sym e)
         (λ j. record {
           node = node_after_leaving conf xs (filter (other_than s.number) xs) now t.node;
@@ -149,14 +149,14 @@ counted-left conf s now xs (t ∷ ts) r f (g, gs) (h, hs) =
           connections = node_connections conf (sym same_scope_of j) (sym same_source_of j) (filter (other_than s.number) xs);
         })
 
-pub nodes-left : (conf : Conf) (s : State) (now : ℕ) (xs : List State) (ts : List Tally) → IsRisingBy state_number xs → find (has_number state_number s.number) xs ≡ Some s
+pub nodes-left : (conf : Conf) (s : State) (now : ℕ) (xs : List State) (ts : List NodeTally) → IsRisingBy state_number xs → find (has_number state_number s.number) xs ≡ Some s
     → AllByRecursion (IsScoped conf) ts → AllByRecursion (IsCounted conf xs) ts
     → nodes_of (map (left_at conf s now) ts) ≡ map (node_after_leaving conf xs (filter (other_than s.number) xs) now) (nodes_of ts)
 nodes-left conf s now xs [] r f g h = refl
 nodes-left conf s now xs (t ∷ ts) r f (g, gs) (h, hs) =
     (λ i. (left-parted conf s now xs t r f g h i).node ∷ nodes-left conf s now xs ts r f gs hs i)
 
-pub scored-left : (conf : Conf) (s : State) (now : ℕ) (ts : List Tally) → AllByRecursion IsScored ts → AllByRecursion IsScored (map (left_at conf s now) ts)
+pub scored-left : (conf : Conf) (s : State) (now : ℕ) (ts : List NodeTally) → AllByRecursion IsScored ts → AllByRecursion IsScored (map (left_at conf s now) ts)
 scored-left conf s now [] h = tt
 scored-left conf s now (t ∷ ts) (h, hs) = (go (is_at (node_scope_of conf s.rule.0) s.source t), scored-left conf s now ts hs)
   where
@@ -164,14 +164,14 @@ scored-left conf s now (t ∷ ts) (h, hs) = (go (is_at (node_scope_of conf s.rul
     go true = subst (λ n. n ≤ 4294968000) (sym (left-node (λ n. n.score.value) conf s now t (λ e. refl))) h
     go false = h
 
-pub noded-left : (conf : Conf) (s : State) (now : ℕ) (ts : List Tally) (xs : List State) → AllByRecursion (HasTally conf ts) xs → AllByRecursion (HasTally conf (map (left_at conf s now) ts)) xs
+pub noded-left : (conf : Conf) (s : State) (now : ℕ) (ts : List NodeTally) (xs : List State) → AllByRecursion (HasTally conf ts) xs → AllByRecursion (HasTally conf (map (left_at conf s now) ts)) xs
 noded-left conf s now ts [] h = tt
 noded-left conf s now ts (x ∷ xs) (h, hs) =
     ((λ sc e. tally-at sc x.source (node_scope_of conf s.rule.0) s.source (left_of conf s now) (left-faithful conf s now) ts ∙ h sc e), noded-left conf s now ts xs hs)
 
 -- ---- the index by key
 
-pub entry-left : (p : Placed → Bool) (key : Placed → FlowKey) (k : FlowKey) → ((x : Placed) → p x ≡ true → key x ≡ k) → (s : Placed) (records : List Placed) (g g' : Option Entry)
+pub entry-left : (p : Placed → Bool) (key : Placed → FlowKey) (k : FlowKey) → ((x : Placed) → p x ≡ true → key x ≡ k) → (s : Placed) (records : List Placed) (g g' : Option IndexEntry)
     → IsRisingBy record_number records → IsDistinct same_key (map key records) → find (has_number record_number s.state.number) records ≡ Some s
     → g ≡ option_map entry_of (find p records) → g' ≡ cond (p s) None g
     → g' ≡ option_map entry_of (find p (filter (λ (q : Placed). not (q.state.number == s.state.number)) records))

@@ -14,9 +14,9 @@ use Rattle.pfs_store_contract.specs.declared.records.NodeScope.{NodeScope}
 use Rattle.pfs_store_contract.specs.declared.records.State.{State}
 use Rattle.pfs_store_records.specs.Records.{Placed, placed_at, states_of}
 use Rattle.pfs_store_records.specs.Tallies.{is_tally, nodes_of}
-use Rattle.pfs_store_records.specs.declared.nodes.Tally.{Tally}
+use Rattle.pfs_store_records.specs.declared.nodes.NodeTally.{NodeTally}
 use Rattle.pfs_store_records.specs.Changes.{HasTally, IsScored, IsScoped, at_node, is_at, met_by}
-use Rattle.pfs_store_index.specs.Ties.{IsCounted, entry_of}
+use Rattle.pfs_store_index.specs.IndexInvariants.{IsCounted, entry_of}
 use Rattle.pfs_store_index.proofs.Leavings.{record_number, state_number}
 use Rattle.pfs_store_records.proofs.OneNode.{of_node, tally-at}
 use Rattle.pfs_store_records.proofs.Rising.{Apart, IsRisingBy, has_number, head-apart, head-is, rest-rising, same_number}
@@ -135,7 +135,7 @@ count-renewed n p now q s (x ∷ xs) r f = go (count-renewed n p now q s xs (res
 abbrev pub CountsDone : State → PacketView → Type 0
 CountsDone s p = ◌≡◌ {A = ℕ} (cond (is_done (phase_after s.phase (goes_forward p s) p.flags)) 1 0) (cond (is_done s.phase) 1 0 + cond (completes_at p s) 1 0)
 
-recount : (conf : Conf) (xs : List State) (t u : Tally) → u.node.scope ≡ t.node.scope → u.node.source ≡ t.node.source
+recount : (conf : Conf) (xs : List State) (t u : NodeTally) → u.node.scope ≡ t.node.scope → u.node.source ≡ t.node.source
     → u.states ≡ node_states conf t.node.scope t.node.source xs → u.connections ≡ node_connections conf t.node.scope t.node.source xs → IsCounted conf xs u
 recount conf xs t u p q m n =
     (λ j. record {
@@ -144,15 +144,15 @@ recount conf xs t u p q m n =
       connections = (n ∙ (λ i. node_connections conf (sym p i) (sym q i) xs)) j;
     })
 
-met-states : (rate : Option Rate) (now : ℕ) (c : Bool) (t : Tally) → (met_by rate now c t).states ≡ t.states
+met-states : (rate : Option Rate) (now : ℕ) (c : Bool) (t : NodeTally) → (met_by rate now c t).states ≡ t.states
 met-states rate now true t = refl
 met-states rate now false t = refl
 
-met-connections : (rate : Option Rate) (now : ℕ) (c : Bool) (t : Tally) → (met_by rate now c t).connections ≡ t.connections + cond c 1 0
+met-connections : (rate : Option Rate) (now : ℕ) (c : Bool) (t : NodeTally) → (met_by rate now c t).connections ≡ t.connections + cond c 1 0
 met-connections rate now true t = refl
 met-connections rate now false t = omega arith
 
-counted-met : (conf : Conf) (n : ℕ) (p : PacketView) (now : ℕ) (rate : Option Rate) (s : State) (xs : List State) (t : Tally) → IsRisingBy state_number xs
+counted-met : (conf : Conf) (n : ℕ) (p : PacketView) (now : ℕ) (rate : Option Rate) (s : State) (xs : List State) (t : NodeTally) → IsRisingBy state_number xs
     → find (has_number state_number n) xs ≡ Some s → CountsDone s p → IsScoped conf t → IsCounted conf xs t
     → IsCounted conf (map (numbered_state_after n p now) xs) (at_node (node_scope_of conf s.rule.0) s.source (met_by rate now (completes_at p s)) t)
 counted-met conf n p now rate s xs t r f k h e = go (is_at (node_scope_of conf s.rule.0) s.source t) refl
@@ -165,10 +165,10 @@ counted-met conf n p now rate s xs t r f k h e = go (is_at (node_scope_of conf s
     d = count-renewed n p now (is_connection conf t.node.scope t.node.source) s xs r f
 
     es : t.states ≡ node_states conf t.node.scope t.node.source xs
-    es = ap (λ (u : Tally). u.states) e
+    es = ap (λ (u : NodeTally). u.states) e
 
     ec : t.connections ≡ node_connections conf t.node.scope t.node.source xs
-    ec = ap (λ (u : Tally). u.connections) e
+    ec = ap (λ (u : NodeTally). u.connections) e
 
     both : (a b : Bool) → b ≡ true → ◌≡◌ {A = ℕ} (cond (a && b) 1 0) (cond a 1 0)
     both true b z = ap (λ (x : Bool). cond {A = ℕ} x 1 0) z
@@ -201,13 +201,13 @@ counted-met conf n p now rate s xs t r f k h e = go (is_at (node_scope_of conf s
         subst (IsCounted conf (map (numbered_state_after n p now) xs)) (sym w)
         (recount conf (map (numbered_state_after n p now) xs) t t refl refl (es ∙ sym c) m)
 
-pub all-met : (conf : Conf) (n : ℕ) (p : PacketView) (now : ℕ) (rate : Option Rate) (s : State) (xs : List State) (ts : List Tally) → IsRisingBy state_number xs
+pub all-met : (conf : Conf) (n : ℕ) (p : PacketView) (now : ℕ) (rate : Option Rate) (s : State) (xs : List State) (ts : List NodeTally) → IsRisingBy state_number xs
     → find (has_number state_number n) xs ≡ Some s → CountsDone s p → AllByRecursion (IsScoped conf) ts → AllByRecursion (IsCounted conf xs) ts
     → AllByRecursion (IsCounted conf (map (numbered_state_after n p now) xs)) (map (at_node (node_scope_of conf s.rule.0) s.source (met_by rate now (completes_at p s))) ts)
 all-met conf n p now rate s xs [] r f k g h = tt
 all-met conf n p now rate s xs (t ∷ ts) r f k (g, gs) (h, hs) = (counted-met conf n p now rate s xs t r f k g h, all-met conf n p now rate s xs ts r f k gs hs)
 
-pub scored-met : (o : Option NodeScope) (a : Addr) (rate : Option Rate) (now : ℕ) (c : Bool) (ts : List Tally) → AllByRecursion IsScored ts
+pub scored-met : (o : Option NodeScope) (a : Addr) (rate : Option Rate) (now : ℕ) (c : Bool) (ts : List NodeTally) → AllByRecursion IsScored ts
     → AllByRecursion IsScored (map (at_node o a (met_by rate now c)) ts)
 scored-met o a rate now c [] h = tt
 scored-met o a rate now c (t ∷ ts) (h, hs) = (go (is_at o a t) rate c, scored-met o a rate now c ts hs)
@@ -218,7 +218,7 @@ scored-met o a rate now c (t ∷ ts) (h, hs) = (go (is_at o a t) rate c, scored-
     go true rate false = h
     go false rate c = h
 
-pub noded-met : (conf : Conf) (n : ℕ) (p : PacketView) (now : ℕ) (o : Option NodeScope) (a : Addr) (rate : Option Rate) (c : Bool) (xs : List State) (ts : List Tally)
+pub noded-met : (conf : Conf) (n : ℕ) (p : PacketView) (now : ℕ) (o : Option NodeScope) (a : Addr) (rate : Option Rate) (c : Bool) (xs : List State) (ts : List NodeTally)
     → AllByRecursion (HasTally conf ts) xs → AllByRecursion (HasTally conf (map (at_node o a (met_by rate now c)) ts)) (map (numbered_state_after n p now) xs)
 noded-met conf n p now o a rate c xs ts h =
     all-blind n p now (HasTally conf (map (at_node o a (met_by rate now c)) ts)) xs (λ s k. k) (each xs h)
@@ -229,11 +229,11 @@ noded-met conf n p now o a rate c xs ts h =
 
 -- ---- the nodes of the world
 
-pub nodes-met : (conf : Conf) (s : State) (now : ℕ) (c : Bool) (ts : List Tally)
+pub nodes-met : (conf : Conf) (s : State) (now : ℕ) (c : Bool) (ts : List NodeTally)
     → nodes_of (map (at_node (node_scope_of conf s.rule.0) s.source (met_by (options_of conf s.rule.0).max_src_conn_rate now c)) ts) ≡ nodes_touched conf (nodes_of ts) s now c
 nodes-met conf s now true ts = by (node_scope_of conf s.rule.0) (options_of conf s.rule.0).max_src_conn_rate ts
   where
-    by : (o : Option NodeScope) (rate : Option Rate) (ts : List Tally) → nodes_of (map (at_node o s.source (met_by rate now true)) ts) ≡ nodes_scored (nodes_of ts) s.source now o rate
+    by : (o : Option NodeScope) (rate : Option Rate) (ts : List NodeTally) → nodes_of (map (at_node o s.source (met_by rate now true)) ts) ≡ nodes_scored (nodes_of ts) s.source now o rate
     by None rate [] = refl
     by None rate (t ∷ ts) = ap (λ ns. t.node ∷ ns) (by None rate ts)
     by (Some sc) None [] = refl
@@ -250,7 +250,7 @@ nodes-met conf s now true ts = by (node_scope_of conf s.rule.0) (options_of conf
         go false = refl
 nodes-met conf s now false ts = unmet ts
   where
-    unmet : (ts : List Tally) → nodes_of (map (at_node (node_scope_of conf s.rule.0) s.source (met_by (options_of conf s.rule.0).max_src_conn_rate now false)) ts) ≡ nodes_of ts
+    unmet : (ts : List NodeTally) → nodes_of (map (at_node (node_scope_of conf s.rule.0) s.source (met_by (options_of conf s.rule.0).max_src_conn_rate now false)) ts) ≡ nodes_of ts
     unmet [] = refl
     unmet (t ∷ ts) = (λ i. go (is_at (node_scope_of conf s.rule.0) s.source t) i ∷ unmet ts i)
       where

@@ -18,10 +18,10 @@ use Rattle.pfs_store_contract.specs.declared.records.State.{State}
 use Rattle.pfs_store_contract.proofs.FilterLaws.{filter-all}
 use Rattle.pfs_store_contract.proofs.Passages.{one-done, purged_with}
 use Rattle.pfs_store_records.proofs.Searches.{all-weaker}
-use Rattle.pfs_store_index.specs.Quiet.{AreNodesKnown, AreStatesKnown, IsKnown, IsPassage, NodeSliceStays, NodeStays, SliceStays, StateStays, known_after, known_before, world_after_quiet}
-use Rattle.pfs_store_index.specs.declared.passages.Known.{Known}
+use Rattle.pfs_store_index.specs.QuietPurges.{AreNodesKnown, AreStatesKnown, IsKnown, IsPassage, NodeSliceStays, NodeStays, SliceStays, StateStays, known_after, known_before, world_after_quiet}
+use Rattle.pfs_store_index.specs.declared.passages.KnownStay.{KnownStay}
 use Rattle.pfs_store_index.specs.declared.passages.Passage.{Passage}
-use Rattle.pfs_store_index.specs.declared.passages.Told.{Told}
+use Rattle.pfs_store_index.specs.declared.passages.SliceTold.{SliceTold}
 use Rattle.pfs_store_index.proofs.Fewer.{fewer-all, stays-longer}
 use Rattle.pfs_store_index.proofs.Removals.{all-filter}
 use Rattle.pfs_store_index.proofs.Retained.{retained-same}
@@ -73,7 +73,7 @@ module _ {X : Type 0} (number : X → ℕ) (Stays : ℕ → X → Type 0) where
 
 -- one slice more: of what stays up to a moment, this is known later
 module _ {X : Type 0} (number : X → ℕ) (Stays Later : ℕ → X → Type 0) (later : (u v : ℕ) (x : X) → v ≤ u → Stays u x → Later v x) (later0 : (x : X) → Later 0 x) where
-  pub known-after : (share : ℕ) (p : X → Bool) (xs : List X) (pending after : List ℕ) (most until : ℕ) (over : Bool) (known : Known)
+  pub known-after : (share : ℕ) (p : X → Bool) (xs : List X) (pending after : List ℕ) (most until : ℕ) (over : Bool) (known : KnownStay)
       → after ≡ drop share (round (map number xs) pending) → (over ≡ true → after ≡ [])
       → AllByRecursion (λ x. is_among (take share (round (map number xs) pending)) (number x) ≡ true → Stays until x) (filter p xs)
       → IsKnown number Stays share xs pending most known
@@ -149,7 +149,7 @@ pub nodes-before : (conf : Conf) (w : World) (most : ℕ) (begins : Bool) → (b
 nodes-before conf w most begins e = known-before number_of_node (NodeStays conf w.states) (node_share conf) w.nodes w.pending_nodes most begins (λ x z. omega arith) e
 
 -- what is known of the nodes behind a slice of the states
-nodes-behind : (conf : Conf) (w : World) (s most left : ℕ) (before known : Known) → left ≡ (state_slice_of conf w s).removed → (left ≡ 0 → known ≡ before)
+nodes-behind : (conf : Conf) (w : World) (s most left : ℕ) (before known : KnownStay) → left ≡ (state_slice_of conf w s).removed → (left ≡ 0 → known ≡ before)
     → (0 < left → AreNodesKnown conf (state_slice conf w s) most known) → AreNodesKnown conf w most before → AreNodesKnown conf (state_slice conf w s) most known
 nodes-behind conf w s most left before known e same anew h = go (left == 0) refl
   where
@@ -157,10 +157,10 @@ nodes-behind conf w s most left before known e same anew h = go (left == 0) refl
     go true t =
         let none : left ≡ 0 = grind (arith, nat_tests, t) in
         let stood = half-stood conf w s (filter-all (stays conf w.states s (take (state_share conf) (state_round w))) w.states (omega (arith, none, e))) in
-        subst (λ (q : World × Known). AreNodesKnown conf q.0 most q.1) (λ i. (sym stood i, sym (same none) i)) h
+        subst (λ (q : World × KnownStay). AreNodesKnown conf q.0 most q.1) (λ i. (sym stood i, sym (same none) i)) h
     go false t = anew (grind (arith, nat_tests, t))
 
-pub second-known : (conf k : Conf) (w between after : World) (s next : ℕ) (at : Passage) (states nodes : Told) (known ks kn : Known) (p : Purged) → k ≡ conf
+pub second-known : (conf k : Conf) (w between after : World) (s next : ℕ) (at : Passage) (states nodes : SliceTold) (known ks kn : KnownStay) (p : Purged) → k ≡ conf
     → between ≡ state_slice conf w s → states.slice ≡ state_slice_of conf w s → SliceStays conf w states.until between.states → (states.over ≡ true → between.pending_states ≡ [])
     → after ≡ node_slice k between s → NodeSliceStays k between nodes.until after.nodes → (nodes.over ≡ true → after.pending_nodes ≡ [])
     → (states.slice.removed ≡ 0 → known ≡ at.nodes) → (0 < states.slice.removed → (most : ℕ) → AreNodesKnown k between most known)
@@ -173,7 +173,7 @@ second-known conf k w between after s next at states nodes known ks kn p ek eb e
     let kept = node_stays conf slice.states s (take (node_share conf) (node_round slice)) in
     let behind = nodes-behind conf w s at.purged.most_nodes states.slice.removed at.nodes known (ap (λ (x : Slice). x.removed) es) same
     (λ l. subst (λ (q : Conf × World). AreNodesKnown q.0 q.1 at.purged.most_nodes known) (λ i. (ek i, eb i)) (anew l at.purged.most_nodes)) h.nodes in
-    subst (λ (q : World × Purged × Known × Known). IsPassage conf q.0 (record { second = next; purged = q.1; states = q.2; nodes = q.3 }))
+    subst (λ (q : World × Purged × KnownStay × KnownStay). IsPassage conf q.0 (record { second = next; purged = q.1; states = q.2; nodes = q.3 }))
     (λ i. (sym is i, sym ep i, sym eks i, sym ekn i)) (record {
       states = known-after number_of_state (StateStays conf w.states) (StateStays conf slice.states) (λ u v x l t. stays-longer conf stayed w.states v x (omega (arith, l, t))) (λ x. omega arith)
           (state_share conf) stayed w.states w.pending_states slice.pending_states at.purged.most_states states.until states.over at.states refl

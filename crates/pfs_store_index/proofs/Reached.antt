@@ -6,12 +6,12 @@ use Rattle.std.proofs.lemmas.Bool.Decides.{nat_tests}
 use Rattle.pfs_addr_values.specs.Packets.{PacketView}
 use Rattle.pfs_store_contract.specs.Purging.{state_numbers}
 use Rattle.pfs_store_contract.specs.Touching.{state_after_packet}
-use Rattle.pfs_store_contract.specs.declared.records.Found.{Found}
+use Rattle.pfs_store_contract.specs.declared.records.StateHandle.{StateHandle}
 use Rattle.pfs_store_contract.specs.declared.records.State.{State}
 use Rattle.pfs_store_records.specs.Records.{IsRecordAt, IsRising, Placed, is_placed, placed_at, stands_at, states_of}
-use Rattle.pfs_store_index.specs.declared.indexes.Entry.{Entry}
+use Rattle.pfs_store_index.specs.declared.indexes.IndexEntry.{IndexEntry}
 use Rattle.pfs_store_index.specs.Holdings.{is_reached}
-use Rattle.pfs_store_index.specs.Ties.{entry_of}
+use Rattle.pfs_store_index.specs.IndexInvariants.{entry_of}
 use Rattle.pfs_store_index.proofs.Leavings.{record_number, state_number}
 use Rattle.pfs_store_index.proofs.Meetings.{renewed_record}
 use Rattle.pfs_store_index.proofs.Stands.{rising-records}
@@ -29,7 +29,7 @@ same_self n = grind (arith, nat_tests)
 
 -- ---- from an index by key
 
-pub entry-reached : (test : Placed → Bool) (e : Entry) (rs : List Placed) → Some e ≡ option_map entry_of (find test rs) → list_any (is_placed e.number e.place) rs ≡ true
+pub entry-reached : (test : Placed → Bool) (e : IndexEntry) (rs : List Placed) → Some e ≡ option_map entry_of (find test rs) → list_any (is_placed e.number e.place) rs ≡ true
 entry-reached test e rs h = go (find test rs) refl
   where
     go : (o : Option Placed) → find test rs ≡ o → list_any (is_placed e.number e.place) rs ≡ true
@@ -39,7 +39,7 @@ entry-reached test e rs h = go (find test rs) refl
         let q : e ≡ entry_of p = cc in
         any-also test (is_placed e.number e.place) p rs f
         (and_from (p.state.number == e.number) (p.place == e.place)
-        (ap (λ (x : Entry). p.state.number == x.number) q ∙ same_self p.state.number) (ap (λ (x : Entry). p.place == x.place) q ∙ same_self p.place))
+        (ap (λ (x : IndexEntry). p.state.number == x.number) q ∙ same_self p.state.number) (ap (λ (x : IndexEntry). p.place == x.place) q ∙ same_self p.place))
 
 -- ---- to the record
 
@@ -67,7 +67,7 @@ at-place n at (x ∷ xs) r a = on (at-place n at xs (rest-rising record_number x
         record { record_of = i.record_of; found = rw t i.found; place = i.place }
 
 -- the state at its place is that of its number
-pub state-at : (f : Found) (s : State) (rs : List Placed) → IsRising (state_numbers (states_of rs)) → is_reached rs f ≡ true → IsRecordAt f.place s rs
+pub state-at : (f : StateHandle) (s : State) (rs : List Placed) → IsRising (state_numbers (states_of rs)) → is_reached rs f ≡ true → IsRecordAt f.place s rs
     → find (has_number state_number f.number.0) (states_of rs) ≡ Some s
 state-at f s rs r a at =
     let i = at-place f.number.0 f.place rs (rising-records rs r) a in
@@ -89,12 +89,12 @@ placed-stands n at (x ∷ xs) a = on (placed-stands n at xs) (x.place == at) ref
         let a' = (rw t at a) in
         rw t (more (sym (or_false (x.state.number == n) (list_any (is_placed n at) xs)) ∙ a'))
 
-pub reached-stands : (f : Found) (rs : List Placed) → is_reached rs f ≡ true → list_any (stands_at f.place) rs ≡ true
+pub reached-stands : (f : StateHandle) (rs : List Placed) → is_reached rs f ≡ true → list_any (stands_at f.place) rs ≡ true
 reached-stands f rs a = placed-stands f.number.0 f.place rs a
 
 -- ---- a packet leaves it there
 
-pub reached-renewed : (n : ℕ) (p : PacketView) (now : ℕ) (f : Found) (rs : List Placed) → is_reached rs f ≡ true → is_reached (map (renewed_record n p now) rs) f ≡ true
+pub reached-renewed : (n : ℕ) (p : PacketView) (now : ℕ) (f : StateHandle) (rs : List Placed) → is_reached rs f ≡ true → is_reached (map (renewed_record n p now) rs) f ≡ true
 reached-renewed n p now f rs a = any-map (is_placed f.number.0 f.place) (renewed_record n p now) same rs ∙ a
   where
     same : (r : Placed) → is_placed f.number.0 f.place (renewed_record n p now r) ≡ is_placed f.number.0 f.place r

@@ -10,19 +10,19 @@ use Rattle.pfs_track.proofs.DoneLaws.{done-after, done-once}
 use Rattle.pfs_track.specs.StatePhases.{completes, is_done}
 use Rattle.pfs_track.specs.declared.scores.Score.{Score}
 use Rattle.pfs_track.specs.declared.state_phases.StatePhase.{StatePhase}
-use Rattle.pfs_store_contract.specs.declared.records.Found.{Found}
+use Rattle.pfs_store_contract.specs.declared.records.StateHandle.{StateHandle}
 use Rattle.pfs_store_contract.specs.Counts.{is_node, node_connections}
 use Rattle.pfs_store_contract.specs.Purging.{state_numbers}
 use Rattle.pfs_store_contract.specs.Touching.{connections_in, goes_forward, score_in, state_after_packet}
 use Rattle.pfs_store_contract.specs.declared.records.Node.{Node}
 use Rattle.pfs_store_contract.specs.declared.records.NodeScope.{NodeScope}
 use Rattle.pfs_store_contract.specs.declared.records.State.{State}
-use Rattle.pfs_store_records.specs.Aside.{IsKeptAt, rekeyed}
+use Rattle.pfs_store_records.specs.ApartKeys.{IsKeptAt, rekeyed}
 use Rattle.pfs_store_records.specs.Records.{IsRising, Placed, is_placed, placed_at, renewed, renewed_at, states_of}
 use Rattle.pfs_store_records.specs.Tallies.{is_tally, nodes_of}
-use Rattle.pfs_store_records.specs.declared.nodes.Tally.{Tally}
+use Rattle.pfs_store_records.specs.declared.nodes.NodeTally.{NodeTally}
 use Rattle.pfs_store_index.specs.Holdings.{is_reached}
-use Rattle.pfs_store_index.specs.Ties.{IsCounted}
+use Rattle.pfs_store_index.specs.IndexInvariants.{IsCounted}
 use Rattle.pfs_store_records.specs.Changes.{connections_at, score_at}
 use Rattle.pfs_store_index.proofs.Leavings.{record_number, state_number}
 use Rattle.pfs_store_index.proofs.Meetings.{CountsDone, renew-apart, renewed_record}
@@ -63,7 +63,7 @@ pub record IsKeptAs (n : ℕ) (kept : State) (rs : List Placed) : Type 0 where
   pub same : rekeyed kept state ≡ kept
   pub number : state.number ≡ n
 
-pub kept-as : (f : Found) (kept : State) (rs : List Placed) → IsRising (state_numbers (states_of rs)) → is_reached rs f ≡ true → IsKeptAt f.place kept rs → IsKeptAs f.number.0 kept rs
+pub kept-as : (f : StateHandle) (kept : State) (rs : List Placed) → IsRising (state_numbers (states_of rs)) → is_reached rs f ≡ true → IsKeptAt f.place kept rs → IsKeptAs f.number.0 kept rs
 kept-as f kept rs r a is =
     let i = at-place f.number.0 f.place rs (rising-records rs r) a in
     record {
@@ -139,12 +139,12 @@ counts-done s p =
 
 -- ---- what is reported of the node
 
-pub told-connections : (conf : Conf) (o : Option NodeScope) (a : Addr) (xs : List State) (ts : List Tally) → AllByRecursion (IsCounted conf xs) ts
+pub told-connections : (conf : Conf) (o : Option NodeScope) (a : Addr) (xs : List State) (ts : List NodeTally) → AllByRecursion (IsCounted conf xs) ts
     → ((sc : NodeScope) → o ≡ Some sc → list_any (is_tally sc a) ts ≡ true) → connections_at o a ts ≡ connections_in conf a xs o
 told-connections conf None a xs ts h has = refl
 told-connections conf (Some sc) a xs ts h has = go (find (is_tally sc a) ts) refl
   where
-    go : (o : Option Tally) → find (is_tally sc a) ts ≡ o → connections_at (Some sc) a ts ≡ node_connections conf sc a xs
+    go : (o : Option NodeTally) → find (is_tally sc a) ts ≡ o → connections_at (Some sc) a ts ≡ node_connections conf sc a xs
     go None f =
         let z : false ≡ true = ap is_some (sym f) ∙ any-found (is_tally sc a) ts ∙ has sc refl in
         absurd (cc z)
@@ -153,14 +153,14 @@ told-connections conf (Some sc) a xs ts h has = go (find (is_tally sc a) ts) ref
         let i = found-passes (is_tally sc a) t ts f in
         let p = scope_is sc a t i in
         let q = source_is sc a t i in
-        ap (λ (o : Option Tally). unwrap_or (option_map (λ (t : Tally). t.connections) o) 0) f ∙ ap (λ (u : Tally). u.connections) c ∙ (λ j. node_connections conf (p j) (q j) xs)
+        ap (λ (o : Option NodeTally). unwrap_or (option_map (λ (t : NodeTally). t.connections) o) 0) f ∙ ap (λ (u : NodeTally). u.connections) c ∙ (λ j. node_connections conf (p j) (q j) xs)
 
-pub told-score : (o : Option NodeScope) (a : Addr) (ts : List Tally) → score_at o a ts ≡ score_in a (nodes_of ts) o
+pub told-score : (o : Option NodeScope) (a : Addr) (ts : List NodeTally) → score_at o a ts ≡ score_in a (nodes_of ts) o
 told-score None a ts = refl
 told-score (Some sc) a ts =
     ap (λ (o : Option Score). unwrap_or o zero_score)
-    (parts (find (is_tally sc a) ts) ∙ ap (option_map (λ (n : Node). n.score)) (sym (find-part (λ (t : Tally). t.node) (is_node sc a) ts)))
+    (parts (find (is_tally sc a) ts) ∙ ap (option_map (λ (n : Node). n.score)) (sym (find-part (λ (t : NodeTally). t.node) (is_node sc a) ts)))
   where
-    parts : (o : Option Tally) → option_map (λ (t : Tally). t.node.score) o ≡ option_map (λ (n : Node). n.score) (option_map (λ (t : Tally). t.node) o)
+    parts : (o : Option NodeTally) → option_map (λ (t : NodeTally). t.node.score) o ≡ option_map (λ (n : Node). n.score) (option_map (λ (t : NodeTally). t.node) o)
     parts None = refl
     parts (Some t) = refl

@@ -131,12 +131,12 @@ slice_none [] h = refl
 slice_none (z ∷ zs) h = absurd cc
 
 -- what is known of the number that is next at a place
-pub record IsNext (i n : ℕ) (ws zs : List ℕ) : Type 0 where
+pub record IsNextNumber (i n : ℕ) (ws zs : List ℕ) : Type 0 where
   pub within : i < length ws
   pub taken : take (i + 1) ws ≡ take i ws ++ n ∷ []
   pub first : zs ≡ n ∷ drop (i + 1) ws
 
-pub at_next : (i n : ℕ) (ws zs : List ℕ) → zs ≡ drop i ws → slice_get zs 0 ≡ Some n → IsNext i n ws zs
+pub at_next : (i n : ℕ) (ws zs : List ℕ) → zs ≡ drop i ws → slice_get zs 0 ≡ Some n → IsNextNumber i n ws zs
 at_next i n ws zs e h =
     let f = slice_first zs n h in
     let w : i < length ws = omega (arith, ap length (sym e ∙ f), length-drop i ws) in

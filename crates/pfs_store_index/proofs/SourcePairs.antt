@@ -30,7 +30,7 @@ use Rattle.pfs_store_contract.specs.Leaving.{is_beside}
 use Rattle.pfs_store_index.specs.Filed.{HasPair, LosesPair, SamePairs, filed_under, is_pair, pair_of, pairs_on, pair_cmp, source_cmp, ordered_source}
 use Rattle.pfs_store_index.specs.contracts.sources.SourceOrd.TheImpl.Laws.{matches_eq-law, total-law}
 use Rattle.pfs_store_index.specs.contracts.sources.SourcePartialEq.TheImpl as source_eq
-use Rattle.pfs_store_index.specs.declared.filing.Filing.{Filing}
+use Rattle.pfs_store_index.specs.declared.flush_index.FlushIndex.{FlushIndex}
 use Rattle.pfs_store_index.specs.declared.sources.Source.{Source}
 use Rattle.pfs_store_index.specs.declared.sources.Source.TheVariants.{V4 as Source-V4, V6 as Source-V6}
 use Rattle.pfs_store_index.proofs.Leavings.{state_number}
@@ -162,7 +162,7 @@ pub set-undone : (p : Source × ℕ) (old mid new : BTreeSet (Source × ℕ)) �
 set-undone p old mid new z h k q =
     k q ∙ pair-undone p q (tree.contains pair_cmp old p) (tree.contains pair_cmp mid q) (tree.contains pair_cmp old q) z (h q) (λ i. ap (tree.contains pair_cmp old) (sym (pair_found p q i)))
 
-pub filed-undone : (x : Profile) (d : Dir) (s : State) (old mid new : Filing) → tree.contains pair_cmp (pairs_on x d old) (pair_of x d s) ≡ false
+pub filed-undone : (x : Profile) (d : Dir) (s : State) (old mid new : FlushIndex) → tree.contains pair_cmp (pairs_on x d old) (pair_of x d s) ≡ false
     → HasPair (pair_of x d s) (pairs_on x d old) (pairs_on x d mid) → LosesPair (pair_of x d s) (pairs_on x d mid) (pairs_on x d new) → SamePairs (pairs_on x d old) (pairs_on x d new)
 filed-undone x d s old mid new z h k = set-undone (pair_of x d s) (pairs_on x d old) (pairs_on x d mid) (pairs_on x d new) z h k
 
@@ -341,6 +341,6 @@ beside-filed profile.Own d a = refl
 beside-filed profile.OpenBsd74 d a = refl
 
 -- the pairs of the set for a direction are those of the states that are filed
-pub set-pairs : (q own : Profile) (d : Dir) (f : Filing) (pairs : BTreeSet (Source × ℕ)) (xs : List State) → pairs ≡ pairs_on q d f → q ≡ own
+pub set-pairs : (q own : Profile) (d : Dir) (f : FlushIndex) (pairs : BTreeSet (Source × ℕ)) (xs : List State) → pairs ≡ pairs_on q d f → q ≡ own
     → ArePairs (filed_under own d) (pairs_on own d f) xs → ArePairs (filed_under own d) pairs xs
 set-pairs q own d f pairs xs e k h = subst (λ (ps : BTreeSet (Source × ℕ)). ArePairs (filed_under own d) ps xs) (sym (e ∙ ap (λ x. pairs_on x d f) k)) h

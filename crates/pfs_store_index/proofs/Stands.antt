@@ -11,8 +11,8 @@ use Rattle.pfs_store_contract.specs.Calls.{other_than, state_number, state_rule}
 use Rattle.pfs_store_contract.specs.Purging.{state_numbers}
 use Rattle.pfs_store_contract.specs.declared.records.State.{State}
 use Rattle.pfs_store_records.specs.Records.{IsAbove, IsRising, Placed, leaves_number, states_of}
-use Rattle.pfs_store_index.specs.declared.indexes.Entry.{Entry}
-use Rattle.pfs_store_index.specs.Ties.{entry_of}
+use Rattle.pfs_store_index.specs.declared.indexes.IndexEntry.{IndexEntry}
+use Rattle.pfs_store_index.specs.IndexInvariants.{entry_of}
 use Rattle.pfs_store_index.proofs.Leavings.{record_number}
 use Rattle.pfs_store_records.proofs.Searches.{find-part}
 use Rattle.pfs_store_records.proofs.Rising.{IsRisingBy}
@@ -37,19 +37,19 @@ none-found test rs f = go (find (λ (p : Placed). test p.state) rs) refl
         absurd (cc z)
 
 -- what an index by key gives for the state that passes a test
-pub number-at : (test : State → Bool) (rs : List Placed) (g : Option Entry) → g ≡ option_map entry_of (find (λ (p : Placed). test p.state) rs)
-    → option_map (λ (e : Entry). record { 0 = e.number }) g ≡ option_map state_number (find test (states_of rs))
-number-at test rs g e = ap (option_map (λ (e : Entry). record { 0 = e.number })) e ∙ go (find (λ (p : Placed). test p.state) rs) ∙ ap (option_map state_number) (sym (find-part (λ (p : Placed). p.state) test rs))
+pub number-at : (test : State → Bool) (rs : List Placed) (g : Option IndexEntry) → g ≡ option_map entry_of (find (λ (p : Placed). test p.state) rs)
+    → option_map (λ (e : IndexEntry). record { 0 = e.number }) g ≡ option_map state_number (find test (states_of rs))
+number-at test rs g e = ap (option_map (λ (e : IndexEntry). record { 0 = e.number })) e ∙ go (find (λ (p : Placed). test p.state) rs) ∙ ap (option_map state_number) (sym (find-part (λ (p : Placed). p.state) test rs))
   where
-    go : (o : Option Placed) → option_map (λ (e : Entry). record { 0 = e.number }) (option_map entry_of o) ≡ option_map state_number (option_map (λ (p : Placed). p.state) o)
+    go : (o : Option Placed) → option_map (λ (e : IndexEntry). record { 0 = e.number }) (option_map entry_of o) ≡ option_map state_number (option_map (λ (p : Placed). p.state) o)
     go None = refl
     go (Some p) = refl
 
-pub rule-at : (test : State → Bool) (rs : List Placed) (g : Option Entry) → g ≡ option_map entry_of (find (λ (p : Placed). test p.state) rs)
-    → option_map (λ (e : Entry). e.rule) g ≡ option_map state_rule (find test (states_of rs))
-rule-at test rs g e = ap (option_map (λ (e : Entry). e.rule)) e ∙ go (find (λ (p : Placed). test p.state) rs) ∙ ap (option_map state_rule) (sym (find-part (λ (p : Placed). p.state) test rs))
+pub rule-at : (test : State → Bool) (rs : List Placed) (g : Option IndexEntry) → g ≡ option_map entry_of (find (λ (p : Placed). test p.state) rs)
+    → option_map (λ (e : IndexEntry). e.rule) g ≡ option_map state_rule (find test (states_of rs))
+rule-at test rs g e = ap (option_map (λ (e : IndexEntry). e.rule)) e ∙ go (find (λ (p : Placed). test p.state) rs) ∙ ap (option_map state_rule) (sym (find-part (λ (p : Placed). p.state) test rs))
   where
-    go : (o : Option Placed) → option_map (λ (e : Entry). e.rule) (option_map entry_of o) ≡ option_map state_rule (option_map (λ (p : Placed). p.state) o)
+    go : (o : Option Placed) → option_map (λ (e : IndexEntry). e.rule) (option_map entry_of o) ≡ option_map state_rule (option_map (λ (p : Placed). p.state) o)
     go None = refl
     go (Some p) = refl
 

@@ -30,7 +30,7 @@ use Rattle.pfs_store_contract.specs.declared.records.State.{State}
 use Rattle.pfs_store_records.specs.Records.{IsAbove, between}
 use Rattle.pfs_store_index.specs.Holdings.{Holding}
 use Rattle.pfs_store_index.specs.Rounds.{waiting}
-use Rattle.pfs_store_index.specs.Quiet.{StateStays}
+use Rattle.pfs_store_index.specs.QuietPurges.{StateStays}
 use Rattle.pfs_store_index.specs.Staying.{StatesHold}
 use Rattle.pfs_store_index.specs.Stored.{due_at, AreUnread, IsNumbered, IsStored, has_pair, is_due, world_of}
 use Rattle.pfs_store_index.proofs.Turning.{all-numbers, in_range}

@@ -7,7 +7,7 @@ use Rattle.std.specs.BTreeMap.Range.{entries_between}
 use Rattle.std.specs.declared.ops.Bound.TheVariants.{Included, Excluded}
 use Rattle.std.proofs.lemmas.Bool.Decides.{nat_tests}
 use Rattle.pfs_store_contract.specs.Purging.{round}
-use Rattle.pfs_store_index.specs.Quiet.{round_after_slices}
+use Rattle.pfs_store_index.specs.QuietPurges.{round_after_slices}
 use Rattle.pfs_store_index.proofs.Turns.{drop-all, rounds-over, whole-round}
 use Rattle.pfs_store_records.specs.Records.{IsRising, between}
 use Rattle.pfs_store_records.proofs.Walking.{Walking, drop-front, length-keys, map-both, span, span-entries, span-keys, split-span}

@@ -2,7 +2,7 @@
 use Rattle.std.proofs.Common.{◌≡◌, ◌≤◌, ◌<◌, ◌+◌, ◌-◌, ◌*◌, ◌/◌, ◌%◌, ℕ, zero, suc, List, [], ◌∷◌, length, drop, refl, ap, sym, ◌∙◌, arith, length-drop, div-add-mod', suc-mul, zero-mul}
 use Rattle.std.proofs.Math.Seq.{drop-nil}
 use Rattle.pfs_store_contract.specs.Purging.{round}
-use Rattle.pfs_store_index.specs.Quiet.{round_after_slices}
+use Rattle.pfs_store_index.specs.QuietPurges.{round_after_slices}
 
 pub drop-all : (n : ℕ) (xs : List ℕ) → length xs ≤ n → drop n xs ≡ []
 drop-all n [] h = drop-nil n

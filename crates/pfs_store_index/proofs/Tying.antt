@@ -26,11 +26,11 @@ use Rattle.pfs_store_contract.specs.declared.records.NodeScope.{NodeScope}
 use Rattle.pfs_store_contract.specs.declared.records.State.{State}
 use Rattle.pfs_store_records.specs.Records.{IsRising, Placed, leaves_number, placed_at, states_of}
 use Rattle.pfs_store_records.specs.Tallies.{is_tally}
-use Rattle.pfs_store_records.specs.declared.nodes.Tally.{Tally}
-use Rattle.pfs_store_index.specs.declared.indexes.Entry.{Entry}
-use Rattle.pfs_store_index.specs.declared.filing.Filing.{Filing}
+use Rattle.pfs_store_records.specs.declared.nodes.NodeTally.{NodeTally}
+use Rattle.pfs_store_index.specs.declared.indexes.IndexEntry.{IndexEntry}
+use Rattle.pfs_store_index.specs.declared.flush_index.FlushIndex.{FlushIndex}
 use Rattle.pfs_store_index.specs.Filed.{HasFiled, LosesFiled, SameFiled, filed_under, is_pair, ordered_source, pair_cmp, pairs_on}
-use Rattle.pfs_store_index.specs.Ties.{HasRule, IsCounted, IsTied, entry_of, has_key, has_apart, has_inside, inner_in, is_inner, key_in, left_at}
+use Rattle.pfs_store_index.specs.IndexInvariants.{HasRule, IsCounted, IsTied, entry_of, has_key, has_apart, has_inside, inner_in, is_inner, key_in, left_at}
 use Rattle.pfs_store_records.specs.Changes.{HasTally, IsScope, IsScored, IsScoped, at_node, tallies_with_state, left_of, met_by}
 use Rattle.pfs_store_index.proofs.Comings.{any-more, counted-came, distinct-came, entry-came, noded-came, none-alike, pair-came, rule-came, ruled-came, scoped-came, scored-came, stateless-counted}
 use Rattle.pfs_store_index.proofs.Leavings.{counted-left, entry-left, noded-left, pair-left, record_number, rule-left, ruled-set, scored-left, state_number}
@@ -75,12 +75,12 @@ none-inside k (x ∷ xs) g = go (none-inside k xs) (has_inside k x) refl
 none-apart : (k : FlowKey) (s : Placed) (rs : List Placed) → find (has_inside (inner_in s)) rs ≡ None → has_apart k s ≡ true → find (has_apart k) rs ≡ None
 none-apart k s rs f h = none-inside k rs (ap (λ j. find (has_inside j) rs) (sym (apart-tells k s h)) ∙ f)
 
-module _ {S : Type 0} (conf : Conf) (rs : List Placed) (keys insides : HashMap FlowKey Entry S) (counts : List ℕ) (ts : List Tally) (filing : Filing) where
+module _ {S : Type 0} (conf : Conf) (rs : List Placed) (keys insides : HashMap FlowKey IndexEntry S) (counts : List ℕ) (ts : List NodeTally) (filing : FlushIndex) where
   -- the rule of a state that is held has a count
   pub rule-within : (s : State) → IsTied conf rs keys insides counts ts filing → find (has_number state_number s.number) (states_of rs) ≡ Some s → s.rule.0 < length counts
   rule-within s i f = all-found state_number (HasRule (length counts)) s.number s (states_of rs) i.ruled f
 
-  pub tied-left : (keys' insides' : HashMap FlowKey Entry S) (filing' : Filing) (s : State) (now v : ℕ) → ((d : Dir) → IsAddr (filed_under conf.profile d s)) → IsTied conf rs keys insides counts ts filing → IsRising (state_numbers (states_of rs))
+  pub tied-left : (keys' insides' : HashMap FlowKey IndexEntry S) (filing' : FlushIndex) (s : State) (now v : ℕ) → ((d : Dir) → IsAddr (filed_under conf.profile d s)) → IsTied conf rs keys insides counts ts filing → IsRising (state_numbers (states_of rs))
       → find (has_number state_number s.number) (states_of rs) ≡ Some s → v ≡ slice_index counts s.rule.0
       → ((k : FlowKey) → hash.get same_key keys' k ≡ cond (same_key s.key k) None (hash.get same_key keys k))
       → ((k : FlowKey) → hash.get same_key insides' k ≡ cond (is_inner k s.inner) None (hash.get same_key insides k))
@@ -118,7 +118,7 @@ module _ {S : Type 0} (conf : Conf) (rs : List Placed) (keys insides : HashMap F
             ∙ ap (list_any (is_pair (filed_under conf.profile d) a n)) (sym at);
       }
 
-  pub tied-came : (keys' insides' : HashMap FlowKey Entry S) (filing' : Filing) (s : State) (place v : ℕ) (o : Option NodeScope) → ((d : Dir) → IsAddr (filed_under conf.profile d s)) → IsTied conf rs keys insides counts ts filing
+  pub tied-came : (keys' insides' : HashMap FlowKey IndexEntry S) (filing' : FlushIndex) (s : State) (place v : ℕ) (o : Option NodeScope) → ((d : Dir) → IsAddr (filed_under conf.profile d s)) → IsTied conf rs keys insides counts ts filing
       → find (has_key s.key) rs ≡ None → find (has_inside (inner_key s)) rs ≡ None → s.rule.0 < length counts → v ≡ slice_index counts s.rule.0 → is_done s.phase ≡ false → node_scope_of conf s.rule.0 ≡ o
       → ((k : FlowKey) → hash.get same_key keys' k ≡ cond (same_key s.key k) (Some (entry_of (placed_at place s))) (hash.get same_key keys k))
       → ((k : FlowKey) → hash.get same_key insides' k ≡ cond (is_inner k s.inner) (Some (entry_of (placed_at place s))) (hash.get same_key insides k))
@@ -175,7 +175,7 @@ module _ {S : Type 0} (conf : Conf) (rs : List Placed) (keys insides : HashMap F
       }
 
   -- a node comes without a state
-  pub tied-left_node : (t : Tally) (number : ℕ) (sc : NodeScope) (a : Addr) (now : ℕ) → t ≡ record { node = new_node number sc a now; states = 0; connections = 0 } → IsScope conf sc
+  pub tied-left_node : (t : NodeTally) (number : ℕ) (sc : NodeScope) (a : Addr) (now : ℕ) → t ≡ record { node = new_node number sc a now; states = 0; connections = 0 } → IsScope conf sc
       → list_any (is_tally sc a) ts ≡ false → IsTied conf rs keys insides counts ts filing → IsTied conf rs keys insides counts (ts ++ t ∷ []) filing
   tied-left_node t number sc a now e k f i = rw e (record {
     by_key = i.by_key;
@@ -194,7 +194,7 @@ module _ {S : Type 0} (conf : Conf) (rs : List Placed) (keys insides : HashMap F
   })
 
   -- the same where the indexes find the same
-  pub tied-same : (keys' insides' : HashMap FlowKey Entry S) (filing' : Filing) → IsTied conf rs keys insides counts ts filing
+  pub tied-same : (keys' insides' : HashMap FlowKey IndexEntry S) (filing' : FlushIndex) → IsTied conf rs keys insides counts ts filing
       → ((k : FlowKey) → hash.get same_key keys' k ≡ hash.get same_key keys k) → ((k : FlowKey) → hash.get same_key insides' k ≡ hash.get same_key insides k) → SameFiled conf.profile filing filing' → IsTied conf rs keys' insides' counts ts filing'
   tied-same keys' insides' filing' i hk hi hp = record {
     by_key = λ k. hk k ∙ i.by_key k;

@@ -4,7 +4,7 @@ use Rattle.std.specs.List.{AllByRecursion}
 use Rattle.pfs_store_contract.specs.Calls.{other_than}
 use Rattle.pfs_conf_values.specs.Configs.{Conf}
 use Rattle.pfs_store_contract.specs.Purging.{is_among, node_numbers, state_numbers}
-use Rattle.pfs_store_index.specs.Quiet.{NodeStays}
+use Rattle.pfs_store_index.specs.QuietPurges.{NodeStays}
 use Rattle.pfs_store_contract.specs.declared.records.Node.{Node}
 use Rattle.pfs_store_contract.specs.declared.records.State.{State}
 use Rattle.pfs_store_records.specs.Records.{between}

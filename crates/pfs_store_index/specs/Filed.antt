@@ -16,7 +16,7 @@ use Rattle.pfs_conf_values.specs.declared.profiles.Profile.TheVariants as profil
 use Rattle.pfs_store_contract.specs.Leaving.{end_on}
 use Rattle.pfs_store_contract.specs.declared.records.State.{State}
 use Rattle.pfs_store_index.specs.contracts.sources.SourceOrd.TheImpl as source_ord
-use Rattle.pfs_store_index.specs.declared.filing.Filing.{Filing}
+use Rattle.pfs_store_index.specs.declared.flush_index.FlushIndex.{FlushIndex}
 use Rattle.pfs_store_index.specs.declared.sources.Source.{Source}
 use Rattle.pfs_store_index.specs.declared.sources.Source.TheVariants.{V4 as Source-V4, V6 as Source-V6}
 
@@ -52,7 +52,7 @@ filed_under profile.Own dir s = s.source
 filed_under profile.OpenBsd74 dir s = (end_on dir s.key).addr
 
 -- the set for those flushes
-abbrev pub pairs_on : Profile → Dir → Filing → BTreeSet (Source × ℕ)
+abbrev pub pairs_on : Profile → Dir → FlushIndex → BTreeSet (Source × ℕ)
 pairs_on profile.Own dir f = f.first
 pairs_on profile.OpenBsd74 dir.In f = f.first
 pairs_on profile.OpenBsd74 dir.Out f = f.second
@@ -66,15 +66,15 @@ abbrev pub pair_of : Profile → Dir → State → Source × ℕ
 pair_of profile dir s = (ordered_source (filed_under profile dir s), s.number)
 
 -- no state is filed
-abbrev pub AreEmpty : Filing → Type 0
+abbrev pub AreEmpty : FlushIndex → Type 0
 AreEmpty f = (profile : Profile) (dir : Dir) (q : Source × ℕ) → tree.contains pair_cmp (pairs_on profile dir f) q ≡ false
 
 -- a state more is filed, or one less, or the same ones
-abbrev pub HasFiled : Profile → State → Filing → Filing → Type 0
+abbrev pub HasFiled : Profile → State → FlushIndex → FlushIndex → Type 0
 HasFiled profile s old new = (dir : Dir) → HasPair (pair_of profile dir s) (pairs_on profile dir old) (pairs_on profile dir new)
 
-abbrev pub LosesFiled : Profile → State → Filing → Filing → Type 0
+abbrev pub LosesFiled : Profile → State → FlushIndex → FlushIndex → Type 0
 LosesFiled profile s old new = (dir : Dir) → LosesPair (pair_of profile dir s) (pairs_on profile dir old) (pairs_on profile dir new)
 
-abbrev pub SameFiled : Profile → Filing → Filing → Type 0
+abbrev pub SameFiled : Profile → FlushIndex → FlushIndex → Type 0
 SameFiled profile old new = (dir : Dir) → SamePairs (pairs_on profile dir old) (pairs_on profile dir new)

@@ -4,7 +4,7 @@ use Rattle.std.specs.List.{list_any}
 use Rattle.pfs_conf_values.specs.Configs.{Conf}
 use Rattle.pfs_track.specs.StatePhases.{is_done}
 use Rattle.pfs_store_contract.specs.Worlds.{World}
-use Rattle.pfs_store_contract.specs.declared.records.Found.{Found}
+use Rattle.pfs_store_contract.specs.declared.records.StateHandle.{StateHandle}
 use Rattle.pfs_store_contract.specs.declared.records.Node.{Node}
 use Rattle.pfs_store_contract.specs.declared.records.State.{State}
 use Rattle.pfs_store_records.specs.Records.{Placed, is_placed}
@@ -23,7 +23,7 @@ pub record Indexed : Type 0 where
   pub records : List Placed
 
 -- the record of the state that was found is where it was
-abbrev pub is_reached : List Placed → Found → Bool
+abbrev pub is_reached : List Placed → StateHandle → Bool
 is_reached records found = list_any (is_placed found.number.0 found.place) records
 
 -- the handshake of a state has not completed

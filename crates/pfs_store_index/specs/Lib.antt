@@ -1,7 +1,7 @@
 pub mod Filed
 pub mod Holdings
-pub mod Quiet
+pub mod IndexInvariants
+pub mod QuietPurges
 pub mod Rounds
 pub mod Staying
 pub mod Stored
-pub mod Ties

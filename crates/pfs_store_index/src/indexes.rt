@@ -13,10 +13,10 @@ ghost use Rattle.pfs_store_contract.specs.Leaving.{is_beside, node_after_leaving
 ghost use Rattle.pfs_store_contract.specs.Calls.{onward_key, other_than, told_at, touch_of, state_number, state_rule};
 ghost use Rattle.pfs_store_contract.specs.Plain.{AreCounts};
 ghost use Rattle.pfs_store_contract.specs.Purging.{is_over, node_numbers, state_numbers};
-ghost use Rattle.pfs_store_index.specs.Quiet.{NodeStays};
+ghost use Rattle.pfs_store_index.specs.QuietPurges.{NodeStays};
 ghost use Rattle.pfs_store_contract.specs.Touching.{completes_at, nodes_touched, numbered_state_after};
 ghost use Rattle.pfs_store_contract.specs.Worlds.{IsUpToNow, holds_number, inner_key, lists, state_inside, state_with};
-ghost use Rattle.pfs_store_records.specs.Aside.{rekeyed};
+ghost use Rattle.pfs_store_records.specs.ApartKeys.{rekeyed};
 ghost use Rattle.pfs_store_records.specs.Changes.{IsScope};
 ghost use Rattle.pfs_store_records.specs.Records.{IsAbove, IsRising, between, placed_at, states_of};
 ghost use Rattle.pfs_store_records.specs.Sourced.{IsSourced};
@@ -24,10 +24,10 @@ ghost use Rattle.pfs_store_records.specs.Tallies.{nodes_of};
 ghost use Rattle.pfs_store_records.specs.Walks.{IsPassing, StopsWalkAt, looks_of};
 ghost use Rattle.pfs_store_index.specs.Holdings.{IsUncompleted, is_reached};
 ghost use Rattle.pfs_store_index.specs.Rounds.{waiting_of, waiting};
-ghost use Rattle.pfs_store_index.specs.Ties.{HasRule, entry_of, found_of, has_inside};
+ghost use Rattle.pfs_store_index.specs.IndexInvariants.{HasRule, entry_of, found_of, has_inside};
 
-use crate::filing::Filing;
-use crate::insides;
+use crate::flush_index::FlushIndex;
+use crate::inner_keys;
 use crate::placing::place;
 use crate::rounds::next_between;
 use crate::sources::Source;
@@ -35,8 +35,10 @@ use crate::stepping::stepped;
 use indexmap::IndexMap;
 use pfs_addr_values::{Addr, Dir, FlowKey, Meter, NoMemory, Packet};
 use pfs_conf_values::{Config, Profile, RuleNo};
-use pfs_store_contract::{Found, Node, NodeScope, State, StateNo, Touched};
-use pfs_store_records::{Kept, Nodes, Passed, Records, Round, Sought, Tally, leave, meet};
+use pfs_store_contract::{Node, NodeScope, State, StateHandle, StateNo, Touched};
+use pfs_store_records::{
+    NodeTally, Nodes, PackedState, Passed, Records, Round, StateKey, leave, meet,
+};
 use pfs_store_rules::node_scope;
 use pfs_track::Score;
 use std::alloc::{AllocError, Global};
@@ -46,7 +48,7 @@ use std::ops::Bound;
 
 /// What the indexes by key have of a state: its number, its rule, and the place of its record. It takes 12 bytes.
 #[derive(Clone, Copy)]
-pub(crate) struct Entry {
+pub(crate) struct IndexEntry {
     pub(crate) number: u32,
     pub(crate) rule: RuleNo,
     pub(crate) place: u32,
@@ -58,18 +60,18 @@ pub(crate) struct Entry {
 pub(crate) struct Indexes<S: BuildHasher> {
     config: Config,
     records: Records,
-    keys: IndexMap<Sought, Entry, S>,
-    insides: IndexMap<Sought, Entry, S>,
+    keys: IndexMap<StateKey, IndexEntry, S>,
+    insides: IndexMap<StateKey, IndexEntry, S>,
     counts: Vec<u64>,
     nodes: Nodes<S>,
-    filing: Filing,
+    filing: FlushIndex,
 }
 
 impl<S: BuildHasher> Model for Indexes<S> {
     ghost use Rattle.pfs_store_records.specs.Records.{states_of};
     ghost use Rattle.pfs_store_records.specs.Tallies.{nodes_of};
     ghost use Rattle.pfs_store_index.specs.Holdings.{Holding};
-    ghost use Rattle.pfs_store_index.specs.Ties.{IsTied};
+    ghost use Rattle.pfs_store_index.specs.IndexInvariants.{IsTied};
 
     ghost Value = { Holding };
 
@@ -99,7 +101,7 @@ impl<S: BuildHasher> Indexes<S> {
             insides: IndexMap::with_hasher(alloc, by_inner),
             counts,
             nodes: Nodes::new(alloc, by_source),
-            filing: Filing::new(alloc),
+            filing: FlushIndex::new(alloc),
         })
     }
 
@@ -167,7 +169,7 @@ impl<S: BuildHasher> Indexes<S> {
     }
 
     /// The state that has a key on the wire: one search.
-    pub(crate) fn find(&self, key: &FlowKey) -> Option<Found>
+    pub(crate) fn find(&self, key: &FlowKey) -> Option<StateHandle>
         ensures number { option_map (λ f. f.number) result ≡ option_map state_number (state_with key.now (lists self.now.states [] [] [] 0)) }
         ensures rule { option_map (λ f. f.rule) result ≡ option_map state_rule (state_with key.now (lists self.now.states [] [] [] 0)) }
         ensures reached { IfSome result (λ f. is_reached self.now.records f ≡ true) }
@@ -179,7 +181,7 @@ impl<S: BuildHasher> Indexes<S> {
     }
 
     /// The state that has a key inside: one search where no state's keys are apart.
-    pub(crate) fn find_inside(&self, key: &FlowKey) -> Option<Found>
+    pub(crate) fn find_inside(&self, key: &FlowKey) -> Option<StateHandle>
         ensures number { option_map (λ f. f.number) result ≡ option_map state_number (state_inside key.now (lists self.now.states [] [] [] 0)) }
         ensures rule { option_map (λ f. f.rule) result ≡ option_map state_rule (state_inside key.now (lists self.now.states [] [] [] 0)) }
         ensures reached { IfSome result (λ f. is_reached self.now.records f ≡ true) }
@@ -194,7 +196,7 @@ impl<S: BuildHasher> Indexes<S> {
 
     /// What the indexes by key have of the state that has a key inside: of one whose keys are apart, or else of one that has the key
     /// on the wire too.
-    fn entry_inside(&self, key: &FlowKey) -> Option<Entry>
+    fn entry_inside(&self, key: &FlowKey) -> Option<IndexEntry>
         ensures { result ≡ option_map entry_of (find (has_inside key.now) self.now.records) }
     {
         self.records.numbers_rise();
@@ -278,7 +280,7 @@ impl<S: BuildHasher> Indexes<S> {
         }
     }
 
-    /// The least number of a state above one, and up to another.
+    /// The least number of a state that is more than `above`, and at most `most`; none where there is no such state.
     pub(crate) fn next_state(&self, above: u64, most: u64) -> Option<u64>
         requires { above ≤ most }
         ensures { result ≡ slice_get (waiting above most (state_numbers self.now.states)) 0 }
@@ -313,7 +315,7 @@ impl<S: BuildHasher> Indexes<S> {
     }
 
     /// The record of the state that was found, which has all of it but its keys: one look, and no search.
-    pub(crate) fn record(&self, found: Found, meter: &mut Meter) -> &Kept
+    pub(crate) fn record(&self, found: StateHandle, meter: &mut Meter) -> &PackedState
         requires reached { is_reached self.now.records found ≡ true }
         requires room { meter.old < 2 ^ 64 - 1 }
         ensures value { option_map (rekeyed result.now) (find (λ s. s.number == found.number.0) self.now.states) ≡ Some result.now }
@@ -324,7 +326,7 @@ impl<S: BuildHasher> Indexes<S> {
     }
 
     /// The record of the state that was found: one look, and no search.
-    pub(crate) fn read_found(&self, found: Found, meter: &mut Meter) -> State
+    pub(crate) fn read_found(&self, found: StateHandle, meter: &mut Meter) -> State
         requires reached { is_reached self.now.records found ≡ true }
         requires room { meter.old < 2 ^ 64 - 1 }
         ensures value { find (λ s. s.number == found.number.0) self.now.states ≡ Some result }
@@ -359,7 +361,7 @@ impl<S: BuildHasher> Indexes<S> {
         if self.keys.reserve(1).is_err() {
             return Err(NoMemory);
         }
-        insides::make_room(&mut self.insides, state)?;
+        inner_keys::make_room(&mut self.insides, state)?;
         let spot = place(
             &mut self.records,
             &mut self.filing,
@@ -369,9 +371,9 @@ impl<S: BuildHasher> Indexes<S> {
             profile,
         )?;
         self.counts[rule] += 1;
-        let key = Sought { key: state.key };
+        let key = StateKey { key: state.key };
         let entry = entry_of(state, spot);
-        insides::insert(&mut self.insides, state, entry);
+        inner_keys::insert(&mut self.insides, state, entry);
         match self.keys.insert(key, entry) {
             Ok(_) => Ok(()),
             Err(_) => unreachable!(),
@@ -395,7 +397,7 @@ impl<S: BuildHasher> Indexes<S> {
         ensures nodes { OnOk result (self.new.nodes ≡ self.old.nodes ++ new_node number scope source now ∷ []) }
         ensures err { OnErr result (self.new ≡ self.old) }
     {
-        self.nodes.push(Tally {
+        self.nodes.push(NodeTally {
             node: Node {
                 number,
                 scope,
@@ -412,7 +414,7 @@ impl<S: BuildHasher> Indexes<S> {
     /// completes, and where it is asked for.
     pub(crate) fn renew(
         &mut self,
-        found: Found,
+        found: StateHandle,
         packet: &Packet,
         asked: bool,
         now: u64,
@@ -471,8 +473,8 @@ impl<S: BuildHasher> Indexes<S> {
         self.records.numbers_rise();
         let rule = state.rule.0 as usize;
         let scope = node_scope(&self.config, state.rule);
-        self.keys.swap_remove(&Sought { key: state.key });
-        insides::remove(&mut self.insides, state);
+        self.keys.swap_remove(&StateKey { key: state.key });
+        inner_keys::remove(&mut self.insides, state);
         self.filing.remove(self.config.profile(), state);
         self.counts[rule] -= 1;
         leave(&self.config, &mut self.nodes, scope, state, now);
@@ -493,10 +495,10 @@ impl<S: BuildHasher> Indexes<S> {
 }
 
 /// What was found, by what an index by key has of it.
-fn found_of(entry: Entry) -> Found
+fn found_of(entry: IndexEntry) -> StateHandle
     ensures { result ≡ found_of entry }
 {
-    Found {
+    StateHandle {
         number: StateNo(u64::from(entry.number)),
         rule: entry.rule,
         place: entry.place,
@@ -505,18 +507,21 @@ fn found_of(entry: Entry) -> Found
 
 /// What an index by key has of a key.
 #[inline(always)]
-fn entry_at<S: BuildHasher>(keys: &IndexMap<Sought, Entry, S>, key: &FlowKey) -> Option<Entry>
+fn entry_at<S: BuildHasher>(
+    keys: &IndexMap<StateKey, IndexEntry, S>,
+    key: &FlowKey,
+) -> Option<IndexEntry>
     ensures { result ≡ get same_key keys.now key.now }
 {
-    keys.get(&Sought { key: *key }).copied()
+    keys.get(&StateKey { key: *key }).copied()
 }
 
 /// What the indexes by key have of a state whose record is at this place.
-fn entry_of(state: &State, place: u32) -> Entry
+fn entry_of(state: &State, place: u32) -> IndexEntry
     requires { state.now.number < 2 ^ 32 }
     ensures { result ≡ entry_of (placed_at place state.now) }
 {
-    Entry {
+    IndexEntry {
         number: state.number as u32,
         rule: state.rule,
         place,

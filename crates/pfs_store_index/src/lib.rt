@@ -3,10 +3,10 @@
 #![tactic(auto)]
 
 mod expiring;
-mod filing;
+mod flush_index;
 mod flushing;
 mod indexes;
-mod insides;
+mod inner_keys;
 mod killing;
 mod laws;
 mod limits;

@@ -12,7 +12,7 @@ ghost use Rattle.pfs_store_records.specs.Tallies.{nodes_of};
 ghost use Rattle.pfs_store_index.specs.Filed.{HasFiled, SameFiled, filed_under, ordered_source, pair_cmp, pairs_on};
 ghost use Rattle.pfs_store_records.specs.Changes.{IsFew, tallies_with_state};
 
-use crate::filing::Filing;
+use crate::flush_index::FlushIndex;
 use pfs_addr_values::NoMemory;
 use pfs_conf_values::Profile;
 use pfs_store_contract::{NodeScope, State};
@@ -23,7 +23,7 @@ use std::hash::BuildHasher;
 /// nothing is placed.
 pub(crate) fn place<S: BuildHasher>(
     records: &mut Records,
-    filing: &mut Filing,
+    filing: &mut FlushIndex,
     nodes: &mut Nodes<S>,
     state: &State,
     scope: Option<NodeScope>,

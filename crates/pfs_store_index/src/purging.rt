@@ -7,7 +7,7 @@ ghost use Rattle.pfs_conf_values.specs.declared.timeouts.TimeoutName.TheVariants
 ghost use Rattle.pfs_store_contract.specs.Leaving.{node_after_leaving};
 ghost use Rattle.pfs_store_contract.specs.Plain.{AreCounts};
 ghost use Rattle.pfs_store_contract.specs.Purging.{is_among, is_over, node_numbers, node_stays, share, state_numbers, stays};
-ghost use Rattle.pfs_store_index.specs.Quiet.{StateStays};
+ghost use Rattle.pfs_store_index.specs.QuietPurges.{StateStays};
 ghost use Rattle.pfs_store_records.specs.Walks.{IsWalk, StayUntil, looks_of};
 ghost use Rattle.pfs_store_index.specs.Staying.{NodesHold, StatesHold};
 ghost use Rattle.pfs_store_index.specs.Stored.{AreUnread, due_at, is_due};
@@ -15,11 +15,11 @@ ghost use Rattle.pfs_store_index.specs.Rounds.{IsExamined, nodes_survive, states
 
 use crate::expiring::Scaled;
 use crate::indexes::Indexes;
-use crate::passages::Told;
+use crate::passages::SliceTold;
 use pfs_addr_values::Meter;
 use pfs_conf_values::{Config, TimeoutName};
 use pfs_store_contract::Slice;
-use pfs_store_records::{Round, Walk};
+use pfs_store_records::{Round, RoundWalk};
 use std::hash::BuildHasher;
 
 /// What a walk did: the round after it, how many it examined, how many of them left, and up to when the others stay.
@@ -32,10 +32,10 @@ pub(crate) struct Steps {
 
 impl Steps {
     /// What is told of it.
-    pub(crate) fn told(&self, over: bool) -> Told
+    pub(crate) fn told(&self, over: bool) -> SliceTold
         ensures { result ≡ record { slice = self.now.slice; until = self.now.until; over = over } }
     {
-        Told {
+        SliceTold {
             slice: self.slice,
             until: self.until,
             over,
@@ -220,7 +220,7 @@ fn walk_to_due<S: BuildHasher>(
     held: u64,
     now: u64,
     meter: &mut Meter,
-) -> Walk
+) -> RoundWalk
     requires order { round.cursor ≤ round.mark }
     requires room { meter.old + share < 2 ^ 64 }
     ensures walk { IsWalk (is_due indexes.now.config counts.now held now) indexes.now.states round.cursor round.mark share result.stayed result.last result.leaver }

@@ -4,14 +4,14 @@ ghost use Rattle.std.specs.Prelude.{◌≡◌, ◌+◌, ◌-◌, ◌<◌, ◌≤
 ghost use Rattle.std.specs.List.{AllByRecursion};
 ghost use Rattle.std.specs.Map.{keys_of};
 ghost use Rattle.pfs_store_contract.specs.Purging.{round};
-ghost use Rattle.pfs_store_index.specs.Quiet.{round_after_slices};
+ghost use Rattle.pfs_store_index.specs.QuietPurges.{round_after_slices};
 ghost use Rattle.pfs_store_records.specs.Records.{IsRising, between};
 
 use pfs_store_records::{Places, Round};
 
 /// A round that went on, and how many slices are still to be done.
 #[derive(Clone, Copy)]
-struct Turn {
+struct RoundLeft {
     round: Round,
     left: u64,
 }
@@ -81,7 +81,7 @@ pub(crate) fn turned(places: &Places, round: Round, share: u64, made: u64, slice
 }
 
 /// One slice; or all whole rounds, where one is over.
-fn go_on(places: &Places, round: Round, share: u64, made: u64, left: u64) -> Turn
+fn go_on(places: &Places, round: Round, share: u64, made: u64, left: u64) -> RoundLeft
     requires rising { IsRising (keys_of places.now.entries) }
     requires numbered { AllByRecursion (λ n. (1 ≤ n) × (n ≤ made)) (keys_of places.now.entries) }
     requires order { round.cursor ≤ round.mark }
@@ -97,7 +97,7 @@ fn go_on(places: &Places, round: Round, share: u64, made: u64, left: u64) -> Tur
     if is_over(places, round) {
         let whole = whole_round(places, share);
         if whole <= left {
-            Turn {
+            RoundLeft {
                 round,
                 left: left % whole,
             }
@@ -106,13 +106,13 @@ fn go_on(places: &Places, round: Round, share: u64, made: u64, left: u64) -> Tur
                 cursor: 0,
                 mark: made,
             };
-            Turn {
+            RoundLeft {
                 round: sliced(places, begun, share),
                 left: left - 1,
             }
         }
     } else {
-        Turn {
+        RoundLeft {
             round: sliced(places, round, share),
             left: left - 1,
         }

@@ -8,7 +8,7 @@ ghost use Rattle.pfs_store_records.specs.Records.{renewed};
 use pfs_addr_values::Packet;
 use pfs_conf_values::{Config, RuleNo};
 use pfs_store_contract::is_answered;
-use pfs_store_records::Kept;
+use pfs_store_records::PackedState;
 use pfs_track::StatePhase;
 
 /// The phase of the state that a packet makes at a rule: where pf answers the packet itself, one in which pf leads the handshakes.
@@ -29,7 +29,7 @@ pub(crate) fn new_phase(config: &Config, rule: RuleNo, packet: &Packet, cookie: 
 /// What a packet of a state makes of it: its phase and the moment of its last packet, whether its handshake completes, whether pf takes
 /// the packet itself, and whether it asks the other peer then.
 #[derive(Clone, Copy)]
-pub(crate) struct Step {
+pub(crate) struct StateStep {
     pub(crate) phase: StatePhase,
     pub(crate) last: u64,
     pub(crate) completed: bool,
@@ -38,7 +38,7 @@ pub(crate) struct Step {
 }
 
 /// What a packet of a state does, as the record of the state has it.
-pub(crate) fn stepped(kept: &Kept, packet: &Packet, now: u64) -> Step
+pub(crate) fn stepped(kept: &PackedState, packet: &Packet, now: u64) -> StateStep
     ensures state { renewed result.phase result.last kept.now ≡ state_after_packet packet.now now kept.now }
     ensures completes { result.completed ≡ completes_at packet.now kept.now }
     ensures taken { result.taken ≡ is_taken packet.now kept.now }
@@ -49,7 +49,7 @@ pub(crate) fn stepped(kept: &Kept, packet: &Packet, now: u64) -> Step
     let taken = before.takes(forward, packet.flags());
     let asks = before.asks_peer(forward, packet.flags());
     let (phase, completed) = before.step(forward, packet.flags());
-    Step {
+    StateStep {
         phase,
         last: if taken { kept.last() } else { now },
         completed,
@@ -58,7 +58,7 @@ pub(crate) fn stepped(kept: &Kept, packet: &Packet, now: u64) -> Step
     }
 }
 
-fn goes_forward(packet: &Packet, kept: &Kept) -> bool
+fn goes_forward(packet: &Packet, kept: &PackedState) -> bool
     ensures { result ≡ goes_forward packet.now kept.now }
 {
     packet.dir() == kept.dir()

@@ -10,21 +10,22 @@ ghost use Rattle.pfs_store_contract.specs.Seconds.{seconds};
 ghost use Rattle.pfs_store_contract.specs.Touching.{completes_at};
 ghost use Rattle.pfs_store_contract.specs.Worlds.{IsUpToNow, empty_world, holds_number, state_numbered};
 ghost use Rattle.pfs_store_index.specs.Holdings.{is_reached};
-ghost use Rattle.pfs_store_index.specs.Quiet.{AreNodesKnown, AreStatesKnown, IsPassage, NodeSliceStays, SliceStays, world_after_quiet};
+ghost use Rattle.pfs_store_index.specs.QuietPurges.{AreNodesKnown, AreStatesKnown, IsPassage, NodeSliceStays, SliceStays, world_after_quiet};
 
 use crate::expiring::counted_rules;
 use crate::flushing::{Flushed, flush};
 use crate::indexes::Indexes;
 use crate::killing::kill_from_to;
 use crate::limits::{limit_met, scope_left};
-use crate::passages::{Known, Passage, Told};
+use crate::passages::{KnownStay, Passage, SliceTold};
 use crate::purging::{share_of, walk_nodes, walk_states};
 use crate::rounds::{is_over, next_between, turned, under_way};
 use crate::stepping::new_phase;
 use pfs_addr_values::{Addr, Dir, FlowKey, Meter, NoMemory, Packet};
 use pfs_conf_values::{Config, LimitName, RuleNo, RulesHasher};
 use pfs_store_contract::{
-    Found, FromTo, Limit, Purged, Slice, State, StateNo, Store, Touched, apart, inner_key, wire_key,
+    FromTo, Limit, Purged, Slice, State, StateHandle, StateNo, Store, Touched, apart, inner_key,
+    wire_key,
 };
 use pfs_store_records::Round;
 use std::alloc::Global;
@@ -129,7 +130,7 @@ impl<S: BuildHasher> IndexStore<S> {
     /// asked for.
     fn take(
         &mut self,
-        found: Found,
+        found: StateHandle,
         packet: &Packet,
         asked: bool,
         now: u64,
@@ -161,15 +162,15 @@ impl<S: BuildHasher> Store for IndexStore<S> {
 
     ghost reaches = { λ s found. is_reached s.records found };
 
-    fn find(&self, key: &FlowKey) -> Option<Found> {
+    fn find(&self, key: &FlowKey) -> Option<StateHandle> {
         self.indexes.find(key)
     }
 
-    fn find_inside(&self, key: &FlowKey) -> Option<Found> {
+    fn find_inside(&self, key: &FlowKey) -> Option<StateHandle> {
         self.indexes.find_inside(key)
     }
 
-    fn onward_key(&self, found: Found, dir: Dir) -> Option<FlowKey> {
+    fn onward_key(&self, found: StateHandle, dir: Dir) -> Option<FlowKey> {
         self.indexes.onward_key(found.number.0, dir)
     }
 
@@ -243,20 +244,32 @@ impl<S: BuildHasher> Store for IndexStore<S> {
         }
     }
 
-    fn touch(&mut self, found: Found, packet: &Packet, now: u64, meter: &mut Meter) -> Touched {
+    fn touch(
+        &mut self,
+        found: StateHandle,
+        packet: &Packet,
+        now: u64,
+        meter: &mut Meter,
+    ) -> Touched {
         self.take(found, packet, true, now, meter)
     }
 
-    fn renew(&mut self, found: Found, packet: &Packet, now: u64, meter: &mut Meter) -> Touched {
+    fn renew(
+        &mut self,
+        found: StateHandle,
+        packet: &Packet,
+        now: u64,
+        meter: &mut Meter,
+    ) -> Touched {
         self.take(found, packet, false, now, meter)
     }
 
-    fn has_closed(&self, found: Found, meter: &mut Meter) -> bool {
+    fn has_closed(&self, found: StateHandle, meter: &mut Meter) -> bool {
         self.indexes.state_numbers_rise();
         self.indexes.record(found, meter).phase().has_closed()
     }
 
-    fn kill(&mut self, found: Found, now: u64, meter: &mut Meter) {
+    fn kill(&mut self, found: StateHandle, now: u64, meter: &mut Meter) {
         self.indexes.state_numbers_rise();
         let state = self.indexes.read_found(found, meter);
         self.indexes.take_out(&state, now);
@@ -310,7 +323,7 @@ impl<S: BuildHasher> Store for IndexStore<S> {
 
 impl<S: BuildHasher> IndexStore<S> {
     /// The next slice of the states, up to when those stay that it examined, and whether the round is over with it.
-    fn slice_states(&mut self, now: u64, meter: &mut Meter) -> Told
+    fn slice_states(&mut self, now: u64, meter: &mut Meter) -> SliceTold
         requires moment { now ≤ 2 ^ 63 }
         requires meter { meter.old ≤ 2 ^ 63 }
         ensures answer { result.slice ≡ state_slice_of self.old.config self.old.world now }
@@ -334,7 +347,7 @@ impl<S: BuildHasher> IndexStore<S> {
     }
 
     /// The next slice of the source nodes, as `slice_states` does it of the states.
-    fn slice_nodes(&mut self, now: u64, meter: &mut Meter) -> Told
+    fn slice_nodes(&mut self, now: u64, meter: &mut Meter) -> SliceTold
         requires meter { meter.old ≤ 2 ^ 63 }
         ensures answer { result.slice ≡ node_slice_of self.old.config self.old.world now }
         ensures world { self.new.world ≡ node_slice self.old.config self.old.world now }
@@ -354,21 +367,21 @@ impl<S: BuildHasher> IndexStore<S> {
     }
 
     /// What is known of the states where no slice has told anything.
-    fn states_known(&self) -> Known
+    fn states_known(&self) -> KnownStay
         ensures { (most : ℕ) → AreStatesKnown self.now.config self.now.world most result }
     {
-        Known::before(is_over(self.indexes.records().order(), self.states_round))
+        KnownStay::before(is_over(self.indexes.records().order(), self.states_round))
     }
 
     /// What is known of the source nodes where no slice has told anything.
-    fn nodes_known(&self) -> Known
+    fn nodes_known(&self) -> KnownStay
         ensures { (most : ℕ) → AreNodesKnown self.now.config self.now.world most result }
     {
-        Known::before(is_over(self.indexes.nodes().order(), self.nodes_round))
+        KnownStay::before(is_over(self.indexes.nodes().order(), self.nodes_round))
     }
 
     /// What is known of the source nodes behind a slice with which so many states left: one that lost its last may leave at once.
-    fn nodes_behind(&self, known: Known, left: u64) -> Known
+    fn nodes_behind(&self, known: KnownStay, left: u64) -> KnownStay
         ensures same { left ≡ 0 → result ≡ known }
         ensures anew { 0 < left → (most : ℕ) → AreNodesKnown self.now.config self.now.world most result }
     {

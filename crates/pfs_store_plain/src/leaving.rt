@@ -4,7 +4,7 @@ ghost use Rattle.std.specs.Prelude.{◌≡◌, ◌+◌, ◌≤◌, ◌^◌, ℕ,
 ghost use Rattle.pfs_store_contract.specs.Counts.{node_states};
 ghost use Rattle.pfs_store_contract.specs.Leaving.{end_on, is_beside, is_flushed, is_from_to, node_after_leaving, node_retention, world_without};
 ghost use Rattle.pfs_store_contract.specs.Calls.{other_than, stays_elsewhere, stays_unflushed};
-ghost use Rattle.pfs_store_plain.specs.Rooms.{AreScores};
+ghost use Rattle.pfs_store_plain.specs.PlainRoom.{AreScores};
 ghost use Rattle.pfs_store_contract.specs.Worlds.{holds_number, lists};
 
 use crate::counts::{OfNode, Test, count};
@@ -27,14 +27,14 @@ impl Test for OtherThan {
 
 /// The states that a flush takes for those of a source, all of them or those of one rule.
 #[derive(Clone, Copy)]
-pub(crate) struct Flushed {
+pub(crate) struct FlushTest {
     pub profile: Profile,
     pub dir: Dir,
     pub source: Addr,
     pub rule: Option<RuleNo>,
 }
 
-impl Test for Flushed {
+impl Test for FlushTest {
     ghost passes = { λ t s. is_flushed t.profile t.dir t.source t.rule s };
 
     fn passes(&self, state: &State) -> bool {
@@ -45,7 +45,7 @@ impl Test for Flushed {
     }
 }
 
-impl Flushed {
+impl FlushTest {
     /// Whether a state, of whatever rule, is one of those of the source: it made it, or under the profile of OpenBSD 7.4 it is at
     /// the end of its key from which packets of the direction come.
     fn is_beside(&self, state: &State) -> bool
@@ -70,7 +70,7 @@ fn end_on(dir: Dir, key: &FlowKey) -> Endpoint
 
 /// The states that stay at a flush.
 #[derive(Clone, Copy)]
-pub(crate) struct Unflushed(pub Flushed);
+pub(crate) struct Unflushed(pub FlushTest);
 
 impl Test for Unflushed {
     ghost passes = { λ t s. stays_unflushed t.0.profile t.0.dir t.0.source t.0.rule s };

@@ -4,19 +4,19 @@ ghost use Rattle.std.specs.Prelude.{◌≡◌, ◌+◌, ◌<◌, ◌≤◌, ◌^
 ghost use Rattle.pfs_addr_values.specs.Packets.{run_limit};
 ghost use Rattle.pfs_store_contract.specs.Admission.{leaves_node, new_phase, nodes_with, world_after_admission, world_after_refusal};
 ghost use Rattle.pfs_store_contract.specs.Calls.{state_number, state_rule};
-ghost use Rattle.pfs_store_plain.specs.Rooms.{AreScores};
+ghost use Rattle.pfs_store_plain.specs.PlainRoom.{AreScores};
 ghost use Rattle.pfs_store_contract.specs.Worlds.{empty_world};
 
 use crate::counts::{HalfOpen, count, has_node};
-use crate::leaving::{Elsewhere, Flushed, Going, OtherThan, Unflushed, holds_number, leave};
+use crate::leaving::{Elsewhere, FlushTest, Going, OtherThan, Unflushed, holds_number, leave};
 use crate::limits::limit_met;
 use crate::purging::{slice_nodes, slice_states};
 use crate::touching::{self, state_inside, state_numbered, state_with};
 use pfs_addr_values::{Addr, Dir, FlowKey, Meter, NoMemory, Packet};
 use pfs_conf_values::{Config, RuleNo};
 use pfs_store_contract::{
-    Found, FromTo, Limit, Node, NodeScope, Slice, State, StateNo, Store, Touched, apart, inner_key,
-    is_answered, wire_key,
+    FromTo, Limit, Node, NodeScope, Slice, State, StateHandle, StateNo, Store, Touched, apart,
+    inner_key, is_answered, wire_key,
 };
 use pfs_store_rules::node_scope;
 use pfs_track::{Score, StatePhase};
@@ -40,7 +40,7 @@ pub struct PlainStore {
 impl Model for PlainStore {
     ghost use Rattle.std.specs.Prelude.{vec_capacity};
     ghost use Rattle.pfs_store_contract.specs.Plain.{Plain};
-    ghost use Rattle.pfs_store_plain.specs.Rooms.{IsRoomy};
+    ghost use Rattle.pfs_store_plain.specs.PlainRoom.{IsRoomy};
     ghost use Rattle.pfs_store_contract.specs.Worlds.{lists};
 
     ghost Value = { Plain };
@@ -154,15 +154,15 @@ impl Store for PlainStore {
     // it walks its lists at each call, and needs nothing that it said
     ghost reaches = { λ s found. true };
 
-    fn find(&self, key: &FlowKey) -> Option<Found> {
+    fn find(&self, key: &FlowKey) -> Option<StateHandle> {
         found(state_with(&self.states, key))
     }
 
-    fn find_inside(&self, key: &FlowKey) -> Option<Found> {
+    fn find_inside(&self, key: &FlowKey) -> Option<StateHandle> {
         found(state_inside(&self.states, key))
     }
 
-    fn onward_key(&self, found: Found, dir: Dir) -> Option<FlowKey> {
+    fn onward_key(&self, found: StateHandle, dir: Dir) -> Option<FlowKey> {
         match state_numbered(&self.states, found.number.0) {
             Some(state) => state.onward_key(dir),
             None => None,
@@ -218,7 +218,13 @@ impl Store for PlainStore {
         }
     }
 
-    fn touch(&mut self, found: Found, packet: &Packet, now: u64, _meter: &mut Meter) -> Touched {
+    fn touch(
+        &mut self,
+        found: StateHandle,
+        packet: &Packet,
+        now: u64,
+        _meter: &mut Meter,
+    ) -> Touched {
         touching::touch(
             &self.config,
             self.states.as_mut_slice(),
@@ -229,11 +235,11 @@ impl Store for PlainStore {
         )
     }
 
-    fn has_closed(&self, found: Found, _meter: &mut Meter) -> bool {
+    fn has_closed(&self, found: StateHandle, _meter: &mut Meter) -> bool {
         touching::has_closed(&self.states, found.number.0)
     }
 
-    fn kill(&mut self, found: Found, now: u64, _meter: &mut Meter) {
+    fn kill(&mut self, found: StateHandle, now: u64, _meter: &mut Meter) {
         leave(
             &self.config,
             &mut self.states,
@@ -252,7 +258,7 @@ impl Store for PlainStore {
         now: u64,
         _meter: &mut Meter,
     ) -> u64 {
-        let flushed = Flushed {
+        let flushed = FlushTest {
             profile: self.config.profile(),
             dir,
             source,
@@ -306,12 +312,12 @@ impl Store for PlainStore {
 }
 
 /// What was found, where it is this state.
-fn found(state: Option<State>) -> Option<Found>
+fn found(state: Option<State>) -> Option<StateHandle>
     ensures number { option_map (λ f. f.number) result ≡ option_map state_number state }
     ensures rule { option_map (λ f. f.rule) result ≡ option_map state_rule state }
 {
     match state {
-        Some(state) => Some(Found {
+        Some(state) => Some(StateHandle {
             number: StateNo(state.number),
             rule: state.rule,
             place: 0,

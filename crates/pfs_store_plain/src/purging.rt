@@ -8,7 +8,7 @@ ghost use Rattle.pfs_store_contract.specs.Counts.{rule_states};
 ghost use Rattle.pfs_store_contract.specs.Plain.{AreCounts};
 ghost use Rattle.pfs_store_contract.specs.Purging.{is_among, is_over, node_share, node_slice, node_stays, round, share, state_share, state_slice};
 ghost use Rattle.pfs_store_contract.specs.Calls.{node_slice_of, state_slice_of};
-ghost use Rattle.pfs_store_plain.specs.Rooms.{AreScores};
+ghost use Rattle.pfs_store_plain.specs.PlainRoom.{AreScores};
 ghost use Rattle.pfs_store_contract.specs.Worlds.{lists};
 
 use crate::counts::{OfNode, Test, count};
@@ -42,7 +42,7 @@ impl Numbered for Node {
     }
 }
 
-/// A new round begins where the last one is over.
+/// Begins a round where the last one is over: the numbers of all that is held are pending then.
 fn begin_round<T: Numbered>(pending: &mut Vec<u64>, held: &[T])
     requires { length held.now ≤ vec_capacity pending.old }
     ensures items { pending.new.items ≡ round (map T.number held.now) pending.old.items }
@@ -103,7 +103,7 @@ fn count_rules(counts: &mut [u64], states: &[State])
 
 /// The states that stay at a slice: those that it does not examine, and those that have not expired.
 #[derive(Clone, Copy)]
-struct Staying<'a> {
+struct StayTest<'a> {
     config: &'a Config,
     rule_counts: &'a [u64],
     held: u64,
@@ -111,7 +111,7 @@ struct Staying<'a> {
     examined: &'a [u64],
 }
 
-impl Test for Staying<'_> {
+impl Test for StayTest<'_> {
     ghost passes = { λ t s. not (is_among t.examined.now s.number
         && is_expired (scaled_lifetime t.config.now s.rule.0 s.phase (slice_index t.rule_counts.now s.rule.0) t.held) s.last t.now) };
 
@@ -155,7 +155,7 @@ pub(crate) fn slice_states(
     count_rules(rule_counts, states);
     let held = states.len();
     let examined = share_of(config, config.limit(LimitName::States), pending.len());
-    let test = Staying {
+    let test = StayTest {
         config,
         rule_counts,
         held: held as u64,

@@ -5,7 +5,7 @@ ghost use Rattle.pfs_conf_values.specs.Configs.{options_of};
 ghost use Rattle.pfs_conf_values.specs.Bounds.{IsRate};
 ghost use Rattle.pfs_track.specs.StatePhases.{has_closed};
 ghost use Rattle.pfs_store_contract.specs.Counts.{node_scope_of};
-ghost use Rattle.pfs_store_plain.specs.Rooms.{AreScores};
+ghost use Rattle.pfs_store_plain.specs.PlainRoom.{AreScores};
 ghost use Rattle.pfs_store_contract.specs.Touching.{completes_at, connections_in, goes_forward, is_asking, is_taken, node_score, nodes_scored, nodes_touched, numbered_state_after, node_after_handshake, score_in, state_after_packet};
 ghost use Rattle.pfs_store_contract.specs.Calls.{touch_of, world_touched};
 ghost use Rattle.pfs_store_contract.specs.Worlds.{IsUpToNow, lists, state_inside, state_numbered, state_with};

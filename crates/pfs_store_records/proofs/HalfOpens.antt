@@ -7,7 +7,7 @@ use Rattle.pfs_track.specs.StatePhases.{is_half_open}
 use Rattle.pfs_store_contract.specs.Calls.{other_than}
 use Rattle.pfs_store_contract.specs.Counts.{half_open}
 use Rattle.pfs_store_contract.specs.declared.records.State.{State}
-use Rattle.pfs_store_records.specs.Keeping.{IsPlaced, RecordIsAt, number_in, one_if, values_at}
+use Rattle.pfs_store_records.specs.RecordPlaces.{IsPlaced, RecordIsAt, number_in, one_if, values_at}
 use Rattle.pfs_store_records.specs.Records.{Placed, states_of}
 use Rattle.pfs_store_records.proofs.Ordered.{length-held}
 use Rattle.pfs_store_records.proofs.Rising.{Apart, IsRisingBy, head-apart, head-is, rest-rising, same_number}

@@ -19,11 +19,11 @@ use Rattle.pfs_store_contract.specs.Leaving.{sent_on_side}
 use Rattle.pfs_store_contract.specs.Purging.{state_numbers}
 use Rattle.pfs_store_contract.specs.Worlds.{holds_number}
 use Rattle.pfs_store_contract.specs.declared.records.State.{State}
-use Rattle.pfs_store_records.specs.Aside.{AreHeld, HasKeys, IsKeptAt, whole_record, keys_apart, lying, rekeyed, with_keys}
+use Rattle.pfs_store_records.specs.ApartKeys.{AreHeld, HasKeys, IsKeptAt, whole_record, keys_apart, lying, rekeyed, with_keys}
 use Rattle.pfs_store_records.specs.Records.{IsAbove, IsRecordAt, Placed, between, leaves_number, placed_at, renewed, renewed_at, stands_at, states_of}
 use Rattle.pfs_store_records.specs.Sourced.{bare}
 use Rattle.pfs_store_records.specs.Walks.{IsLeaver, IsWalk, StayUntil, end_of, state_has_expired}
-use Rattle.pfs_store_records.specs.declared.aside.Keys.{Keys}
+use Rattle.pfs_store_records.specs.declared.apart_keys.Keys.{Keys}
 use Rattle.pfs_store_records.proofs.Searches.{found-passes}
 use Rattle.pfs_store_records.proofs.Ordered.{at_other, at_same, at_self}
 

@@ -18,7 +18,7 @@ use Rattle.pfs_store_contract.specs.declared.records.NodeScope.{NodeScope}
 use Rattle.pfs_store_contract.specs.declared.records.NodeScope.TheVariants as node_scope
 use Rattle.pfs_store_contract.specs.declared.records.State.{State}
 use Rattle.pfs_store_records.specs.Tallies.{IsTallied, has_node_number, is_tally, nodes_of, put_tally, same_node}
-use Rattle.pfs_store_records.specs.declared.nodes.Tally.{Tally}
+use Rattle.pfs_store_records.specs.declared.nodes.NodeTally.{NodeTally}
 use Rattle.pfs_store_records.specs.Changes.{IsScope, IsScoped, at_node, is_at}
 use Rattle.pfs_store_records.proofs.Searches.{any-also, any-map, found-all}
 use Rattle.pfs_store_contract.proofs.ScopeLaws.{same_scope_self, same_scope_true}
@@ -37,13 +37,13 @@ same_addr_flip a b = go (same_addr a b) refl (same_addr b a) refl
 
 -- ---- the scope and source of a tally
 
-pub scope_is : (sc : NodeScope) (a : Addr) (t : Tally) → is_tally sc a t ≡ true → t.node.scope ≡ sc
+pub scope_is : (sc : NodeScope) (a : Addr) (t : NodeTally) → is_tally sc a t ≡ true → t.node.scope ≡ sc
 scope_is sc a t h = same_scope_true t.node.scope sc (and_parts (same_scope t.node.scope sc) (same_addr t.node.source a) h).0
 
-pub source_is : (sc : NodeScope) (a : Addr) (t : Tally) → is_tally sc a t ≡ true → t.node.source ≡ a
+pub source_is : (sc : NodeScope) (a : Addr) (t : NodeTally) → is_tally sc a t ≡ true → t.node.source ≡ a
 source_is sc a t h = same_addr_true t.node.source a (and_parts (same_scope t.node.scope sc) (same_addr t.node.source a) h).1
 
-pub is_tally_self : (t : Tally) → is_tally t.node.scope t.node.source t ≡ true
+pub is_tally_self : (t : NodeTally) → is_tally t.node.scope t.node.source t ≡ true
 is_tally_self t = and_from (same_scope t.node.scope t.node.scope) (same_addr t.node.source t.node.source) (same_scope_self t.node.scope) (same_addr_self t.node.source)
 
 -- ---- the states of a node are those whose rule has its scope
@@ -51,7 +51,7 @@ is_tally_self t = and_from (same_scope t.node.scope t.node.scope) (same_addr t.n
 rule_flip : (a b : ℕ) → (a == b) ≡ (b == a)
 rule_flip a b = grind (arith, nat_tests)
 
-pub of_node : (conf : Conf) (s : State) (t : Tally) → IsScoped conf t → is_of_node conf t.node.scope t.node.source s ≡ is_at (node_scope_of conf s.rule.0) s.source t
+pub of_node : (conf : Conf) (s : State) (t : NodeTally) → IsScoped conf t → is_of_node conf t.node.scope t.node.source s ≡ is_at (node_scope_of conf s.rule.0) s.source t
 of_node conf s t h = by t.node.scope refl h
   where
     own : (r : RuleNo) → t.node.scope ≡ node_scope.Rule r → scope_of conf r.0 ≡ Some scope.Rule → (o : Option Scope) → scope_of conf s.rule.0 ≡ o
@@ -97,13 +97,13 @@ scope_of-IsScope conf rule sc h = by (scope_of conf rule) refl h
 
 -- ---- a change of one tally
 
-pub at_here : (sc : NodeScope) (a : Addr) (f : Tally → Tally) (t : Tally) → is_tally sc a t ≡ true → at_node (Some sc) a f t ≡ f t
+pub at_here : (sc : NodeScope) (a : Addr) (f : NodeTally → NodeTally) (t : NodeTally) → is_tally sc a t ≡ true → at_node (Some sc) a f t ≡ f t
 at_here sc a f t h = rw h refl
 
-pub at_else : (sc : NodeScope) (a : Addr) (f : Tally → Tally) (t : Tally) → is_tally sc a t ≡ false → at_node (Some sc) a f t ≡ t
+pub at_else : (sc : NodeScope) (a : Addr) (f : NodeTally → NodeTally) (t : NodeTally) → is_tally sc a t ≡ false → at_node (Some sc) a f t ≡ t
 at_else sc a f t h = rw h refl
 
-number_of : Tally → ℕ
+number_of : NodeTally → ℕ
 number_of t = t.node.number
 
 flip_number : (a b : ℕ) → a < b → (b == a) ≡ false
@@ -116,47 +116,47 @@ lower_differs : (a b : ℕ) → a < b → (a == b) ≡ false
 lower_differs a b h = grind (arith, nat_tests)
 
 -- others with higher numbers and other scopes or sources stay
-put-later : (sc : NodeScope) (a : Addr) (v : Tally) (f : Tally → Tally) (ts : List Tally) → Above (λ (t : Tally). t.node.number) v.node.number ts
+put-later : (sc : NodeScope) (a : Addr) (v : NodeTally) (f : NodeTally → NodeTally) (ts : List NodeTally) → Above (λ (t : NodeTally). t.node.number) v.node.number ts
     → AllByRecursion (λ u. is_tally sc a u ≡ false) ts → map (put_tally v) ts ≡ map (at_node (Some sc) a f) ts
 put-later sc a v f [] l h = refl
 put-later sc a v f (t ∷ ts) (l, ls) (h, hs) =
     let n : has_node_number v.node.number t ≡ false = flip_number v.node.number t.node.number l in
     rw (n, h) (ap (λ xs. t ∷ xs) (put-later sc a v f ts ls hs))
 
-pub other_of : (sc : NodeScope) (a : Addr) (t : Tally) (ts : List Tally) → is_tally sc a t ≡ true → AllByRecursion (λ u. same_node t u ≡ false) ts
+pub other_of : (sc : NodeScope) (a : Addr) (t : NodeTally) (ts : List NodeTally) → is_tally sc a t ≡ true → AllByRecursion (λ u. same_node t u ≡ false) ts
     → AllByRecursion (λ u. is_tally sc a u ≡ false) ts
 other_of sc a t ts h d =
     let p = scope_is sc a t h in
     let q = source_is sc a t h in
     subst (λ (z : NodeScope × Addr). AllByRecursion (λ u. is_tally z.0 z.1 u ≡ false) ts) (λ i. (p i, q i)) d
 
-pub put-at : (sc : NodeScope) (a : Addr) (v t : Tally) (f : Tally → Tally) (ts : List Tally) → IsRisingBy (λ (u : Tally). u.node.number) ts → IsDistinct same_node ts
+pub put-at : (sc : NodeScope) (a : Addr) (v t : NodeTally) (f : NodeTally → NodeTally) (ts : List NodeTally) → IsRisingBy (λ (u : NodeTally). u.node.number) ts → IsDistinct same_node ts
     → find (is_tally sc a) ts ≡ Some t → v.node.number ≡ t.node.number → f t ≡ v → map (put_tally v) ts ≡ map (at_node (Some sc) a f) ts
 put-at sc a v t f [] r d l n c = refl
 put-at sc a v t f (u ∷ ts) r d l n c =
-    go (λ l'. put-at sc a v t f ts (rest-rising (λ (x : Tally). x.node.number) u ts r) (IsDistinct-tail same_node u ts d) l' n c) (is_tally sc a u) refl
+    go (λ l'. put-at sc a v t f ts (rest-rising (λ (x : NodeTally). x.node.number) u ts r) (IsDistinct-tail same_node u ts d) l' n c) (is_tally sc a u) refl
   where
-    higher : Above (λ (x : Tally). x.node.number) u.node.number ts
-    higher = head-above (λ (x : Tally). x.node.number) u ts r
+    higher : Above (λ (x : NodeTally). x.node.number) u.node.number ts
+    higher = head-above (λ (x : NodeTally). x.node.number) u ts r
 
     go : (find (is_tally sc a) ts ≡ Some t → map (put_tally v) ts ≡ map (at_node (Some sc) a f) ts) → (b : Bool) → is_tally sc a u ≡ b
         → map (put_tally v) (u ∷ ts) ≡ map (at_node (Some sc) a f) (u ∷ ts)
     go more true i =
         let l' : Some u ≡ Some t = (rw i at l) in
         let k : u ≡ t = cc in
-        let m : u.node.number ≡ v.node.number = ap (λ (x : Tally). x.node.number) k ∙ sym n in
+        let m : u.node.number ≡ v.node.number = ap (λ (x : NodeTally). x.node.number) k ∙ sym n in
         let y : has_node_number v.node.number u ≡ true = ap (λ z. u.node.number == z) (sym m) ∙ same_self u.node.number in
         let w : f u ≡ v = ap f k ∙ c in
-        let ls = subst (λ z. Above (λ (x : Tally). x.node.number) z ts) m higher in
+        let ls = subst (λ z. Above (λ (x : NodeTally). x.node.number) z ts) m higher in
         rw (y, i, w) (ap (λ xs. v ∷ xs) (put-later sc a v f ts ls (other_of sc a u ts i (IsDistinct-head same_node u ts d))))
     go more false i =
         let l' : find (is_tally sc a) ts ≡ Some t = (rw i at l) in
-        let lo : u.node.number < t.node.number = found-all (λ (x : Tally). u.node.number < x.node.number) (is_tally sc a) t ts higher l' in
+        let lo : u.node.number < t.node.number = found-all (λ (x : NodeTally). u.node.number < x.node.number) (is_tally sc a) t ts higher l' in
         let y : has_node_number v.node.number u ≡ false = ap (λ z. u.node.number == z) n ∙ lower_differs u.node.number t.node.number lo in
         rw (y, i) (ap (λ xs. u ∷ xs) (more l'))
 
 -- where the node is not there, nothing changes
-pub none-at : (sc : NodeScope) (a : Addr) (f : Tally → Tally) (ts : List Tally) → find (is_tally sc a) ts ≡ None → ts ≡ map (at_node (Some sc) a f) ts
+pub none-at : (sc : NodeScope) (a : Addr) (f : NodeTally → NodeTally) (ts : List NodeTally) → find (is_tally sc a) ts ≡ None → ts ≡ map (at_node (Some sc) a f) ts
 none-at sc a f [] l = refl
 none-at sc a f (t ∷ ts) l = go (none-at sc a f ts) (is_tally sc a t) refl
   where
@@ -164,56 +164,56 @@ none-at sc a f (t ∷ ts) l = go (none-at sc a f ts) (is_tally sc a t) refl
     go more true i = let l' : Some t ≡ None = (rw i at l) in absurd (cc l')
     go more false i = rw i (ap (λ xs. t ∷ xs) (more (rw i at l)))
 
-pub no-scope : (a : Addr) (f : Tally → Tally) (ts : List Tally) → ts ≡ map (at_node None a f) ts
+pub no-scope : (a : Addr) (f : NodeTally → NodeTally) (ts : List NodeTally) → ts ≡ map (at_node None a f) ts
 no-scope a f [] = refl
 no-scope a f (t ∷ ts) = ap (λ xs. t ∷ xs) (no-scope a f ts)
 
 -- what was found may be written
-pub tallied-at : (sc : NodeScope) (a : Addr) (v t : Tally) (ts : List Tally) → find (is_tally sc a) ts ≡ Some t → v.node.scope ≡ t.node.scope → v.node.source ≡ t.node.source
+pub tallied-at : (sc : NodeScope) (a : Addr) (v t : NodeTally) (ts : List NodeTally) → find (is_tally sc a) ts ≡ Some t → v.node.scope ≡ t.node.scope → v.node.source ≡ t.node.source
     → v.node.number ≡ t.node.number → IsTallied v ts
 tallied-at sc a v t ts l p q n =
     let h : is_tally v.node.scope v.node.source t ≡ true =
     subst (λ (z : NodeScope × Addr). is_tally z.0 z.1 t ≡ true) (λ i. (sym p i, sym q i)) (is_tally_self t) in
     let y : has_node_number v.node.number t ≡ true = ap (λ z. t.node.number == z) n ∙ same_self t.node.number in
-    any-also (is_tally sc a) (λ (u : Tally). is_tally v.node.scope v.node.source u && has_node_number v.node.number u) t ts l (and_from _ _ h y)
+    any-also (is_tally sc a) (λ (u : NodeTally). is_tally v.node.scope v.node.source u && has_node_number v.node.number u) t ts l (and_from _ _ h y)
 
 -- ---- a change that leaves scope and source alone
 
-pub record IsFaithful (f : Tally → Tally) : Type 0 where
-  pub scope : (t : Tally) → (f t).node.scope ≡ t.node.scope
-  pub source : (t : Tally) → (f t).node.source ≡ t.node.source
-  pub number : (t : Tally) → (f t).node.number ≡ t.node.number
+pub record IsFaithful (f : NodeTally → NodeTally) : Type 0 where
+  pub scope : (t : NodeTally) → (f t).node.scope ≡ t.node.scope
+  pub source : (t : NodeTally) → (f t).node.source ≡ t.node.source
+  pub number : (t : NodeTally) → (f t).node.number ≡ t.node.number
 
-at_same : {Y : Type 0} (part : Tally → Y) (o : Option NodeScope) (a : Addr) (f : Tally → Tally) → ((t : Tally) → part (f t) ≡ part t) → (t : Tally) → part (at_node o a f t) ≡ part t
+at_same : {Y : Type 0} (part : NodeTally → Y) (o : Option NodeScope) (a : Addr) (f : NodeTally → NodeTally) → ((t : NodeTally) → part (f t) ≡ part t) → (t : NodeTally) → part (at_node o a f t) ≡ part t
 at_same part o a f same t = go (is_at o a t)
   where
     go : (b : Bool) → part (if b then f t else t) ≡ part t
     go true = same t
     go false = refl
 
-pub tally-at : (sc : NodeScope) (b : Addr) (o : Option NodeScope) (a : Addr) (f : Tally → Tally) → IsFaithful f → (ts : List Tally)
+pub tally-at : (sc : NodeScope) (b : Addr) (o : Option NodeScope) (a : Addr) (f : NodeTally → NodeTally) → IsFaithful f → (ts : List NodeTally)
     → list_any (is_tally sc b) (map (at_node o a f) ts) ≡ list_any (is_tally sc b) ts
 tally-at sc b o a f k ts =
     any-map (is_tally sc b) (at_node o a f)
-    (λ t i. same_scope (at_same (λ (u : Tally). u.node.scope) o a f k.scope t i) sc && same_addr (at_same (λ (u : Tally). u.node.source) o a f k.source t i) b) ts
+    (λ t i. same_scope (at_same (λ (u : NodeTally). u.node.scope) o a f k.scope t i) sc && same_addr (at_same (λ (u : NodeTally). u.node.source) o a f k.source t i) b) ts
 
-pub scoped-at : (conf : Conf) (o : Option NodeScope) (a : Addr) (f : Tally → Tally) → IsFaithful f → (ts : List Tally) → AllByRecursion (IsScoped conf) ts
+pub scoped-at : (conf : Conf) (o : Option NodeScope) (a : Addr) (f : NodeTally → NodeTally) → IsFaithful f → (ts : List NodeTally) → AllByRecursion (IsScoped conf) ts
     → AllByRecursion (IsScoped conf) (map (at_node o a f) ts)
 scoped-at conf o a f k [] h = tt
-scoped-at conf o a f k (t ∷ ts) (h, hs) = (subst (IsScope conf) (sym (at_same (λ (u : Tally). u.node.scope) o a f k.scope t)) h, scoped-at conf o a f k ts hs)
+scoped-at conf o a f k (t ∷ ts) (h, hs) = (subst (IsScope conf) (sym (at_same (λ (u : NodeTally). u.node.scope) o a f k.scope t)) h, scoped-at conf o a f k ts hs)
 
-pub numbers-at : (o : Option NodeScope) (a : Addr) (f : Tally → Tally) → IsFaithful f → (ts : List Tally)
+pub numbers-at : (o : Option NodeScope) (a : Addr) (f : NodeTally → NodeTally) → IsFaithful f → (ts : List NodeTally)
     → map (λ (n : Node). n.number) (nodes_of (map (at_node o a f) ts)) ≡ map (λ (n : Node). n.number) (nodes_of ts)
 numbers-at o a f k [] = refl
-numbers-at o a f k (t ∷ ts) = (λ i. at_same (λ (u : Tally). u.node.number) o a f k.number t i ∷ numbers-at o a f k ts i)
+numbers-at o a f k (t ∷ ts) = (λ i. at_same (λ (u : NodeTally). u.node.number) o a f k.number t i ∷ numbers-at o a f k ts i)
 
 -- the tally that is found after a change of it
-pub find-at : (sc : NodeScope) (a : Addr) (f : Tally → Tally) → IsFaithful f → (t : Tally) (ts : List Tally) → find (is_tally sc a) ts ≡ Some t
+pub find-at : (sc : NodeScope) (a : Addr) (f : NodeTally → NodeTally) → IsFaithful f → (t : NodeTally) (ts : List NodeTally) → find (is_tally sc a) ts ≡ Some t
     → find (is_tally sc a) (map (at_node (Some sc) a f) ts) ≡ Some (f t)
 find-at sc a f k t [] l = absurd cc
 find-at sc a f k t (u ∷ ts) l = go (find-at sc a f k t ts) (is_tally sc a u) refl
   where
-    same : (x : Tally) → is_tally sc a (f x) ≡ is_tally sc a x
+    same : (x : NodeTally) → is_tally sc a (f x) ≡ is_tally sc a x
     same x = (λ i. same_scope (k.scope x i) sc && same_addr (k.source x i) a)
 
     go : (find (is_tally sc a) ts ≡ Some t → find (is_tally sc a) (map (at_node (Some sc) a f) ts) ≡ Some (f t)) → (b : Bool) → is_tally sc a u ≡ b
@@ -226,7 +226,7 @@ find-at sc a f k t (u ∷ ts) l = go (find-at sc a f k t ts) (is_tally sc a u) r
     go more false i = rw (i, i) (more (rw i at l))
 
 -- no handshake of a node that is found came after a moment
-pub scored-found : (now : ℕ) (sc : NodeScope) (a : Addr) (t : Tally) (ts : List Tally) → All (λ (n : Node). n.score.last ≤ now) (nodes_of ts) → find (is_tally sc a) ts ≡ Some t → t.node.score.last ≤ now
+pub scored-found : (now : ℕ) (sc : NodeScope) (a : Addr) (t : NodeTally) (ts : List NodeTally) → All (λ (n : Node). n.score.last ≤ now) (nodes_of ts) → find (is_tally sc a) ts ≡ Some t → t.node.score.last ≤ now
 scored-found now sc a t [] h l = absurd cc
 scored-found now sc a t (u ∷ ts) h l = go (scored-found now sc a t ts (All-tail (λ (n : Node). n.score.last ≤ now) u.node (nodes_of ts) h)) (is_tally sc a u) refl
   where
@@ -234,5 +234,5 @@ scored-found now sc a t (u ∷ ts) h l = go (scored-found now sc a t ts (All-tai
     go more true i =
         let l' : Some u ≡ Some t = (rw i at l) in
         let q : u ≡ t = cc in
-        subst (λ (x : Tally). x.node.score.last ≤ now) q (All-head (λ (n : Node). n.score.last ≤ now) u.node (nodes_of ts) h)
+        subst (λ (x : NodeTally). x.node.score.last ≤ now) q (All-head (λ (n : Node). n.score.last ≤ now) u.node (nodes_of ts) h)
     go more false i = more (rw i at l)

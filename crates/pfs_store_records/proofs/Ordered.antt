@@ -11,7 +11,7 @@ use Rattle.std.specs.declared.ops.Bound.TheVariants.{Included, Excluded}
 use Rattle.std.proofs.lemmas.List.Elements.{filter_map-append}
 use Rattle.std.proofs.lemmas.Bool.Decides.{nat_tests}
 use Rattle.std.proofs.lemmas.Map.Keys.{sorted_head, sorted_tail}
-use Rattle.pfs_store_records.specs.Keeping.{values_at, IsPlaced, AreInPlace}
+use Rattle.pfs_store_records.specs.RecordPlaces.{values_at, IsPlaced, AreInPlace}
 use Rattle.pfs_store_records.specs.Records.{between}
 
 -- ---- keys

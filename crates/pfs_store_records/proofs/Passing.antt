@@ -5,11 +5,11 @@ use Rattle.std.specs.List.Sorted.{IsStrictlySortedBy}
 use Rattle.std.specs.Map.{keys_of}
 use Rattle.std.specs.Ordering.{nat_cmp}
 use Rattle.slab.specs.Slab.{ContainsKey, Slab}
-use Rattle.pfs_store_records.specs.Keeping.{AreInPlace, IsPlaced, number_of_node, tally_in, values_at}
+use Rattle.pfs_store_records.specs.RecordPlaces.{AreInPlace, IsPlaced, number_of_node, tally_in, values_at}
 use Rattle.pfs_store_records.specs.Records.{between}
 use Rattle.pfs_store_records.specs.Retaining.{IsKeptUntil}
 use Rattle.pfs_store_records.specs.Walks.{IsPassing, StopsWalkAt}
-use Rattle.pfs_store_records.specs.declared.nodes.Tally.{Tally}
+use Rattle.pfs_store_records.specs.declared.nodes.NodeTally.{NodeTally}
 use Rattle.pfs_store_records.proofs.Ordered.{find_placed, first_between, found, look-between, numbers-held}
 use Rattle.pfs_store_records.proofs.Walking.{Each, Walking, drop-front, each-more, head-in, length-keys, span, span-entries, span-keys, split-keys, take-front}
 
@@ -67,16 +67,16 @@ module _ {P V : Type 0} (number : V → ℕ) (At : V → P → Type 0) where
 
 -- ---- where a walk stops
 
-module _ (At : Tally → ℕ → Type 0) where
+module _ (At : NodeTally → ℕ → Type 0) where
   -- the place of the next entry has a node
-  pub next-node-there : (slab : Slab Tally) (es rest : List (ℕ × ℕ)) (last most k p : ℕ) → AreInPlace number_of_node At (tally_in slab) es → (k, p) ∷ rest ≡ span last most es → ContainsKey slab p
+  pub next-node-there : (slab : Slab NodeTally) (es rest : List (ℕ × ℕ)) (last most k p : ℕ) → AreInPlace number_of_node At (tally_in slab) es → (k, p) ∷ rest ≡ span last most es → ContainsKey slab p
   next-node-there slab es rest last most k p kept x =
       let l = look-between last most k p rest es kept.ordered (x ∙ sym (span-entries last most es)) in
       let f = found number_of_node At (tally_in slab) k p es kept.placed l in
       ap is_some f.1
 
   -- the node of the next entry passes
-  pub stops-next : (test : Tally → Bool) (slab : Slab Tally) (es rest : List (ℕ × ℕ)) (last most stayed share k p : ℕ) (t : Tally)
+  pub stops-next : (test : NodeTally → Bool) (slab : Slab NodeTally) (es rest : List (ℕ × ℕ)) (last most stayed share k p : ℕ) (t : NodeTally)
       → AreInPlace number_of_node At (tally_in slab) es → (k, p) ∷ rest ≡ span last most es → tally_in slab p ≡ Some t → test t ≡ true → stayed < share
       → StopsWalkAt number_of_node test (values_at (tally_in slab) es) last most stayed share (Some t)
   stops-next test slab es rest last most stayed share k p t kept x g h s =
@@ -88,22 +88,22 @@ module _ (At : Tally → ℕ → Type 0) where
       record {
         within = s;
         next = sym (ap Some n ∙ first_between number_of_node At last most (tally_in slab) k p rest es kept.placed e);
-        found = subst (λ (m : ℕ). find (λ (u : Tally). number_of_node u == m) (values_at (tally_in slab) es) ≡ Some t) (sym n)
+        found = subst (λ (m : ℕ). find (λ (u : NodeTally). number_of_node u == m) (values_at (tally_in slab) es) ≡ Some t) (sym n)
             (find_placed number_of_node At (tally_in slab) k es p kept.placed l ∙ g);
         passes = h;
       }
 
   -- none is left
-  pub stops-none : (test : Tally → Bool) (slab : Slab Tally) (es : List (ℕ × ℕ)) (last most stayed share : ℕ) → AreInPlace number_of_node At (tally_in slab) es
+  pub stops-none : (test : NodeTally → Bool) (slab : Slab NodeTally) (es : List (ℕ × ℕ)) (last most stayed share : ℕ) → AreInPlace number_of_node At (tally_in slab) es
       → [] ≡ span last most es → StopsWalkAt number_of_node test (values_at (tally_in slab) es) last most stayed share None
   stops-none test slab es last most stayed share kept x s =
       rw (numbers-held number_of_node At (tally_in slab) es kept.placed) (sym (ap keys_of x ∙ span-keys last most es))
 
 -- or the share is used up
-pub stops-used : (test : Tally → Bool) (ts : List Tally) (last most stayed share : ℕ) → share ≤ stayed → StopsWalkAt number_of_node test ts last most stayed share None
+pub stops-used : (test : NodeTally → Bool) (ts : List NodeTally) (last most stayed share : ℕ) → share ≤ stayed → StopsWalkAt number_of_node test ts last most stayed share None
 stops-used test ts last most stayed share h s = absurd (omega (arith, h, s))
 
 -- ---- tallies
 
-pub kept-less : (u v : ℕ) (t : Tally) → v ≤ u → IsKeptUntil u t → IsKeptUntil v t
+pub kept-less : (u v : ℕ) (t : NodeTally) → v ≤ u → IsKeptUntil u t → IsKeptUntil v t
 kept-less u v t h k = λ z. let l = k z in omega (arith, h, l)

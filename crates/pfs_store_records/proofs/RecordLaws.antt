@@ -12,7 +12,7 @@ use Rattle.pfs_store_contract.specs.Calls.{other_than}
 use Rattle.pfs_store_contract.specs.Counts.{half_open}
 use Rattle.pfs_store_contract.specs.Purging.{state_numbers}
 use Rattle.pfs_store_contract.specs.declared.records.State.{State}
-use Rattle.pfs_store_records.specs.Keeping.{values_at, IsPlaced, AreCounted, AreInPlace, number_in, RecordIsAt, record_in}
+use Rattle.pfs_store_records.specs.RecordPlaces.{values_at, IsPlaced, AreCounted, AreInPlace, number_in, RecordIsAt, record_in}
 use Rattle.pfs_store_records.specs.Records.{IsRecordAt, IsRising, Placed, is_placed, leaves_number, placed_at, renewed, renewed_at, stands_at, states_of}
 use Rattle.pfs_store_records.proofs.HalfOpens.{half-found, half-put, opens, put_state}
 use Rattle.pfs_store_records.proofs.Ordered.{IsUpdated, find_placed, found, held-all, kept-all, kept-written, look-placed, rising-held, view-written}

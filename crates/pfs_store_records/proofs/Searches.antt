@@ -121,15 +121,15 @@ module _ {X Y : Type 0} where
       go false m = m
 
   -- that of which a part was found
-  pub record IsWhole (part : X → Y) (p : Y → Bool) (y : Y) (xs : List X) : Type 0 where
+  pub record IsWholeOf (part : X → Y) (p : Y → Bool) (y : Y) (xs : List X) : Type 0 where
     pub whole : X
     pub found : find (λ x. p (part x)) xs ≡ Some whole
     pub same : part whole ≡ y
 
-  pub part-found : (part : X → Y) (p : Y → Bool) (y : Y) (xs : List X) → find p (map part xs) ≡ Some y → IsWhole part p y xs
+  pub part-found : (part : X → Y) (p : Y → Bool) (y : Y) (xs : List X) → find p (map part xs) ≡ Some y → IsWholeOf part p y xs
   part-found part p y xs f = go (find (λ x. p (part x)) xs) refl
     where
-      go : (o : Option X) → find (λ x. p (part x)) xs ≡ o → IsWhole part p y xs
+      go : (o : Option X) → find (λ x. p (part x)) xs ≡ o → IsWholeOf part p y xs
       go None e =
           let z : None ≡ Some y = sym (find-part part p xs ∙ ap (option_map part) e) ∙ f in
           absurd (cc z)

@@ -6,7 +6,7 @@ use Rattle.pfs_store_contract.specs.declared.records.Node.{Node}
 use Rattle.pfs_store_contract.specs.declared.records.NodeScope.{NodeScope}
 use Rattle.pfs_store_contract.specs.declared.records.State.{State}
 use Rattle.pfs_store_records.specs.Tallies.{is_tally, nodes_of}
-use Rattle.pfs_store_records.specs.declared.nodes.Tally.{Tally}
+use Rattle.pfs_store_records.specs.declared.nodes.NodeTally.{NodeTally}
 use Rattle.pfs_store_records.specs.Changes.{is_at, left_by, left_of, at_node, changed_by, met_by, joined_of}
 use Rattle.pfs_store_records.specs.declared.changes.Change.{Change}
 use Rattle.pfs_store_records.specs.declared.changes.Change.TheVariants as change
@@ -21,7 +21,7 @@ use Rattle.pfs_store_contract.specs.Purging.{node_numbers}
 use Rattle.pfs_store_records.specs.Records.{IsRising}
 use Rattle.pfs_store_records.proofs.NodeLaws.{numbers-nodes}
 
-pub rising-tallies : (ts : List Tally) → IsRising (node_numbers (nodes_of ts)) → IsRisingBy (λ (t : Tally). t.node.number) ts
+pub rising-tallies : (ts : List NodeTally) → IsRising (node_numbers (nodes_of ts)) → IsRisingBy (λ (t : NodeTally). t.node.number) ts
 rising-tallies ts h = subst IsRising (numbers-nodes ts) h
 
 -- ---- a state comes
@@ -32,7 +32,7 @@ joined-faithful = record { scope = λ t. refl; source = λ t. refl; number = λ 
 -- ---- a state leaves
 
 -- the change leaves what a node is
-left_by-node : {Y : Type 0} (part : Node → Y) (c : Bool) (expires : ℕ) (t : Tally) → part (record t.node { expires = expires }) ≡ part t.node → part (left_by c expires t).node ≡ part t.node
+left_by-node : {Y : Type 0} (part : Node → Y) (c : Bool) (expires : ℕ) (t : NodeTally) → part (record t.node { expires = expires }) ≡ part t.node → part (left_by c expires t).node ≡ part t.node
 left_by-node part c expires t h = go (t.states - 1 == 0)
   where
     go : (b : Bool) → part (if b then record t.node { expires = expires } else t.node) ≡ part t.node
@@ -46,7 +46,7 @@ left_by-faithful c expires = record {
   number = λ t. left_by-node (λ n. n.number) c expires t refl;
 }
 
-pub left-node : {Y : Type 0} (part : Node → Y) (conf : Conf) (s : State) (now : ℕ) (t : Tally) → ((expires : ℕ) → part (record t.node { expires = expires }) ≡ part t.node)
+pub left-node : {Y : Type 0} (part : Node → Y) (conf : Conf) (s : State) (now : ℕ) (t : NodeTally) → ((expires : ℕ) → part (record t.node { expires = expires }) ≡ part t.node)
     → part (left_of conf s now t).node ≡ part t.node
 left-node part conf s now t h = let e = now + node_retention conf t.node.scope in left_by-node part (is_done s.phase) e t (h e)
 
@@ -58,7 +58,7 @@ left-faithful conf s now = record {
 }
 
 -- at the node of a scope, its retention is that of the scope
-pub left-here : (conf : Conf) (sc : NodeScope) (a : Addr) (s : State) (now : ℕ) (ts : List Tally)
+pub left-here : (conf : Conf) (sc : NodeScope) (a : Addr) (s : State) (now : ℕ) (ts : List NodeTally)
     → map (at_node (Some sc) a (left_by (is_done s.phase) (now + node_retention conf sc))) ts ≡ map (at_node (Some sc) a (left_of conf s now)) ts
 left-here conf sc a s now [] = refl
 left-here conf sc a s now (t ∷ ts) = (λ i. here (is_tally sc a t) refl i ∷ left-here conf sc a s now ts i)
@@ -69,7 +69,7 @@ left-here conf sc a s now (t ∷ ts) = (λ i. here (is_tally sc a t) refl i ∷ 
 
 -- ---- a packet of a state
 
-met-node : {Y : Type 0} (part : Node → Y) (rate : Option Rate) (now : ℕ) (c : Bool) (t : Tally) → ((score : Score) → part (record t.node { score = score }) ≡ part t.node)
+met-node : {Y : Type 0} (part : Node → Y) (rate : Option Rate) (now : ℕ) (c : Bool) (t : NodeTally) → ((score : Score) → part (record t.node { score = score }) ≡ part t.node)
     → part (met_by rate now c t).node ≡ part t.node
 met-node part None now true t h = refl
 met-node part (Some rate) now true t h = h (score_after rate.seconds t.node.score now)
@@ -89,7 +89,7 @@ changed-faithful (change.Left c expires) = left_by-faithful c expires
 changed-faithful (change.Completed rate now) = met-faithful rate now true
 
 -- a packet that completes no handshake changes no tally
-pub unmet : (o : Option NodeScope) (a : Addr) (rate : Option Rate) (now : ℕ) (c : Bool) → c ≡ false → (ts : List Tally) → ts ≡ map (at_node o a (met_by rate now c)) ts
+pub unmet : (o : Option NodeScope) (a : Addr) (rate : Option Rate) (now : ℕ) (c : Bool) → c ≡ false → (ts : List NodeTally) → ts ≡ map (at_node o a (met_by rate now c)) ts
 unmet o a rate now c h [] = refl
 unmet o a rate now c h (t ∷ ts) = (λ i. same (is_at o a t) i ∷ unmet o a rate now c h ts i)
   where

@@ -12,7 +12,7 @@ use Rattle.std.proofs.lemmas.Map.Keys.{sorted_head, sorted_tail}
 use Rattle.slab.specs.Slab.{Slab, get, ContainsKey}
 use Rattle.pfs_store_contract.specs.Purging.{state_numbers}
 use Rattle.pfs_store_contract.specs.declared.records.State.{State}
-use Rattle.pfs_store_records.specs.Keeping.{AreInPlace, IsPlaced, values_at, number_in, RecordIsAt, record_in}
+use Rattle.pfs_store_records.specs.RecordPlaces.{AreInPlace, IsPlaced, values_at, number_in, RecordIsAt, record_in}
 use Rattle.pfs_store_records.specs.Records.{between, states_of}
 use Rattle.pfs_store_records.specs.Walks.{IsLeaver, IsWalk, StayUntil}
 use Rattle.pfs_store_records.proofs.Ordered.{found, less_apart, look-between, numbers-held, range_between}

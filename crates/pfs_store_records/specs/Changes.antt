@@ -20,17 +20,17 @@ use Rattle.pfs_store_contract.specs.declared.records.State.{State}
 use Rattle.pfs_store_records.specs.Tallies.{is_tally}
 use Rattle.pfs_store_records.specs.declared.changes.Change.{Change}
 use Rattle.pfs_store_records.specs.declared.changes.Change.TheVariants as change
-use Rattle.pfs_store_records.specs.declared.nodes.Tally.{Tally}
+use Rattle.pfs_store_records.specs.declared.nodes.NodeTally.{NodeTally}
 
 -- ---- the counts of nodes
 
 -- the tally is that of the node of a scope, where there is one, and a source
-abbrev pub is_at : Option NodeScope → Addr → Tally → Bool
+abbrev pub is_at : Option NodeScope → Addr → NodeTally → Bool
 is_at None source t = false
 is_at (Some scope) source t = is_tally scope source t
 
 -- a change of the tally of one node
-abbrev pub at_node : Option NodeScope → Addr → (Tally → Tally) → Tally → Tally
+abbrev pub at_node : Option NodeScope → Addr → (NodeTally → NodeTally) → NodeTally → NodeTally
 at_node scope source change t = if is_at scope source t then change t else t
 
 -- the scope is that of a rule which tracks sources alone, or of all that do it together
@@ -38,26 +38,26 @@ abbrev pub IsScope : Conf → NodeScope → Type 0
 IsScope conf (node_scope.Rule rule) = scope_of conf rule.0 ≡ Some scope.Rule
 IsScope conf node_scope.Global = Unit {0}
 
-abbrev pub IsScoped : Conf → Tally → Type 0
+abbrev pub IsScoped : Conf → NodeTally → Type 0
 IsScoped conf t = IsScope conf t.node.scope
 
 -- no score is past the greatest
-abbrev pub IsScored : Tally → Type 0
+abbrev pub IsScored : NodeTally → Type 0
 IsScored t = t.node.score.value ≤ 4294968000
 
 -- where a rule tracks sources, this source has a node
-abbrev pub HasTallyFor : Conf → List Tally → RuleNo → Addr → Type 0
+abbrev pub HasTallyFor : Conf → List NodeTally → RuleNo → Addr → Type 0
 HasTallyFor conf tallies rule source = (scope : NodeScope) → node_scope_of conf rule.0 ≡ Some scope → list_any (is_tally scope source) tallies ≡ true
 
 -- a state of a rule that tracks sources has a node
-abbrev pub HasTally : Conf → List Tally → State → Type 0
+abbrev pub HasTally : Conf → List NodeTally → State → Type 0
 HasTally conf tallies s = HasTallyFor conf tallies s.rule s.source
 
 -- ---- a state leaves
 
 -- the counts of a node after one of its states left: a connection, or one whose handshake had not completed; if it was the last,
 -- the node may leave from a moment on
-abbrev pub left_by : Bool → ℕ → Tally → Tally
+abbrev pub left_by : Bool → ℕ → NodeTally → NodeTally
 left_by connection expires t = record {
   node = if t.states - 1 == 0 then record t.node { expires = expires } else t.node;
   states = t.states - 1;
@@ -65,21 +65,21 @@ left_by connection expires t = record {
 }
 
 -- it is kept for its retention from then on
-abbrev pub left_of : Conf → State → ℕ → Tally → Tally
+abbrev pub left_of : Conf → State → ℕ → NodeTally → NodeTally
 left_of conf s now t = left_by (is_done s.phase) (now + node_retention conf t.node.scope) t
 
 -- ---- a state comes
 
 -- the counts of a node after a new state of it
-abbrev pub joined_of : Tally → Tally
+abbrev pub joined_of : NodeTally → NodeTally
 joined_of t = record { node = t.node; states = t.states + 1; connections = t.connections }
 
 -- the tally of the node that is made with a state
-abbrev pub new_tally : NodeScope → State → Tally
+abbrev pub new_tally : NodeScope → State → NodeTally
 new_tally scope s = record { node = new_node s.number scope s.source s.last; states = 1; connections = 0 }
 
 -- the tallies after a state came
-abbrev pub tallies_with_state : Option NodeScope → State → List Tally → List Tally
+abbrev pub tallies_with_state : Option NodeScope → State → List NodeTally → List NodeTally
 tallies_with_state None s tallies = tallies
 tallies_with_state (Some scope) s tallies =
     if is_some (find (is_tally scope s.source) tallies)
@@ -94,36 +94,36 @@ scored_by None now n = n
 scored_by (Some rate) now n = record n { score = score_after rate.seconds n.score now }
 
 -- the tally of a node after a packet of one of its states, which completes its handshake or does not
-abbrev pub met_by : Option Rate → ℕ → Bool → Tally → Tally
+abbrev pub met_by : Option Rate → ℕ → Bool → NodeTally → NodeTally
 met_by rate now true t = record { node = scored_by rate now t.node; states = t.states; connections = t.connections + 1 }
 met_by rate now false t = t
 
 -- ---- what is reported of a node
 
 -- the connections of the node of a scope and a source; 0 where there is none
-abbrev pub connections_at : Option NodeScope → Addr → List Tally → ℕ
+abbrev pub connections_at : Option NodeScope → Addr → List NodeTally → ℕ
 connections_at None source tallies = 0
-connections_at (Some scope) source tallies = unwrap_or (option_map (λ (t : Tally). t.connections) (find (is_tally scope source) tallies)) 0
+connections_at (Some scope) source tallies = unwrap_or (option_map (λ (t : NodeTally). t.connections) (find (is_tally scope source) tallies)) 0
 
 -- the score of it; 0 at moment 0 where there is none
-abbrev pub score_at : Option NodeScope → Addr → List Tally → Score
+abbrev pub score_at : Option NodeScope → Addr → List NodeTally → Score
 score_at None source tallies = zero_score
-score_at (Some scope) source tallies = unwrap_or (option_map (λ (t : Tally). t.node.score) (find (is_tally scope source) tallies)) zero_score
+score_at (Some scope) source tallies = unwrap_or (option_map (λ (t : NodeTally). t.node.score) (find (is_tally scope source) tallies)) zero_score
 
 -- the counts of a node can rise
-abbrev pub IsFew : Tally → Type 0
+abbrev pub IsFew : NodeTally → Type 0
 IsFew t = (t.states < 2 ^ 63) × (t.connections < 2 ^ 63)
 
 -- ---- each change
 
 -- the tally of a node after a change
-abbrev pub changed_by : Change → Tally → Tally
+abbrev pub changed_by : Change → NodeTally → NodeTally
 changed_by change.Joined t = joined_of t
 changed_by (change.Left connection expires) t = left_by connection expires t
 changed_by (change.Completed rate now) t = met_by rate now true t
 
 -- no number of the tally passes its bound by a change, and no handshake came after it
-abbrev pub CanChange : Change → Tally → Type 0
+abbrev pub CanChange : Change → NodeTally → Type 0
 CanChange change.Joined t = IsFew t
 CanChange (change.Left connection expires) t = Unit {0}
 CanChange (change.Completed rate now) t = IsFew t × IsScored t × (t.node.score.last ≤ now) × IfSome rate IsRate

@@ -1,12 +1,12 @@
-pub mod Aside
+pub mod ApartKeys
 pub mod Changes
-pub mod Keeping
 pub mod Numbered
 pub mod Pieces
+pub mod RecordPlaces
 pub mod Records
 pub mod Retaining
 pub mod Sides
 pub mod Sourced
-pub mod Stays
+pub mod StayTimes
 pub mod Tallies
 pub mod Walks

@@ -4,7 +4,7 @@ use Rattle.std.specs.BTreeMap.{is_at}
 use Rattle.std.specs.Map.{lookup}
 use Rattle.std.specs.Ordering.{nat_cmp}
 
-pub record Numbered : Type 0 where
+pub record NumberedPlaces : Type 0 where
   pub entries : List (ℕ × ℕ)
 
 -- the first of what was left is given, and the others are left; or none was left

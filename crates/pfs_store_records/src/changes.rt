@@ -4,7 +4,7 @@ ghost use Rattle.std.specs.Prelude.{◌≡◌, ◌≤◌, IfSome};
 ghost use Rattle.pfs_conf_values.specs.Bounds.{IsRate};
 ghost use Rattle.pfs_store_records.specs.Changes.{CanChange, changed_by, left_by, scored_by};
 
-use crate::nodes::Tally;
+use crate::nodes::NodeTally;
 use pfs_conf_values::Rate;
 use pfs_store_contract::Node;
 
@@ -21,12 +21,12 @@ pub(crate) enum Change {
 }
 
 /// The tally after a change.
-pub(crate) fn changed(tally: Tally, change: Change) -> Tally
+pub(crate) fn changed(tally: NodeTally, change: Change) -> NodeTally
     requires { CanChange change tally }
     ensures { result ≡ changed_by change tally }
 {
     match change {
-        Change::Joined => Tally {
+        Change::Joined => NodeTally {
             states: tally.states + 1,
             ..tally
         },
@@ -34,7 +34,7 @@ pub(crate) fn changed(tally: Tally, change: Change) -> Tally
             connection,
             expires,
         } => left(tally, connection, expires),
-        Change::Completed { rate, now } => Tally {
+        Change::Completed { rate, now } => NodeTally {
             node: scored(tally.node, rate, now),
             states: tally.states,
             connections: tally.connections + 1,
@@ -42,11 +42,11 @@ pub(crate) fn changed(tally: Tally, change: Change) -> Tally
     }
 }
 
-fn left(tally: Tally, connection: bool, expires: u64) -> Tally
+fn left(tally: NodeTally, connection: bool, expires: u64) -> NodeTally
     ensures { result ≡ left_by connection expires tally }
 {
     let states = tally.states.saturating_sub(1);
-    Tally {
+    NodeTally {
         node: if states == 0 {
             Node {
                 expires,

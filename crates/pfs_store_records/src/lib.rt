@@ -2,25 +2,25 @@
 //! are found.
 #![tactic(auto)]
 
-mod aside;
+mod apart_keys;
 mod changes;
-mod kept;
+mod index_keys;
 mod nodes;
-mod packed;
+mod packed_state;
 mod places;
 mod records;
 mod retaining;
 mod scope_counts;
-mod sought;
+mod state_records;
 mod stays;
 mod tallying;
 mod walks;
 
-pub use kept::Kept;
-pub use nodes::{Nodes, Passed, Tally};
+pub use index_keys::{NodeKey, StateKey};
+pub use nodes::{NodeTally, Nodes, Passed};
+pub use packed_state::PackedState;
 pub use places::{Places, PlacesBetween};
 pub use records::Records;
 pub use retaining::{is_over, kept_until};
-pub use sought::{Sought, Tracked};
 pub use tallying::{Met, join, leave, meet};
-pub use walks::{Lifetimes, Round, Walk};
+pub use walks::{Lifetimes, Round, RoundWalk};

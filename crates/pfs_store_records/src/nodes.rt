@@ -8,19 +8,19 @@ ghost use Rattle.slab.specs.Slab.{ContainsKey};
 ghost use Rattle.pfs_store_contract.specs.Counts.{scope_nodes};
 ghost use Rattle.pfs_store_contract.specs.Purging.{node_numbers};
 ghost use Rattle.pfs_store_records.specs.Changes.{CanChange, at_node, changed_by};
-ghost use Rattle.pfs_store_records.specs.Keeping.{Anywhere, AreInPlace, number_of_node, tally_in, values_at};
+ghost use Rattle.pfs_store_records.specs.RecordPlaces.{Anywhere, AreInPlace, number_of_node, tally_in, values_at};
 ghost use Rattle.pfs_store_records.specs.Records.{IsAbove, IsRising, between};
 ghost use Rattle.pfs_store_records.specs.Retaining.{IsKeptUntil, is_past};
 ghost use Rattle.pfs_store_records.specs.Tallies.{IsOrderly, has_node_number, is_tally, nodes_of, other_node};
-ghost use Rattle.pfs_store_records.specs.declared.nodes.Tally.{Tally};
+ghost use Rattle.pfs_store_records.specs.declared.nodes.NodeTally.{NodeTally};
 ghost use Rattle.pfs_store_records.specs.Walks.{IsPassing, StopsWalkAt, looks_of};
 
 use crate::changes::{Change, changed};
-use crate::packed::short;
+use crate::index_keys::NodeKey;
 use crate::places::Places;
 use crate::retaining::{is_over, kept_until};
 use crate::scope_counts::ScopeCounts;
-use crate::sought::Tracked;
+use crate::state_records::short;
 use crate::walks::Round;
 use indexmap::IndexMap;
 use pfs_addr_values::{Addr, Meter, NoMemory};
@@ -32,7 +32,7 @@ use std::marker::Model;
 
 /// A source node, and what is counted of it.
 #[derive(Debug, Clone, Copy, PartialEq, Eq)]
-pub struct Tally {
+pub struct NodeTally {
     /// The node.
     pub node: Node,
     /// How many states it has.
@@ -51,26 +51,26 @@ pub struct Passed {
     /// A moment, in seconds, up to which none of them leaves that gets no state and loses none, or an earlier one.
     pub until: u64,
     /// The node at which it stopped, which leaves.
-    pub leaver: Option<Tally>,
+    pub leaver: Option<NodeTally>,
 }
 
 /// The source nodes by rising number, each with its counts. They are found by a hash of scope and source, of the hasher
 /// that is given. To read one in a walk by number is a look, and ticks the meter.
 #[derive(Drop)]
 pub struct Nodes<S: BuildHasher> {
-    slab: Slab<Tally>,
+    slab: Slab<NodeTally>,
     order: Places,
-    table: IndexMap<Tracked, u32, S>,
+    table: IndexMap<NodeKey, u32, S>,
     counts: ScopeCounts,
 }
 
 impl<S: BuildHasher> Model for Nodes<S> {
     ghost use Rattle.std.specs.Prelude.{List};
     ghost use Rattle.indexmap.specs.IndexMap.{get};
-    ghost use Rattle.pfs_store_records.specs.declared.nodes.Tally.{Tally};
-    ghost use Rattle.pfs_store_records.specs.Keeping.{IsNoted, same_source, tally_in, values_at};
+    ghost use Rattle.pfs_store_records.specs.declared.nodes.NodeTally.{NodeTally};
+    ghost use Rattle.pfs_store_records.specs.RecordPlaces.{IsNoted, same_source, tally_in, values_at};
 
-    ghost Value = { List Tally };
+    ghost Value = { List NodeTally };
 
     ghost view = { λ n. values_at (tally_in n.slab) n.order.entries };
 
@@ -121,10 +121,10 @@ impl<S: BuildHasher> Nodes<S> {
     }
 
     /// The tally of the node of a scope and source, where there is one. It takes no memory.
-    pub fn get(&self, scope: NodeScope, source: Addr) -> Option<Tally>
+    pub fn get(&self, scope: NodeScope, source: Addr) -> Option<NodeTally>
         ensures { result ≡ find (is_tally scope source) self.now }
     {
-        match self.table.get(&Tracked { scope, source }) {
+        match self.table.get(&NodeKey { scope, source }) {
             Some(place) => self.slab.get(*place as usize).copied(),
             None => None,
         }
@@ -145,7 +145,7 @@ impl<S: BuildHasher> Nodes<S> {
 
     /// Adds a node, whose number is above all others and whose scope and source no other has, with its counts. It
     /// returns `NoMemory` where memory for it is refused; nothing changes then.
-    pub fn push(&mut self, tally: Tally) -> Result<(), NoMemory>
+    pub fn push(&mut self, tally: NodeTally) -> Result<(), NoMemory>
         requires absent { find (is_tally tally.node.scope tally.node.source) self.old ≡ None }
         requires above { IsAbove tally.node.number (node_numbers (nodes_of self.old)) }
         ensures ok { OnOk result (self.new ≡ self.old ++ tally ∷ []) }
@@ -154,7 +154,7 @@ impl<S: BuildHasher> Nodes<S> {
     {
         // This call states to the proof that no count is near the greatest number, which follows from the order.
         let _count = self.order.len();
-        let source = Tracked {
+        let source = NodeKey {
             scope: tally.node.scope,
             source: tally.node.source,
         };
@@ -175,13 +175,18 @@ impl<S: BuildHasher> Nodes<S> {
 
     /// Changes the tally of the node of a scope and source, where there is one, and returns it: one search. It takes no
     /// memory.
-    pub(crate) fn change(&mut self, scope: NodeScope, source: Addr, change: Change) -> Option<Tally>
-        requires can { (t : Tally) → find (is_tally scope source) self.old ≡ Some t → CanChange change t }
+    pub(crate) fn change(
+        &mut self,
+        scope: NodeScope,
+        source: Addr,
+        change: Change,
+    ) -> Option<NodeTally>
+        requires can { (t : NodeTally) → find (is_tally scope source) self.old ≡ Some t → CanChange change t }
         ensures nodes { self.new ≡ map (at_node (Some scope) source (changed_by change)) self.old }
         ensures tally { result ≡ option_map (changed_by change) (find (is_tally scope source) self.old) }
         ensures absent { result ≡ None → (self.new ≡ self.old) × (find (is_tally scope source) self.old ≡ None) }
     {
-        match self.table.get(&Tracked { scope, source }) {
+        match self.table.get(&NodeKey { scope, source }) {
             Some(place) => {
                 let place = *place as usize;
                 let before = self.slab[place];
@@ -202,7 +207,7 @@ impl<S: BuildHasher> Nodes<S> {
         match self.order.remove(number) {
             Some(place) => {
                 let tally = self.slab.remove(place as usize);
-                self.table.swap_remove(&Tracked {
+                self.table.swap_remove(&NodeKey {
                     scope: tally.node.scope,
                     source: tally.node.source,
                 });
@@ -213,8 +218,8 @@ impl<S: BuildHasher> Nodes<S> {
     }
 }
 
-/// Reads the node at a place for a walk: the one look.
-fn look<'a>(slab: &'a Slab<Tally>, place: usize, meter: &mut Meter) -> &'a Tally
+/// Reads the node at a place for a walk, and ticks the meter. No other function reads one there.
+fn look<'a>(slab: &'a Slab<NodeTally>, place: usize, meter: &mut Meter) -> &'a NodeTally
     requires held { ContainsKey slab.now place }
     requires room { meter.old < 2 ^ 64 - 1 }
     ensures value { tally_in slab.now place ≡ Some result.now }
@@ -226,7 +231,7 @@ fn look<'a>(slab: &'a Slab<Tally>, place: usize, meter: &mut Meter) -> &'a Tally
 
 #[inline(never)]
 fn walk_range(
-    slab: &Slab<Tally>,
+    slab: &Slab<NodeTally>,
     order: &Places,
     round: Round,
     share: u64,

@@ -21,9 +21,9 @@ use std::ops::Bound;
 
 /// A number, in falling order.
 #[derive(Clone, Copy, PartialEq, Eq)]
-struct Falling(u64);
+struct Reverse(u64);
 
-impl Model for Falling {
+impl Model for Reverse {
     ghost use Rattle.std.specs.Prelude.{ℕ};
 
     ghost Value = { ℕ };
@@ -33,17 +33,17 @@ impl Model for Falling {
     ghost inverse = { λ n. record { 0 = n } };
 }
 
-impl PartialOrd for Falling {
+impl PartialOrd for Reverse {
     ghost partial_cmp = { as_partial_cmp (flip_args nat_cmp) };
 
     ghost laws = { Prim.search (comparing, rules) };
 
-    fn partial_cmp(&self, other: &Falling) -> Option<Ordering> {
+    fn partial_cmp(&self, other: &Reverse) -> Option<Ordering> {
         Some(self.cmp(other))
     }
 }
 
-impl Ord for Falling {
+impl Ord for Reverse {
     ghost cmp = { flip_args nat_cmp };
 
     ghost total = { Prim.search (comparing, rules) };
@@ -52,7 +52,7 @@ impl Ord for Falling {
 
     ghost matches_eq = { Prim.search (comparing, rules) };
 
-    fn cmp(&self, other: &Falling) -> Ordering {
+    fn cmp(&self, other: &Reverse) -> Ordering {
         other.0.cmp(&self.0)
     }
 }
@@ -62,7 +62,7 @@ impl Ord for Falling {
 /// where it goes.
 #[derive(Drop)]
 pub struct Places {
-    falling: BTreeMap<Falling, u32>,
+    falling: BTreeMap<Reverse, u32>,
 }
 
 impl Model for Places {
@@ -70,9 +70,9 @@ impl Model for Places {
     ghost use Rattle.std.specs.List.Sorted.{IsStrictlySortedBy};
     ghost use Rattle.std.specs.Map.{keys_of};
     ghost use Rattle.std.specs.Ordering.{flip_args, nat_cmp};
-    ghost use Rattle.pfs_store_records.specs.Numbered.{Numbered};
+    ghost use Rattle.pfs_store_records.specs.Numbered.{NumberedPlaces};
 
-    ghost Value = { Numbered };
+    ghost Value = { NumberedPlaces };
 
     ghost view = { λ p. record { entries = reverse p.falling.entries } };
 
@@ -104,7 +104,7 @@ impl Places {
         ensures value { result ≡ lookup (is_at (nat_cmp number)) self.now.entries }
         ensures ordered { IsRising (keys_of self.now.entries) }
     {
-        self.falling.get(&Falling(number)).copied()
+        self.falling.get(&Reverse(number)).copied()
     }
 
     /// Adds a number above all others, with its place. It returns `NoMemory` where memory for it is refused; nothing changes then.
@@ -115,7 +115,7 @@ impl Places {
         ensures err { OnErr result (self.new.entries ≡ self.old.entries) }
         ensures ordered { IsRising (keys_of self.new.entries) }
     {
-        match self.falling.insert(Falling(number), place) {
+        match self.falling.insert(Reverse(number), place) {
             Ok(_) => Ok(()),
             Err(_) => Err(NoMemory),
         }
@@ -128,7 +128,7 @@ impl Places {
         ensures updates { HasPlace number None self.old.entries self.new.entries }
         ensures ordered { IsRising (keys_of self.new.entries) }
     {
-        self.falling.remove(&Falling(number))
+        self.falling.remove(&Reverse(number))
     }
 
     /// The places of the numbers above one, and up to another, by rising number: one search. It takes no memory.
@@ -139,8 +139,8 @@ impl Places {
     {
         PlacesBetween {
             falling: self.falling.range((
-                Bound::Included(Falling(most)),
-                Bound::Excluded(Falling(above)),
+                Bound::Included(Reverse(most)),
+                Bound::Excluded(Reverse(above)),
             )),
         }
     }
@@ -149,7 +149,7 @@ impl Places {
 /// What is left of the places of a range of numbers. Callers see them by rising number.
 #[derive(Drop)]
 pub struct PlacesBetween<'a> {
-    falling: Range<'a, Falling, u32>,
+    falling: Range<'a, Reverse, u32>,
 }
 
 impl<'a> Model for PlacesBetween<'a> {

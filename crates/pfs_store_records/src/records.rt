@@ -8,16 +8,16 @@ ghost use Rattle.pfs_store_contract.specs.Calls.{onward_key, other_than};
 ghost use Rattle.pfs_store_contract.specs.Counts.{half_open};
 ghost use Rattle.pfs_store_contract.specs.Purging.{state_numbers};
 ghost use Rattle.pfs_store_contract.specs.Worlds.{holds_number};
-ghost use Rattle.pfs_store_records.specs.Aside.{IsKeptAt};
+ghost use Rattle.pfs_store_records.specs.ApartKeys.{IsKeptAt};
 ghost use Rattle.pfs_store_records.specs.Records.{IsAbove, IsRecordAt, IsRising, leaves_number, placed_at, renewed_at, stands_at, states_of};
 ghost use Rattle.pfs_store_records.specs.Sourced.{IsSourced};
 ghost use Rattle.pfs_store_records.specs.Walks.{IsWalk, StayUntil, end_of, state_has_expired, looks_of};
 
-use crate::aside::Aside;
-use crate::kept::Kept;
-use crate::packed::Packed;
+use crate::apart_keys::ApartKeys;
+use crate::packed_state::PackedState;
 use crate::places::Places;
-use crate::walks::{Lifetimes, Round, Walk};
+use crate::state_records::StateRecords;
+use crate::walks::{Lifetimes, Round, RoundWalk};
 use pfs_addr_values::{Dir, FlowKey, Meter, NoMemory};
 use pfs_store_contract::State;
 use pfs_track::StatePhase;
@@ -28,13 +28,13 @@ use std::marker::Model;
 /// is removed. To read a record is a look, and ticks the meter. Of a state whose keys are apart both keys lie aside.
 #[derive(Drop)]
 pub struct Records {
-    packed: Packed,
-    aside: Aside,
+    packed: StateRecords,
+    aside: ApartKeys,
 }
 
 impl Model for Records {
     ghost use Rattle.std.specs.Prelude.{List, map};
-    ghost use Rattle.pfs_store_records.specs.Aside.{AreHeld, whole_record};
+    ghost use Rattle.pfs_store_records.specs.ApartKeys.{AreHeld, whole_record};
     ghost use Rattle.pfs_store_records.specs.Records.{Placed, states_of};
 
     ghost Value = { List Placed };
@@ -50,8 +50,8 @@ impl Records {
         ensures { result ≡ [] }
     {
         Records {
-            packed: Packed::new(alloc),
-            aside: Aside::new(alloc),
+            packed: StateRecords::new(alloc),
+            aside: ApartKeys::new(alloc),
         }
     }
 
@@ -123,7 +123,7 @@ impl Records {
     }
 
     /// The record at this place, which has all of its state but the keys: one look, and no search. It takes no memory.
-    pub fn record_at(&self, place: u32, meter: &mut Meter) -> &Kept
+    pub fn record_at(&self, place: u32, meter: &mut Meter) -> &PackedState
         requires held { list_any (stands_at place) self.now ≡ true }
         requires room { meter.old < 2 ^ 64 - 1 }
         ensures value { IsKeptAt place result.now self.now }
@@ -142,7 +142,7 @@ impl Records {
         now: u64,
         lifetimes: &T,
         meter: &mut Meter,
-    ) -> Walk
+    ) -> RoundWalk
         requires range { round.cursor ≤ round.mark }
         requires room { meter.old + share < 2 ^ 64 }
         ensures walk { IsWalk (state_has_expired (T.lifetime lifetimes.now) now) (states_of self.now) round.cursor round.mark share

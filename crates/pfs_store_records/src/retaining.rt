@@ -4,13 +4,13 @@ ghost use Rattle.std.specs.Prelude.{◌≡◌, ◌+◌, ◌≤◌, ◌^◌};
 ghost use Rattle.pfs_store_contract.specs.Leaving.{node_retention};
 ghost use Rattle.pfs_store_records.specs.Retaining.{IsKeptUntil, is_past};
 
-use crate::nodes::Tally;
+use crate::nodes::NodeTally;
 use pfs_conf_values::Config;
 use pfs_store_contract::NodeScope;
 use pfs_store_rules::node_retention;
 
 /// Up to when a node stays, as long as it gets no state and loses none.
-pub fn kept_until(tally: &Tally) -> u64
+pub fn kept_until(tally: &NodeTally) -> u64
     ensures { IsKeptUntil result tally.now }
 {
     if tally.states == 0 {
@@ -21,7 +21,7 @@ pub fn kept_until(tally: &Tally) -> u64
 }
 
 /// Whether a node has no state, and the moment has come from which it may leave.
-pub fn is_over(tally: &Tally, now: u64) -> bool
+pub fn is_over(tally: &NodeTally, now: u64) -> bool
     ensures { result ≡ is_past now tally.now }
 {
     tally.states == 0 && tally.node.expires <= now

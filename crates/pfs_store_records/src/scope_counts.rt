@@ -3,7 +3,7 @@
 ghost use Rattle.std.specs.Prelude.{◌≡◌, ◌+◌, ◌-◌, ◌<◌, ◌^◌, ℕ, OnErr, OnOk};
 ghost use Rattle.pfs_store_contract.specs.Counts.{same_scope};
 ghost use Rattle.pfs_store_contract.specs.declared.records.NodeScope.{NodeScope};
-ghost use Rattle.pfs_store_records.specs.Keeping.{HasRoom, SameCounts, one_if};
+ghost use Rattle.pfs_store_records.specs.RecordPlaces.{HasRoom, SameCounts, one_if};
 ghost use Rattle.pfs_store_records.specs.Tallies.{count_of};
 
 use pfs_addr_values::NoMemory;

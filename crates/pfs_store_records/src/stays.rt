@@ -3,9 +3,9 @@
 ghost use Rattle.std.specs.Prelude.{◌≡◌, ◌+◌, ◌≤◌, false, true, IfSome, None};
 ghost use Rattle.pfs_track.specs.Lifetimes.{is_expired};
 ghost use Rattle.pfs_track.specs.StatePhases.{slot};
-ghost use Rattle.pfs_store_records.specs.Stays.{IsStay};
+ghost use Rattle.pfs_store_records.specs.StayTimes.{IsStay};
 
-use crate::kept::Kept;
+use crate::packed_state::PackedState;
 use crate::walks::Lifetimes;
 use pfs_conf_values::{RuleNo, TimeoutName};
 use pfs_track::is_expired;
@@ -34,7 +34,7 @@ impl Stay {
 
     /// How long the state of a record may stay. It is not inlined, so that a walk over states of one kind takes few steps.
     #[inline(never)]
-    pub(crate) fn of<T: Lifetimes>(lifetimes: &T, kept: &Kept) -> Stay
+    pub(crate) fn of<T: Lifetimes>(lifetimes: &T, kept: &PackedState) -> Stay
         ensures value { result.seconds ≡ T.lifetime lifetimes.now kept.now.rule (slot kept.now.phase) }
         ensures known { IsStay (T.lifetime lifetimes.now) result }
     {
@@ -48,7 +48,7 @@ impl Stay {
     }
 
     /// It is known of the rule and the timeout of a record.
-    pub(crate) fn is_of(&self, kept: &Kept) -> bool
+    pub(crate) fn is_of(&self, kept: &PackedState) -> bool
         ensures { result ≡ true → (self.now.is_known ≡ true) × (self.now.rule ≡ kept.now.rule) × (self.now.timeout ≡ slot kept.now.phase) }
     {
         self.is_known && self.rule == kept.rule() && self.timeout == kept.timeout()
@@ -57,7 +57,7 @@ impl Stay {
 
 /// Up to when the state of a record stays that may stay so many seconds, or an earlier moment; none where it
 /// has expired at the second `now`.
-pub(crate) fn stays_until(kept: &Kept, seconds: u64, now: u64) -> Option<u64>
+pub(crate) fn stays_until(kept: &PackedState, seconds: u64, now: u64) -> Option<u64>
     ensures none { result ≡ None → is_expired seconds kept.now.last now ≡ true }
     ensures some { IfSome result (λ until. is_expired seconds kept.now.last now ≡ false) }
     ensures until { IfSome result (λ until. until ≤ kept.now.last + seconds) }

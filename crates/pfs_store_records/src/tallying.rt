@@ -13,7 +13,7 @@ ghost use Rattle.pfs_store_records.specs.Tallies.{is_tally, nodes_of};
 ghost use Rattle.pfs_store_records.specs.Changes.{HasTallyFor, IsFew, IsScored, at_node, connections_at, tallies_with_state, left_of, met_by, score_at};
 
 use crate::changes::Change;
-use crate::nodes::{Nodes, Tally};
+use crate::nodes::{NodeTally, Nodes};
 use crate::retaining::end_of_retention;
 use pfs_addr_values::{Addr, NoMemory};
 use pfs_conf_values::{Config, Rate, RuleNo};
@@ -55,7 +55,7 @@ pub fn join<S: BuildHasher>(
         None => Ok(()),
         Some(scope) => match nodes.change(scope, state.source, Change::Joined) {
             Some(_) => Ok(()),
-            None => nodes.push(Tally {
+            None => nodes.push(NodeTally {
                 node: Node {
                     number: state.number,
                     scope,
@@ -144,7 +144,7 @@ fn meet_at<S: BuildHasher>(
     rate: Option<Rate>,
     completed: bool,
     now: u64,
-) -> Tally
+) -> NodeTally
     requires has { list_any (is_tally scope source) nodes.old ≡ true }
     requires few { AllByRecursion IsFew nodes.old }
     requires scored { AllByRecursion IsScored nodes.old }

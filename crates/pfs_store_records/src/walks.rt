@@ -21,7 +21,7 @@ pub trait Lifetimes {
 
 /// How far a walk came.
 #[derive(Debug, Clone, Copy, PartialEq, Eq)]
-pub struct Walk {
+pub struct RoundWalk {
     /// How many states it passed by, none of which has expired.
     pub stayed: u64,
     /// The number of the last of them, or that above which the walk began.

@@ -12,7 +12,7 @@ use std::marker::Model;
 
 /// How often a reader was read, of how many times it may be, and how the reads ended.
 #[derive(Clone, Copy, Debug)]
-pub struct Reads {
+pub struct ReadCount {
     bound: u64,
     made: u64,
     failures: u64,
@@ -32,7 +32,7 @@ pub struct Reads {
 #[derive(Debug, Drop)]
 pub struct Feed<R> {
     reader: R,
-    reads: Reads,
+    reads: ReadCount,
 }
 
 impl<R> Model for Feed<R> {
@@ -50,7 +50,7 @@ impl<R> Feed<R> {
     {
         Feed {
             reader,
-            reads: Reads {
+            reads: ReadCount {
                 bound: reads,
                 made: 0,
                 failures: 0,
@@ -88,7 +88,7 @@ impl<R> Feed<R> {
     pub fn spent(&self) -> bool
         ensures { IsTrue result ↔ IsSpent self.now }
     {
-        let Reads {
+        let ReadCount {
             bound,
             made,
             failures,
@@ -98,7 +98,7 @@ impl<R> Feed<R> {
     }
 
     /// The reads that were made, of how many, and how they ended.
-    pub fn reads(&self) -> Reads
+    pub fn reads(&self) -> ReadCount
         ensures { HasReads self.now result.bound result.made result.failures result.ended }
     {
         self.reads
@@ -140,13 +140,13 @@ pub struct Begun<'a, R> {
 /// once.
 #[derive(Drop)]
 pub struct GivenBack {
-    reads: Reads,
+    reads: ReadCount,
     ghost was_read: { BeganWell reads.made reads.failures },
 }
 
 impl<R> Begun<'_, R> {
     /// Ends the loan. `lent` is what `reads` gave as the feed was lent; where the two have other bounds, that is given back.
-    pub fn give_back(self, lent: Reads) -> GivenBack
+    pub fn give_back(self, lent: ReadCount) -> GivenBack
         requires lent { BeganWell lent.made lent.failures }
         ensures bound { result.reads.bound ≡ lent.bound }
         ensures reads { lent.bound ≡ bound_of self.entry.feed →

@@ -7,7 +7,7 @@ mod sinks;
 mod splitting;
 mod writing;
 
-pub use feeds::{Begun, Feed, GivenBack, Reads};
+pub use feeds::{Begun, Feed, GivenBack, ReadCount};
 pub use rules::{RulesStop, read_rules};
 pub use sinks::{Sink, sink_of};
 pub use splitting::read_joined;

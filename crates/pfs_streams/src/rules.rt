@@ -2,7 +2,7 @@
 
 ghost use Rattle.std.specs.Prelude.{◌≡◌, Some, Err, ◌≤◌, ◌+◌, ℕ, List, true, IfOk, length, drop};
 ghost use Rattle.pfs_streams.specs.Feeds.{HasFailed, bound_of, unread, has_ended, read_failures};
-ghost use Rattle.pfs_streams.specs.Kept.{KeepsEnough, rules_limit};
+ghost use Rattle.pfs_streams.specs.RulesKept.{KeepsEnough, rules_limit};
 
 use crate::feeds::Feed;
 use pfs_conf_tokens::TEXT_LIMIT;

@@ -1,7 +1,7 @@
 //! The rules of a text that has a trace after them, up to the line between the two.
 
 ghost use Rattle.std.specs.Prelude.{◌≡◌, Some, ◌<◌, ◌≤◌, ◌-◌, ◌^◌, ℕ, List, IfOk, OnOk, length, take};
-ghost use Rattle.pfs_streams.specs.Kept.{KeepsEnough, rules_limit};
+ghost use Rattle.pfs_streams.specs.RulesKept.{KeepsEnough, rules_limit};
 ghost use Rattle.pfs_streams.specs.Joined.{split_joined};
 ghost use Rattle.pfs_streams.specs.Places.{IsPastSplit, ends_split, place_after, place_over, split_at, split_mark};
 
@@ -16,7 +16,7 @@ const KEPT_LIMIT: usize = TEXT_LIMIT + 3;
 
 /// Where in a line a reader is.
 #[derive(Clone, Copy)]
-enum Place {
+enum LinePlace {
     /// At its start.
     Start,
     /// After one `%`, which is all so far.
@@ -27,29 +27,29 @@ enum Place {
     Inside,
 }
 
-impl Place {
+impl LinePlace {
     /// Whether this byte ends the split line.
     fn splits(self, byte: u8) -> bool
         ensures { result ≡ ends_split self byte }
     {
-        matches!((self, byte), (Place::Percents, b'\n'))
+        matches!((self, byte), (LinePlace::Percents, b'\n'))
     }
 
     /// The place after one byte more, which does not end the split line.
-    fn after(self, byte: u8) -> Place
+    fn after(self, byte: u8) -> LinePlace
         ensures { result ≡ place_after self byte }
     {
         match (self, byte) {
-            (_, b'\n') => Place::Start,
-            (Place::Start, b'%') => Place::Percent,
-            (Place::Percent, b'%') => Place::Percents,
-            _ => Place::Inside,
+            (_, b'\n') => LinePlace::Start,
+            (LinePlace::Start, b'%') => LinePlace::Percent,
+            (LinePlace::Percent, b'%') => LinePlace::Percents,
+            _ => LinePlace::Inside,
         }
     }
 
     /// The place after these bytes; none where the split line ends among them.
     #[tactic(auto, unfolding(crate::specs::Places::place_over))]
-    fn over(self, bytes: &[u8]) -> Option<Place>
+    fn over(self, bytes: &[u8]) -> Option<LinePlace>
         ensures { result ≡ place_over self bytes.now }
     {
         let mut place = self;
@@ -64,19 +64,19 @@ impl Place {
 }
 
 /// The bytes without those of a split line that ends here.
-fn without_mark(kept: Vec<u8>, place: Place) -> Vec<u8>
+fn without_mark(kept: Vec<u8>, place: LinePlace) -> Vec<u8>
     requires { length (split_mark place) ≤ length kept.items }
     ensures { result.items ≡ take (length kept.items - length (split_mark place)) kept.items }
 {
     let mut kept = kept;
-    if let Place::Percents = place {
+    if let LinePlace::Percents = place {
         kept.truncate(kept.len() - 2);
     }
     kept
 }
 
 /// Reads on after the rules that are kept, to the split line or the end, by chunks that are given up.
-fn read_on<B: Read>(input: &mut B, place: Place) -> Result<(), RulesStop>
+fn read_on<B: Read>(input: &mut B, place: LinePlace) -> Result<(), RulesStop>
     ensures past { OnOk result ((xs : List ℕ) → B.remaining input.old ≡ Some xs → length xs < 2 ^ 64 - 1 →
         IsPastSplit (split_at place xs) (B.remaining input.new)) }
 {
@@ -109,7 +109,7 @@ pub fn read_joined<B: Read>(alloc: Global, input: &mut B) -> Result<Vec<u8>, Rul
         IsPastSplit (split_joined xs) (B.remaining input.new)) }
 {
     let mut kept = Vec::new(alloc);
-    let mut place = Place::Start;
+    let mut place = LinePlace::Start;
     let mut byte = [0];
     'bytes: while kept.len() < KEPT_LIMIT {
         match input.read(&mut byte) {

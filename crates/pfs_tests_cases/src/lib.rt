@@ -22,7 +22,7 @@ pub use crate::outcomes::outcome_of;
 pub use crate::packets::{
     A1, A2, ACK, FIN_ACK, NONE, RST, S6, SERVER, SERVER6, SYN, SYN_ACK, Sent, between, packet,
 };
-pub use crate::rows::{Came, Case, Row};
+pub use crate::rows::{Case, CaseRow, RowEvent};
 pub use crate::scripts::{Script, entry, hosts};
 pub use crate::texts::{ANCHORED, EVERYTHING, HEADER, SHOWN, UNSCALED, configured};
 

@@ -19,7 +19,7 @@ fn read(words: &str) -> Option<Outcome> {
         "delete" => Some(Outcome::Delete(removed(rest)?)),
         "add" => Some(Outcome::Add(entered(rest)?)),
         "kill" => Some(Outcome::Killed(number(rest.strip_prefix("- killed=")?)?)),
-        "held" => Some(Outcome::Held(amounts(rest)?)),
+        "held" => Some(Outcome::HeldAnswer(amounts(rest)?)),
         "pass" => Some(Outcome::Pass(rule_or_none(rest)?)),
         "cookie" if rest == "-" => Some(Outcome::Cookie),
         "drop:cookie" => Some(Outcome::Stateless(rule_or_none(rest)?)),
@@ -45,7 +45,7 @@ fn removed(rest: &str) -> Option<u64> {
 fn entered(rest: &str) -> Option<Entered> {
     match rest {
         "- added" => Some(Entered::New),
-        "- held" => Some(Entered::Held),
+        "- held" => Some(Entered::AlreadyThere),
         "- conflict" => Some(Entered::Conflict),
         "- full" => Some(Entered::Full),
         _ => None,
@@ -86,7 +86,7 @@ fn overload(word: &str) -> Option<Option<Added>> {
     match word {
         "none" => Some(None),
         "added" => Some(Some(Added::New)),
-        "held" => Some(Some(Added::Held)),
+        "held" => Some(Some(Added::AlreadyThere)),
         "full" => Some(Some(Added::Full)),
         _ => None,
     }

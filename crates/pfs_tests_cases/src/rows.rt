@@ -4,7 +4,7 @@ use pfs_addr_values::Addr;
 
 /// What comes of a source.
 #[derive(Debug, Clone, Copy)]
-pub enum Came {
+pub enum RowEvent {
     /// A UDP packet to this port of the server.
     Udp(u16),
     /// The first packet of a TCP handshake with port 80 of the server.
@@ -34,13 +34,13 @@ pub enum Came {
 }
 
 /// When, in seconds; what, of which source, from which of its ports; and what the report says of it, behind the number of its line.
-pub type Row = (u64, Came, Addr, u16, &'static str);
+pub type CaseRow = (u64, RowEvent, Addr, u16, &'static str);
 
 /// Rules, what comes under them, and how many states, source nodes and entries are held in the end.
 #[derive(Clone, Copy)]
 pub struct Case {
     pub shows: &'static str,
     pub rules: &'static str,
-    pub rows: &'static [Row],
+    pub rows: &'static [CaseRow],
     pub end: (u64, u64, u64),
 }

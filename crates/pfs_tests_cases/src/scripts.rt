@@ -3,7 +3,7 @@
 use crate::errors::{CaseError, grown};
 use crate::outcomes::outcome_of;
 use crate::packets::{ACK, FIN_ACK, RST, SYN, SYN_ACK, Sent, packet};
-use crate::rows::{Came, Row};
+use crate::rows::{CaseRow, RowEvent};
 use pfs_addr::parse_prefix;
 use pfs_addr_values::{Addr, Prefix};
 use pfs_conf_values::{RuleNo, TableNo};
@@ -21,7 +21,7 @@ pub struct Script {
 
 impl Script {
     /// The script of some rows.
-    pub fn of(alloc: Global, rows: &[Row]) -> Result<Script, CaseError> {
+    pub fn of(alloc: Global, rows: &[CaseRow]) -> Result<Script, CaseError> {
         let mut script = Script {
             packets: 0,
             events: Vec::new(alloc),
@@ -33,31 +33,31 @@ impl Script {
         Ok(script)
     }
 
-    fn add(&mut self, row: &Row) -> Result<(), CaseError> {
+    fn add(&mut self, row: &CaseRow) -> Result<(), CaseError> {
         let (time, came, source, port, words) = *row;
         let outcome = outcome_of(words)?;
         let sent = match came {
-            Came::Udp(to) => Sent::Udp(to),
-            Came::Syn => Sent::Tcp(80, SYN),
-            Came::SynAck => Sent::Answer(SYN_ACK),
-            Came::Ack => Sent::Tcp(80, ACK),
-            Came::Fin => Sent::Tcp(80, FIN_ACK),
-            Came::Reset => Sent::Tcp(80, RST),
-            Came::Ping => return self.put(time, Arrival::Skip, outcome),
-            Came::Ask => return self.put(time, Arrival::Held, outcome),
-            Came::Kill(from, to) => {
+            RowEvent::Udp(to) => Sent::Udp(to),
+            RowEvent::Syn => Sent::Tcp(80, SYN),
+            RowEvent::SynAck => Sent::Answer(SYN_ACK),
+            RowEvent::Ack => Sent::Tcp(80, ACK),
+            RowEvent::Fin => Sent::Tcp(80, FIN_ACK),
+            RowEvent::Reset => Sent::Tcp(80, RST),
+            RowEvent::Ping => return self.put(time, Arrival::Skip, outcome),
+            RowEvent::Ask => return self.put(time, Arrival::HeldQuery, outcome),
+            RowEvent::Kill(from, to) => {
                 return self.put(time, Arrival::Kill(hosts(from, to)?), outcome);
             }
-            Came::Expire(seconds) => {
+            RowEvent::Expire(seconds) => {
                 return self.command(time, "bad", Command::Expire(seconds), outcome);
             }
-            Came::Add(table, text) => {
+            RowEvent::Add(table, text) => {
                 return self.command(time, table, Command::Add(entry(text)?), outcome);
             }
-            Came::Delete(table, text) => {
+            RowEvent::Delete(table, text) => {
                 return self.command(time, table, Command::Delete(entry(text)?), outcome);
             }
-            Came::Shake(rule) => {
+            RowEvent::Shake(rule) => {
                 self.begin_handshake(time, source, port, RuleNo(rule))?;
                 Sent::Tcp(80, ACK)
             }

@@ -2,15 +2,15 @@
 
 ghost use Rattle.std.specs.Prelude.{◌≤◌};
 
-use crate::kinds::Kind;
-use crate::telling::{Stop, Teller, begin, begin_case, begin_free, end, plain, refused};
+use crate::kinds::StoreKind;
+use crate::telling::{Teller, TellingStop, begin, begin_case, begin_free, end, plain, refused};
 use pfs_addr_values::{Packet, RUN_LIMIT};
 use pfs_conf::{Config, TableNo};
 use pfs_engine::{Arrival, Engine, Event, Outcome};
 use pfs_engine_machine::{Command, Entered, FromTo};
 use pfs_store::Store;
 use pfs_tests_cases::{
-    A1, A2, Came, Case, FLUSH, NOT_REMOVED, REMOVED, RETENTION, Script, UNSCALED, are_allowed,
+    A1, A2, Case, FLUSH, NOT_REMOVED, REMOVED, RETENTION, RowEvent, Script, UNSCALED, are_allowed,
     configured, is_in_order, is_in_time, may_change, may_come,
 };
 
@@ -22,15 +22,15 @@ const CASES: &[Case] = &[
         rules: "set limit table-entries 1\ntable <bad> { 203.0.113.9 }\n\
             pass in proto tcp to any port 80 keep state (max-src-conn 1, overload <bad>)",
         rows: &[
-            (0, Came::Shake(0), A1, 1000, "state @0"),
+            (0, RowEvent::Shake(0), A1, 1000, "state @0"),
             (
                 0,
-                Came::Shake(0),
+                RowEvent::Shake(0),
                 A1,
                 1001,
                 "kill:max-src-conn @0 overload=full killed=1",
             ),
-            (0, Came::Udp(53), A1, 1, "pass -"),
+            (0, RowEvent::Udp(53), A1, 1, "pass -"),
         ],
         end: (1, 1, 1),
     },
@@ -39,14 +39,14 @@ const CASES: &[Case] = &[
         rules: "pass in proto udp all\n\
             pass in proto tcp to any port 80 keep state (max-src-conn 1)",
         rows: &[
-            (0, Came::Shake(1), A1, 1000, "state @1"),
-            (0, Came::Udp(53), A1, 1, "new @0"),
-            (1, Came::Udp(53), A2, 1, "new @0"),
-            (1, Came::Udp(53), A2, 2, "new @0"),
-            (2, Came::Udp(53), A2, 1, "state @0"),
+            (0, RowEvent::Shake(1), A1, 1000, "state @1"),
+            (0, RowEvent::Udp(53), A1, 1, "new @0"),
+            (1, RowEvent::Udp(53), A2, 1, "new @0"),
+            (1, RowEvent::Udp(53), A2, 2, "new @0"),
+            (2, RowEvent::Udp(53), A2, 1, "state @0"),
             (
                 3,
-                Came::Shake(1),
+                RowEvent::Shake(1),
                 A1,
                 1001,
                 "kill:max-src-conn @1 overload=none killed=1",
@@ -60,14 +60,14 @@ const CASES: &[Case] = &[
             set syncookies always\n\
             pass in proto tcp to any port 80 keep state (max 1)",
         rows: &[
-            (0, Came::Syn, A1, 1000, "cookie -"),
-            (0, Came::Syn, A1, 1000, "cookie -"),
-            (0, Came::Syn, A2, 1000, "cookie -"),
-            (0, Came::Ack, A1, 1000, "proxy:new @0"),
-            (0, Came::Ack, A1, 1000, "proxy:asks @0"),
-            (15, Came::Syn, A1, 1001, "cookie -"),
-            (16, Came::Ack, A2, 1000, "drop:max @0"),
-            (45, Came::Ack, A1, 1001, "pass -"),
+            (0, RowEvent::Syn, A1, 1000, "cookie -"),
+            (0, RowEvent::Syn, A1, 1000, "cookie -"),
+            (0, RowEvent::Syn, A2, 1000, "cookie -"),
+            (0, RowEvent::Ack, A1, 1000, "proxy:new @0"),
+            (0, RowEvent::Ack, A1, 1000, "proxy:asks @0"),
+            (15, RowEvent::Syn, A1, 1001, "cookie -"),
+            (16, RowEvent::Ack, A2, 1000, "drop:max @0"),
+            (45, RowEvent::Ack, A1, 1001, "pass -"),
         ],
         end: (1, 0, 0),
     },
@@ -75,21 +75,63 @@ const CASES: &[Case] = &[
         shows: "an administrator adds entries, takes one out and asks",
         rules: "set limit table-entries 3\nblock in quick from <bad>\npass in proto udp all",
         rows: &[
-            (0, Came::Ask, A1, 0, "held - states=0 nodes=0 entries=0"),
-            (0, Came::Add("bad", "198.51.100.0/24"), A1, 0, "add - added"),
-            (1, Came::Udp(53), A1, 1, "block @0"),
-            (1, Came::Add("bad", "!198.51.100.1"), A1, 0, "add - added"),
-            (1, Came::Add("bad", "198.51.100.1"), A1, 0, "add - conflict"),
-            (1, Came::Udp(53), A1, 1, "new @1"),
-            (2, Came::Add("bad", "2001:db8::/32"), A1, 0, "add - added"),
-            (2, Came::Add("bad", "2001:db8::/32"), A1, 0, "add - held"),
-            (2, Came::Add("bad", "10.0.0.0/8"), A1, 0, "add - full"),
-            (3, Came::Delete("bad", "2001:db8::/32"), A1, 0, REMOVED),
-            (3, Came::Delete("bad", "2001:db8::/32"), A1, 0, NOT_REMOVED),
-            (3, Came::Add("bad", "10.0.0.0/8"), A1, 0, "add - added"),
-            (4, Came::Expire(3), A1, 0, "expire - removed=2"),
-            (4, Came::Ask, A1, 0, "held - states=1 nodes=0 entries=1"),
-            (4, Came::Kill("198.51.100.1", ""), A1, 0, "kill - killed=1"),
+            (0, RowEvent::Ask, A1, 0, "held - states=0 nodes=0 entries=0"),
+            (
+                0,
+                RowEvent::Add("bad", "198.51.100.0/24"),
+                A1,
+                0,
+                "add - added",
+            ),
+            (1, RowEvent::Udp(53), A1, 1, "block @0"),
+            (
+                1,
+                RowEvent::Add("bad", "!198.51.100.1"),
+                A1,
+                0,
+                "add - added",
+            ),
+            (
+                1,
+                RowEvent::Add("bad", "198.51.100.1"),
+                A1,
+                0,
+                "add - conflict",
+            ),
+            (1, RowEvent::Udp(53), A1, 1, "new @1"),
+            (
+                2,
+                RowEvent::Add("bad", "2001:db8::/32"),
+                A1,
+                0,
+                "add - added",
+            ),
+            (
+                2,
+                RowEvent::Add("bad", "2001:db8::/32"),
+                A1,
+                0,
+                "add - held",
+            ),
+            (2, RowEvent::Add("bad", "10.0.0.0/8"), A1, 0, "add - full"),
+            (3, RowEvent::Delete("bad", "2001:db8::/32"), A1, 0, REMOVED),
+            (
+                3,
+                RowEvent::Delete("bad", "2001:db8::/32"),
+                A1,
+                0,
+                NOT_REMOVED,
+            ),
+            (3, RowEvent::Add("bad", "10.0.0.0/8"), A1, 0, "add - added"),
+            (4, RowEvent::Expire(3), A1, 0, "expire - removed=2"),
+            (4, RowEvent::Ask, A1, 0, "held - states=1 nodes=0 entries=1"),
+            (
+                4,
+                RowEvent::Kill("198.51.100.1", ""),
+                A1,
+                0,
+                "kill - killed=1",
+            ),
         ],
         end: (0, 0, 1),
     },
@@ -100,12 +142,12 @@ fn has_overload(case: &Case) -> bool {
     case.rules.contains("overload")
 }
 
-fn config_of(teller: &Teller, case: &Case) -> Result<Config, Stop> {
+fn config_of(teller: &Teller, case: &Case) -> Result<Config, TellingStop> {
     Ok(configured(teller.alloc(), UNSCALED, case.rules)?)
 }
 
 /// Engines over a kind of store.
-pub fn tell<S: Kind + Drop>(teller: &Teller) -> Result<(), Stop> {
+pub fn tell<S: StoreKind + Drop>(teller: &Teller) -> Result<(), TellingStop> {
     for case in CASES {
         if !make::<S>(teller, case)? {
             make::<S>(teller, case)?;
@@ -118,7 +160,7 @@ pub fn tell<S: Kind + Drop>(teller: &Teller) -> Result<(), Stop> {
 }
 
 /// Whether a new engine was made, which is before the first event.
-fn make<S: Kind + Drop>(teller: &Teller, case: &Case) -> Result<bool, Stop> {
+fn make<S: StoreKind + Drop>(teller: &Teller, case: &Case) -> Result<bool, TellingStop> {
     let config = config_of(teller, case)?;
     let store = S::empty(teller.alloc(), &config)?;
     begin(teller, "Engine::new")?;
@@ -130,23 +172,23 @@ fn make<S: Kind + Drop>(teller: &Teller, case: &Case) -> Result<bool, Stop> {
     }
 }
 
-fn engine_of<S: Kind + Drop>(teller: &Teller, case: &Case) -> Result<Engine<S>, Stop> {
+fn engine_of<S: StoreKind + Drop>(teller: &Teller, case: &Case) -> Result<Engine<S>, TellingStop> {
     let config = config_of(teller, case)?;
     let store = S::empty(teller.alloc(), &config)?;
     Ok(Engine::new(teller.alloc(), config, store)?)
 }
 
-fn walk_one<S: Kind + Drop>(teller: &Teller, case: &Case) -> Result<(), Stop> {
+fn walk_one<S: StoreKind + Drop>(teller: &Teller, case: &Case) -> Result<(), TellingStop> {
     let mut engine = engine_of::<S>(teller, case)?;
     walk(teller, &mut engine, case)
 }
 
-fn step_one<S: Kind + Drop>(teller: &Teller, case: &Case) -> Result<(), Stop> {
+fn step_one<S: StoreKind + Drop>(teller: &Teller, case: &Case) -> Result<(), TellingStop> {
     let mut engine = engine_of::<S>(teller, case)?;
     step_each(teller, &mut engine, case)
 }
 
-fn run_one<S: Kind + Drop>(teller: &Teller, case: &Case) -> Result<(), Stop> {
+fn run_one<S: StoreKind + Drop>(teller: &Teller, case: &Case) -> Result<(), TellingStop> {
     let mut engine = engine_of::<S>(teller, case)?;
     run_all(teller, &mut engine, case)
 }
@@ -162,7 +204,7 @@ fn held<S: Store>(engine: &Engine<S>) -> (u64, u64, u64, u64) {
 }
 
 /// The events one by one.
-fn walk<S: Store>(teller: &Teller, engine: &mut Engine<S>, case: &Case) -> Result<(), Stop> {
+fn walk<S: Store>(teller: &Teller, engine: &mut Engine<S>, case: &Case) -> Result<(), TellingStop> {
     let script = Script::of(teller.alloc(), case.rows)?;
     for (event, outcome) in script.events.iter().zip(&script.outcomes) {
         take_event(teller, engine, case, event, *outcome)?;
@@ -178,9 +220,13 @@ fn walk<S: Store>(teller: &Teller, engine: &mut Engine<S>, case: &Case) -> Resul
 }
 
 /// All entries of the table leave, those of the text too.
-fn expire<S: Store>(teller: &Teller, engine: &mut Engine<S>, case: &Case) -> Result<(), Stop> {
+fn expire<S: Store>(
+    teller: &Teller,
+    engine: &mut Engine<S>,
+    case: &Case,
+) -> Result<(), TellingStop> {
     if engine.last().is_none() || !may_change(engine.config(), TableNo(0)) {
-        return Err(Stop::Input);
+        return Err(TellingStop::Input);
     }
     let (states, nodes, entries, taken) = held(engine);
     begin_free(teller, "expire")?;
@@ -204,7 +250,7 @@ fn take_event<S: Store>(
     case: &Case,
     event: &Event,
     wanted: Outcome,
-) -> Result<(), Stop> {
+) -> Result<(), TellingStop> {
     advance(teller, engine, event.time)?;
     match &event.what {
         Arrival::Packet(packet) => {
@@ -220,8 +266,8 @@ fn take_event<S: Store>(
             Ok(())
         }
         Arrival::Kill(hosts) => kill(teller, engine, hosts, wanted),
-        Arrival::Held => ask(teller, engine, wanted),
-        Arrival::Skip => Err(Stop::Input),
+        Arrival::HeldQuery => ask(teller, engine, wanted),
+        Arrival::Skip => Err(TellingStop::Input),
     }
 }
 
@@ -232,9 +278,9 @@ fn change<S: Store>(
     table: TableNo,
     command: &Command,
     wanted: Outcome,
-) -> Result<bool, Stop> {
+) -> Result<bool, TellingStop> {
     if engine.last().is_none() || !may_change(engine.config(), table) {
-        return Err(Stop::Input);
+        return Err(TellingStop::Input);
     }
     let before = (held(engine), engine.last());
     begin_change(teller, wanted, command_name(command))?;
@@ -262,7 +308,7 @@ fn command_name(command: &Command) -> &'static str {
 }
 
 /// A call begins that takes memory only for an entry that is new.
-fn begin_change(teller: &Teller, wanted: Outcome, call: &'static str) -> Result<(), Stop> {
+fn begin_change(teller: &Teller, wanted: Outcome, call: &'static str) -> Result<(), TellingStop> {
     match wanted {
         Outcome::Add(Entered::New) => begin_case(teller, call, " of an entry that is new"),
         _ => begin_free(teller, call),
@@ -274,9 +320,9 @@ fn kill<S: Store>(
     engine: &mut Engine<S>,
     hosts: &FromTo,
     wanted: Outcome,
-) -> Result<(), Stop> {
+) -> Result<(), TellingStop> {
     if engine.last().is_none() {
-        return Err(Stop::Input);
+        return Err(TellingStop::Input);
     }
     begin_free(teller, "kill")?;
     let killed = engine.kill(hosts);
@@ -285,17 +331,21 @@ fn kill<S: Store>(
     Ok(())
 }
 
-fn ask<S: Store>(teller: &Teller, engine: &Engine<S>, wanted: Outcome) -> Result<(), Stop> {
+fn ask<S: Store>(teller: &Teller, engine: &Engine<S>, wanted: Outcome) -> Result<(), TellingStop> {
     begin_free(teller, "amounts")?;
     let told = engine.amounts();
     end(teller)?;
-    plain(teller, Outcome::Held(told) == wanted)?;
+    plain(teller, Outcome::HeldAnswer(told) == wanted)?;
     Ok(())
 }
 
-fn advance<S: Store>(teller: &Teller, engine: &mut Engine<S>, time: u64) -> Result<(), Stop> {
+fn advance<S: Store>(
+    teller: &Teller,
+    engine: &mut Engine<S>,
+    time: u64,
+) -> Result<(), TellingStop> {
     if !is_in_time(engine.last(), time) {
-        return Err(Stop::Input);
+        return Err(TellingStop::Input);
     }
     begin_free(teller, "advance")?;
     engine.advance(time);
@@ -310,10 +360,10 @@ fn take<S: Store>(
     case: &Case,
     packet: &Packet,
     wanted: Outcome,
-) -> Result<bool, Stop> {
+) -> Result<bool, TellingStop> {
     let taken = engine.taken();
     if engine.last().is_none() || taken >= RUN_LIMIT {
-        return Err(Stop::Input);
+        return Err(TellingStop::Input);
     }
     let before = (held(engine), engine.last());
     begin_for(teller, case, wanted, "packet")?;
@@ -331,7 +381,7 @@ fn begin_for(
     case: &Case,
     wanted: Outcome,
     call: &'static str,
-) -> Result<(), Stop> {
+) -> Result<(), TellingStop> {
     match wanted {
         Outcome::New(_) | Outcome::Answered(_) => {
             begin_case(teller, call, " that makes a state")
@@ -345,7 +395,11 @@ fn begin_for(
 }
 
 /// The events by one call each, with the time up to them; once more where memory was refused.
-fn step_each<S: Store>(teller: &Teller, engine: &mut Engine<S>, case: &Case) -> Result<(), Stop> {
+fn step_each<S: Store>(
+    teller: &Teller,
+    engine: &mut Engine<S>,
+    case: &Case,
+) -> Result<(), TellingStop> {
     let script = Script::of(teller.alloc(), case.rows)?;
     for (event, outcome) in script.events.iter().zip(&script.outcomes) {
         let row = (event, *outcome);
@@ -366,15 +420,15 @@ fn step<S: Store>(
     engine: &mut Engine<S>,
     case: &Case,
     row: (&Event, Outcome),
-) -> Result<bool, Stop> {
+) -> Result<bool, TellingStop> {
     let (event, wanted) = row;
     let taken = engine.taken();
     let entries = engine.entries();
     if !is_in_time(engine.last(), event.time) || taken >= RUN_LIMIT {
-        return Err(Stop::Input);
+        return Err(TellingStop::Input);
     }
     if !may_come(engine.config(), &event.what) {
-        return Err(Stop::Input);
+        return Err(TellingStop::Input);
     }
     begin_for(teller, case, wanted, "step")?;
     let answer = engine.step(event);
@@ -403,7 +457,11 @@ fn packets_of(event: &Event) -> u64
 }
 
 /// All events by one call; where it is refused, those that are left by another.
-fn run_all<S: Store>(teller: &Teller, engine: &mut Engine<S>, case: &Case) -> Result<(), Stop> {
+fn run_all<S: Store>(
+    teller: &Teller,
+    engine: &mut Engine<S>,
+    case: &Case,
+) -> Result<(), TellingStop> {
     let script = Script::of(teller.alloc(), case.rows)?;
     let mut outcomes = Vec::new(teller.alloc());
     if !run_once(teller, engine, &script, &mut outcomes, case)? {
@@ -418,14 +476,14 @@ fn run_once<S: Store>(
     script: &Script,
     outcomes: &mut Vec<Outcome>,
     case: &Case,
-) -> Result<bool, Stop> {
+) -> Result<bool, TellingStop> {
     let done = outcomes.len().min(script.events.len());
     let events = &script.events[done..];
     if !is_in_order(engine.last(), events) || engine.taken() > 1_000 || events.len() > 1_000 {
-        return Err(Stop::Input);
+        return Err(TellingStop::Input);
     }
     if !are_allowed(engine.config(), events) {
-        return Err(Stop::Input);
+        return Err(TellingStop::Input);
     }
     begin(teller, "run")?;
     let answer = engine.run(events, outcomes);

@@ -9,7 +9,7 @@ use pfs_store::{IndexStore, PlainStore, Store};
 use std::alloc::Global;
 
 /// A kind of store.
-pub trait Kind: Store {
+pub trait StoreKind: Store {
     /// The name of the call.
     fn call() -> &'static str;
 
@@ -19,7 +19,7 @@ pub trait Kind: Store {
         ensures empty { IfOk result (λ s. Self.world s ≡ empty_world) };
 }
 
-impl Kind for PlainStore {
+impl StoreKind for PlainStore {
     fn call() -> &'static str {
         "PlainStore::new"
     }
@@ -29,7 +29,7 @@ impl Kind for PlainStore {
     }
 }
 
-impl Kind for IndexStore {
+impl StoreKind for IndexStore {
     fn call() -> &'static str {
         "IndexStore::new"
     }

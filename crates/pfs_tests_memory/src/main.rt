@@ -13,7 +13,7 @@ mod tables;
 mod telling;
 mod texts;
 
-use crate::telling::{Stop, Teller, code_of, is_chosen};
+use crate::telling::{Teller, TellingStop, code_of, is_chosen};
 use pfs_store::{IndexStore, PlainStore};
 use std::env;
 use std::process::ExitCode;
@@ -36,7 +36,7 @@ const PARTS: [&str; 9] = [
 ];
 
 /// What the words name, or everything, and then that it is whole.
-fn tell_all(rt: &HostRuntime) -> Result<(), Stop> {
+fn tell_all(rt: &HostRuntime) -> Result<(), TellingStop> {
     let words: Vec<String> = env::args(rt)?.collect(rt.alloc())?;
     let chosen = match words.get(1) {
         Some(word) => word.as_str(),
@@ -51,7 +51,7 @@ fn tell_all(rt: &HostRuntime) -> Result<(), Stop> {
     teller.sum()
 }
 
-fn tell(teller: &Teller, part: &str) -> Result<(), Stop> {
+fn tell(teller: &Teller, part: &str) -> Result<(), TellingStop> {
     match part {
         "addresses" => texts::tell_addresses(teller),
         "texts" => texts::tell_texts(teller),

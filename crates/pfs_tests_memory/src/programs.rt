@@ -4,7 +4,7 @@ ghost use Rattle.std.specs.Prelude.{IfOk};
 ghost use Rattle.pfs_streams.specs.Sinks.{OwesNoFlush};
 
 use crate::rules_texts::{FULL, NODES, OVERLOAD};
-use crate::telling::{Stop, Teller, begin, begin_free, end, plain, refused, wrong};
+use crate::telling::{Teller, TellingStop, begin, begin_free, end, plain, refused, wrong};
 use clap::error::ErrorKind;
 use pfs_cli::{
     Feed, Job, ReplayFault, Sink, Tally, check, job, perform, print, replay, replay_joined, status,
@@ -12,9 +12,9 @@ use pfs_cli::{
 use pfs_tests_cases::{EVERYTHING, SHOWN};
 
 /// Rules, a trace, and its report.
-type Row = (&'static [u8], &'static [u8], &'static [u8]);
+type ProgramRow = (&'static [u8], &'static [u8], &'static [u8]);
 
-const TRACES: &[Row] = &[
+const TRACES: &[ProgramRow] = &[
     (
         NODES,
         b"time,dir,if,proto,src,sport,dst,dport,flags\n\
@@ -70,7 +70,7 @@ const WORDS: &[Words] = &[
 ];
 
 /// Replays of rules and traces, apart and in one text.
-pub fn tell_replays(teller: &Teller) -> Result<(), Stop> {
+pub fn tell_replays(teller: &Teller) -> Result<(), TellingStop> {
     for row in TRACES {
         if !replay_one(teller, row)? {
             replay_one(teller, row)?;
@@ -83,7 +83,7 @@ pub fn tell_replays(teller: &Teller) -> Result<(), Stop> {
     Ok(())
 }
 
-fn tell_joined(teller: &Teller, row: &Row) -> Result<(), Stop> {
+fn tell_joined(teller: &Teller, row: &ProgramRow) -> Result<(), TellingStop> {
     let mut text = Vec::from_slice(teller.alloc(), row.0)?;
     text.extend_from_slice(b"%%\n")?;
     text.extend_from_slice(row.1)?;
@@ -97,13 +97,13 @@ fn tell_joined(teller: &Teller, row: &Row) -> Result<(), Stop> {
 }
 
 /// Room for all that is written: so no write needs more.
-fn sink(teller: &Teller) -> Result<Sink<Vec<u8>>, Stop>
+fn sink(teller: &Teller) -> Result<Sink<Vec<u8>>, TellingStop>
     ensures { IfOk result OwesNoFlush }
 {
     Ok(Sink::new(Vec::with_capacity(teller.alloc(), 4096)?))
 }
 
-fn replay_one(teller: &Teller, row: &Row) -> Result<bool, Stop> {
+fn replay_one(teller: &Teller, row: &ProgramRow) -> Result<bool, TellingStop> {
     let mut out = sink(teller)?;
     let mut rules = Feed::new(row.0, 99);
     let mut trace = Feed::new(row.1, 99);
@@ -119,7 +119,7 @@ fn replay_one(teller: &Teller, row: &Row) -> Result<bool, Stop> {
     tell_report(teller, answer, &out.into_inner(), row.2)
 }
 
-fn perform_replay(teller: &Teller, row: &Row) -> Result<bool, Stop> {
+fn perform_replay(teller: &Teller, row: &ProgramRow) -> Result<bool, TellingStop> {
     let (answer, written) = performed(
         teller,
         "perform replay",
@@ -137,7 +137,7 @@ fn performed(
     task: &Job,
     rules: &[u8],
     trace: &[u8],
-) -> Result<(Result<(), ReplayFault>, Vec<u8>), Stop> {
+) -> Result<(Result<(), ReplayFault>, Vec<u8>), TellingStop> {
     let mut out = sink(teller)?;
     let mut rules = Feed::new(rules, 99);
     let mut trace = Feed::new(trace, 99);
@@ -154,7 +154,7 @@ fn performed(
     Ok((answer, out.into_inner()))
 }
 
-fn joined_one(teller: &Teller, text: &[u8], report: &[u8]) -> Result<bool, Stop> {
+fn joined_one(teller: &Teller, text: &[u8], report: &[u8]) -> Result<bool, TellingStop> {
     let mut out = sink(teller)?;
     let mut input = Feed::new(text, 99);
     begin(teller, "replay_joined")?;
@@ -163,7 +163,7 @@ fn joined_one(teller: &Teller, text: &[u8], report: &[u8]) -> Result<bool, Stop>
     tell_report(teller, answer, &out.into_inner(), report)
 }
 
-fn perform_joined(teller: &Teller, text: &[u8], report: &[u8]) -> Result<bool, Stop> {
+fn perform_joined(teller: &Teller, text: &[u8], report: &[u8]) -> Result<bool, TellingStop> {
     let (answer, written) = performed(teller, "perform joined", &Job::Joined, text, b"")?;
     tell_report(teller, answer, &written, report)
 }
@@ -174,7 +174,7 @@ fn tell_report(
     answer: Result<(), ReplayFault>,
     written: &[u8],
     report: &[u8],
-) -> Result<bool, Stop> {
+) -> Result<bool, TellingStop> {
     judge(
         teller,
         answer,
@@ -189,7 +189,7 @@ fn judge(
     answer: Result<(), ReplayFault>,
     is_whole: bool,
     is_front: bool,
-) -> Result<bool, Stop> {
+) -> Result<bool, TellingStop> {
     match answer {
         Ok(()) => plain(teller, is_whole),
         Err(ReplayFault::Memory) => refused(teller, is_front),
@@ -204,7 +204,7 @@ fn are_first_lines(written: &[u8], report: &[u8]) -> bool {
 }
 
 /// What is reported of rules, and the words of the command line.
-pub fn tell_jobs(teller: &Teller) -> Result<(), Stop> {
+pub fn tell_jobs(teller: &Teller) -> Result<(), TellingStop> {
     for (name, text) in &[("check", COUNTS), ("print", SHOWN)] {
         if !tell_one(teller, name, text)? {
             tell_one(teller, name, text)?;
@@ -224,7 +224,7 @@ pub fn tell_jobs(teller: &Teller) -> Result<(), Stop> {
 }
 
 /// The call of this name, `check` or `print`.
-fn tell_one(teller: &Teller, name: &'static str, text: &[u8]) -> Result<bool, Stop> {
+fn tell_one(teller: &Teller, name: &'static str, text: &[u8]) -> Result<bool, TellingStop> {
     let mut out = sink(teller)?;
     let mut rules = Feed::new(EVERYTHING, 99);
     begin(teller, name)?;
@@ -242,7 +242,7 @@ fn tell_one(teller: &Teller, name: &'static str, text: &[u8]) -> Result<bool, St
     )
 }
 
-fn perform_one(teller: &Teller, task: &Job, text: &[u8]) -> Result<bool, Stop> {
+fn perform_one(teller: &Teller, task: &Job, text: &[u8]) -> Result<bool, TellingStop> {
     let (answer, written) = performed(teller, "perform check or show", task, EVERYTHING, b"")?;
     judge(
         teller,
@@ -252,7 +252,7 @@ fn perform_one(teller: &Teller, task: &Job, text: &[u8]) -> Result<bool, Stop> {
     )
 }
 
-fn job_one(teller: &Teller, row: &Words) -> Result<bool, Stop> {
+fn job_one(teller: &Teller, row: &Words) -> Result<bool, TellingStop> {
     let (words, wanted) = *row;
     begin(teller, "job")?;
     let answer = job(teller.alloc(), words);
@@ -269,7 +269,7 @@ fn job_one(teller: &Teller, row: &Words) -> Result<bool, Stop> {
     }
 }
 
-fn status_one(teller: &Teller) -> Result<(), Stop> {
+fn status_one(teller: &Teller) -> Result<(), TellingStop> {
     begin_free(teller, "status")?;
     let code = status(&ReplayFault::Memory);
     end(teller)?;

@@ -4,9 +4,9 @@ ghost use Rattle.std.specs.Prelude.{◌≡◌, None, false};
 ghost use Rattle.pfs_store_contract.specs.Admission.{key_inside, wire_key};
 ghost use Rattle.pfs_store_contract.specs.Worlds.{IsUpToNow, state_inside, state_with};
 
-use crate::kinds::Kind;
+use crate::kinds::StoreKind;
 use crate::rules_texts::NODES;
-use crate::telling::{Stop, Teller, begin, begin_free, end, plain, refused, wrong};
+use crate::telling::{Teller, TellingStop, begin, begin_free, end, plain, refused, wrong};
 use pfs_addr_values::{Addr, Dir, FlowKey, Meter, Packet, RUN_LIMIT};
 use pfs_conf::{Config, RuleNo, load};
 use pfs_store::{Limit, StateNo, Store};
@@ -30,7 +30,7 @@ enum Ask {
     /// The first one, of a rule that does not: it takes no memory for a source node.
     FirstUntracked,
     /// A later state of a rule that tracks sources.
-    Tracked,
+    SourceTracked,
     /// One of a rule that does not.
     Untracked,
     /// A state where a limit is met: no memory is taken.
@@ -42,7 +42,7 @@ enum Ask {
 }
 
 /// What is asked, a source and a port, the rule, and the number of the state or the limit that is met.
-type Row = (Ask, Addr, u16, u32, Result<u64, Limit>);
+type StoreCallRow = (Ask, Addr, u16, u32, Result<u64, Limit>);
 
 const A3: Addr = Addr::V4([198, 51, 100, 3]);
 
@@ -58,16 +58,16 @@ const A8: Addr = Addr::V4([198, 51, 100, 8]);
 
 const A9: Addr = Addr::V4([198, 51, 100, 9]);
 
-const ROWS: &[Row] = &[
+const ROWS: &[StoreCallRow] = &[
     (Ask::FirstTracked, A1, 1, 0, Ok(1)),
-    (Ask::Tracked, A1, 2, 0, Ok(2)),
+    (Ask::SourceTracked, A1, 2, 0, Ok(2)),
     (Ask::Untracked, A1, 3, 1, Ok(3)),
-    (Ask::Tracked, A2, 1, 0, Ok(4)),
+    (Ask::SourceTracked, A2, 1, 0, Ok(4)),
     (Ask::AtLimit, A3, 1, 0, Err(Limit::MaxSrcNodes)),
-    (Ask::Tracked, A1, 4, 0, Ok(5)),
-    (Ask::Tracked, A1, 5, 0, Ok(6)),
-    (Ask::Tracked, A1, 6, 0, Ok(7)),
-    (Ask::Tracked, A1, 7, 0, Ok(8)),
+    (Ask::SourceTracked, A1, 4, 0, Ok(5)),
+    (Ask::SourceTracked, A1, 5, 0, Ok(6)),
+    (Ask::SourceTracked, A1, 6, 0, Ok(7)),
+    (Ask::SourceTracked, A1, 7, 0, Ok(8)),
     (Ask::AtLimit, A1, 8, 0, Err(Limit::MaxSrcStates)),
     (Ask::Untracked, A2, 2, 1, Ok(9)),
     (Ask::Untracked, A2, 3, 1, Ok(10)),
@@ -79,7 +79,7 @@ const ROWS: &[Row] = &[
     (Ask::AtLimit, A2, 8, 0, Err(Limit::States)),
 ];
 
-const UNTRACKED_ROWS: &[Row] = &[
+const UNTRACKED_ROWS: &[StoreCallRow] = &[
     (Ask::FirstUntracked, A1, 1, 0, Ok(1)),
     (Ask::Untracked, A1, 2, 0, Ok(2)),
     (Ask::Untracked, A2, 1, 0, Ok(3)),
@@ -87,8 +87,8 @@ const UNTRACKED_ROWS: &[Row] = &[
 ];
 
 /// Of many nodes some want more room.
-const STRAY_ROWS: &[Row] = &[
-    (Ask::Tracked, A1, 1, 0, Ok(1)),
+const STRAY_ROWS: &[StoreCallRow] = &[
+    (Ask::SourceTracked, A1, 1, 0, Ok(1)),
     (Ask::AtLimit, A1, 2, 0, Err(Limit::Max)),
     (Ask::Stray, A2, 1, 0, Err(Limit::Max)),
     (Ask::AtLimit, A2, 2, 0, Err(Limit::Max)),
@@ -102,7 +102,7 @@ const STRAY_ROWS: &[Row] = &[
 ];
 
 /// A kind of store.
-pub fn tell<S: Kind + Drop>(teller: &Teller) -> Result<(), Stop> {
+pub fn tell<S: StoreKind + Drop>(teller: &Teller) -> Result<(), TellingStop> {
     for text in &[EVERYTHING, NODES, LIMITED] {
         let config = load(teller.alloc(), text)?;
         if !make::<S>(teller, &config)? {
@@ -116,7 +116,7 @@ pub fn tell<S: Kind + Drop>(teller: &Teller) -> Result<(), Stop> {
 }
 
 /// Whether a new store was made, which holds nothing.
-fn make<S: Kind + Drop>(teller: &Teller, config: &Config) -> Result<bool, Stop> {
+fn make<S: StoreKind + Drop>(teller: &Teller, config: &Config) -> Result<bool, TellingStop> {
     begin(teller, S::call())?;
     let made = S::empty(teller.alloc(), config);
     end(teller)?;
@@ -126,27 +126,27 @@ fn make<S: Kind + Drop>(teller: &Teller, config: &Config) -> Result<bool, Stop> 
     }
 }
 
-fn fill_first<S: Kind + Drop>(teller: &Teller) -> Result<(), Stop> {
+fn fill_first<S: StoreKind + Drop>(teller: &Teller) -> Result<(), TellingStop> {
     let config = load(teller.alloc(), LIMITED)?;
     let mut store = S::empty(teller.alloc(), &config)?;
     fill(teller, &mut store, &config)
 }
 
-fn fill_second<S: Kind + Drop>(teller: &Teller) -> Result<(), Stop> {
+fn fill_second<S: StoreKind + Drop>(teller: &Teller) -> Result<(), TellingStop> {
     let config = load(teller.alloc(), UNTRACKED)?;
     let mut store = S::empty(teller.alloc(), &config)?;
     fill_again(teller, &mut store, &config)
 }
 
 /// Refusals under a profile by which they leave source nodes.
-fn leave_nodes<S: Kind + Drop>(teller: &Teller) -> Result<(), Stop> {
+fn leave_nodes<S: StoreKind + Drop>(teller: &Teller) -> Result<(), TellingStop> {
     let config = load(teller.alloc(), PROFILED)?;
     let mut store = S::empty(teller.alloc(), &config)?;
     admit_all(teller, &mut store, &config, STRAY_ROWS)
 }
 
 /// The first state of a store, and its second packet, which takes no memory.
-fn touch_first<S: Kind + Drop>(teller: &Teller) -> Result<(), Stop> {
+fn touch_first<S: StoreKind + Drop>(teller: &Teller) -> Result<(), TellingStop> {
     let config = load(teller.alloc(), LIMITED)?;
     let mut store = S::empty(teller.alloc(), &config)?;
     admit_and_touch(teller, &mut store, &config)
@@ -157,7 +157,7 @@ fn counts<S: Store>(store: &S) -> (u64, u64, u64) {
     (store.state_count(), store.node_count(), store.made())
 }
 
-fn fill<S: Store>(teller: &Teller, store: &mut S, config: &Config) -> Result<(), Stop>
+fn fill<S: Store>(teller: &Teller, store: &mut S, config: &Config) -> Result<(), TellingStop>
     requires made_for { S.config store.old ≡ config.now }
 {
     admit_all(teller, store, config, ROWS)?;
@@ -165,7 +165,7 @@ fn fill<S: Store>(teller: &Teller, store: &mut S, config: &Config) -> Result<(),
 }
 
 /// Where no source is tracked, and a state has left: the next one takes its room, and no room is made for a source node.
-fn fill_again<S: Store>(teller: &Teller, store: &mut S, config: &Config) -> Result<(), Stop>
+fn fill_again<S: Store>(teller: &Teller, store: &mut S, config: &Config) -> Result<(), TellingStop>
     requires made_for { S.config store.old ≡ config.now }
 {
     admit_all(teller, store, config, UNTRACKED_ROWS)?;
@@ -178,13 +178,17 @@ fn fill_again<S: Store>(teller: &Teller, store: &mut S, config: &Config) -> Resu
     Ok(())
 }
 
-fn admit_and_touch<S: Store>(teller: &Teller, store: &mut S, config: &Config) -> Result<(), Stop>
+fn admit_and_touch<S: Store>(
+    teller: &Teller,
+    store: &mut S,
+    config: &Config,
+) -> Result<(), TellingStop>
     requires made_for { S.config store.old ≡ config.now }
     requires order { IsUpToNow 5 (S.world store.old) }
 {
     let packet = packet(&Sent::Udp(53), A1, 1)?;
     if admit_first(store, config, &packet, 5)?.is_err() {
-        return Err(Stop::Input);
+        return Err(TellingStop::Input);
     }
     touch(teller, store, &packet, 5)
 }
@@ -194,13 +198,13 @@ fn admit_first<S: Store>(
     config: &Config,
     packet: &Packet,
     now: u64,
-) -> Result<Result<StateNo, Limit>, Stop>
+) -> Result<Result<StateNo, Limit>, TellingStop>
     requires made_for { S.config store.old ≡ config.now }
     requires order { IsUpToNow now (S.world store.old) }
     ensures order { IsUpToNow now (S.world store.new) }
 {
     if is_held(store, packet) || config.options(RuleNo(0)).is_none() || store.made() >= RUN_LIMIT {
-        return Err(Stop::Input);
+        return Err(TellingStop::Input);
     }
     Ok(store.admit(packet, packet, RuleNo(0), false, now)?)
 }
@@ -214,15 +218,20 @@ fn is_held<S: Store>(store: &S, packet: &Packet) -> bool
         || store.find_inside(&inner_key(packet, packet)).is_some()
 }
 
-fn touch<S: Store>(teller: &Teller, store: &mut S, packet: &Packet, now: u64) -> Result<(), Stop>
+fn touch<S: Store>(
+    teller: &Teller,
+    store: &mut S,
+    packet: &Packet,
+    now: u64,
+) -> Result<(), TellingStop>
     requires order { IsUpToNow now (S.world store.old) }
 {
     let key = FlowKey::of(packet);
     let Some(found) = store.find(&key) else {
-        return Err(Stop::Input);
+        return Err(TellingStop::Input);
     };
     if !store.holds(found.number) {
-        return Err(Stop::Input);
+        return Err(TellingStop::Input);
     }
     let before = counts(store);
     let mut meter = Meter::new();
@@ -245,8 +254,8 @@ fn admit_all<S: Store>(
     teller: &Teller,
     store: &mut S,
     config: &Config,
-    rows: &[Row],
-) -> Result<(), Stop>
+    rows: &[StoreCallRow],
+) -> Result<(), TellingStop>
     requires made_for { S.config store.old ≡ config.now }
     ensures made_for { S.config store.new ≡ config.now }
 {
@@ -259,7 +268,12 @@ fn admit_all<S: Store>(
 }
 
 /// A state of a rule, or the limit that is met, at which no memory is taken but for a node that is left.
-fn admit<S: Store>(teller: &Teller, store: &mut S, config: &Config, row: &Row) -> Result<bool, Stop>
+fn admit<S: Store>(
+    teller: &Teller,
+    store: &mut S,
+    config: &Config,
+    row: &StoreCallRow,
+) -> Result<bool, TellingStop>
     requires made_for { S.config store.old ≡ config.now }
     ensures made_for { S.config store.new ≡ config.now }
 {
@@ -291,11 +305,11 @@ fn after_refusal(ask: Ask, before: (u64, u64, u64)) -> (u64, u64, u64) {
     }
 }
 
-fn begin_ask(teller: &Teller, ask: Ask) -> Result<(), Stop> {
+fn begin_ask(teller: &Teller, ask: Ask) -> Result<(), TellingStop> {
     match ask {
         Ask::FirstTracked => begin(teller, "first admit where sources are tracked"),
         Ask::FirstUntracked => begin(teller, "first admit where no sources are tracked"),
-        Ask::Tracked => begin(teller, "admit where sources are tracked"),
+        Ask::SourceTracked => begin(teller, "admit where sources are tracked"),
         Ask::Untracked => begin(teller, "admit where no sources are tracked"),
         Ask::AtLimit => begin_free(teller, "admit at a limit"),
         Ask::Stray => begin(teller, "admit where a refusal leaves a node"),
@@ -309,12 +323,12 @@ fn admit_one<S: Store>(
     config: &Config,
     packet: &Packet,
     rule: RuleNo,
-) -> Result<Option<Result<u64, Limit>>, Stop>
+) -> Result<Option<Result<u64, Limit>>, TellingStop>
     requires made_for { S.config store.old ≡ config.now }
     ensures made_for { S.config store.new ≡ config.now }
 {
     if is_held(store, packet) || config.options(rule).is_none() || store.made() >= RUN_LIMIT {
-        return Err(Stop::Input);
+        return Err(TellingStop::Input);
     }
     match store.admit(packet, packet, rule, false, 5) {
         Ok(Ok(number)) => Ok(Some(Ok(number.0))),
@@ -324,7 +338,7 @@ fn admit_one<S: Store>(
 }
 
 /// A state is killed, those of a source are flushed, and slices take the others away.
-fn take_away<S: Store>(teller: &Teller, store: &mut S) -> Result<(), Stop> {
+fn take_away<S: Store>(teller: &Teller, store: &mut S) -> Result<(), TellingStop> {
     if !store.holds(StateNo(1)) {
         wrong(teller)?;
         return Ok(());
@@ -334,10 +348,10 @@ fn take_away<S: Store>(teller: &Teller, store: &mut S) -> Result<(), Stop> {
     purge(teller, store)
 }
 
-fn kill<S: Store>(teller: &Teller, store: &mut S) -> Result<(), Stop> {
+fn kill<S: Store>(teller: &Teller, store: &mut S) -> Result<(), TellingStop> {
     let first = packet(&Sent::Udp(53), A1, 1)?;
     let Some(found) = store.find(&FlowKey::of(&first)) else {
-        return Err(Stop::Input);
+        return Err(TellingStop::Input);
     };
     let mut meter = Meter::new();
     begin_free(teller, "kill")?;
@@ -347,7 +361,7 @@ fn kill<S: Store>(teller: &Teller, store: &mut S) -> Result<(), Stop> {
     Ok(())
 }
 
-fn flush<S: Store>(teller: &Teller, store: &mut S) -> Result<(), Stop> {
+fn flush<S: Store>(teller: &Teller, store: &mut S) -> Result<(), TellingStop> {
     let mut meter = Meter::new();
     begin_free(teller, "flush")?;
     let killed = store.flush(Dir::In, A1, Some(RuleNo(0)), 6, &mut meter);
@@ -356,7 +370,7 @@ fn flush<S: Store>(teller: &Teller, store: &mut S) -> Result<(), Stop> {
     Ok(())
 }
 
-fn purge<S: Store>(teller: &Teller, store: &mut S) -> Result<(), Stop> {
+fn purge<S: Store>(teller: &Teller, store: &mut S) -> Result<(), TellingStop> {
     begin_free(teller, "slices")?;
     for second in 0..20u64 {
         let mut meter = Meter::new();

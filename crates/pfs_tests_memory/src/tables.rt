@@ -1,18 +1,18 @@
-//! Tables of hosts, and the book of the rules.
+//! Tables of hosts, and the compiled ruleset.
 
 ghost use Rattle.std.specs.Prelude.{◌≡◌, ◌<◌, length};
 
 use crate::rules_texts::{FULL, NODES, OVERLOAD};
-use crate::telling::{Stop, Teller, answered, begin, begin_free, end, plain, refused};
+use crate::telling::{Teller, TellingStop, answered, begin, begin_free, end, plain, refused};
 use pfs_addr_values::{Addr, Meter, NoMemory, Packet};
 use pfs_conf::{Config, RuleNo, TableNo, load};
-use pfs_eval::{Added, Book, Entered, NoSides, Tables};
+use pfs_eval::{Added, CompiledRuleset, Entered, NoSides, Tables};
 use pfs_tests_cases::{A1, EVERYTHING, S6, Sent, entry, packet};
 
 /// Rules, how many entries they have, and the rule that decides on a packet of UDP.
-type Row = (&'static [u8], u64, Option<u32>);
+type TableCallRow = (&'static [u8], u64, Option<u32>);
 
-const RULES: &[Row] = &[
+const RULES: &[TableCallRow] = &[
     (EVERYTHING, 2, None),
     (NODES, 0, Some(0)),
     (OVERLOAD, 0, Some(1)),
@@ -25,7 +25,7 @@ const HOSTS: &[u8] = b"set limit table-entries 41\ntable <bad> { 203.0.113.9 }\n
 const FREE: u8 = 40;
 
 /// Tables and books of rules, and hosts that are added, with room made before and without.
-pub fn tell_tables(teller: &Teller) -> Result<(), Stop> {
+pub fn tell_tables(teller: &Teller) -> Result<(), TellingStop> {
     let udp = packet(&Sent::Udp(53), A1, 1)?;
     for row in RULES {
         let config = load(teller.alloc(), row.0)?;
@@ -33,14 +33,19 @@ pub fn tell_tables(teller: &Teller) -> Result<(), Stop> {
     }
     let config = load(teller.alloc(), HOSTS)?;
     if config.table_count() != 1 {
-        return Err(Stop::Input);
+        return Err(TellingStop::Input);
     }
     add_with_room(teller, &config)?;
     add_without_room(teller, &config)?;
     enter_and_delete(teller, &config)
 }
 
-fn tell_book(teller: &Teller, config: &Config, row: &Row, udp: &Packet) -> Result<(), Stop> {
+fn tell_book(
+    teller: &Teller,
+    config: &Config,
+    row: &TableCallRow,
+    udp: &Packet,
+) -> Result<(), TellingStop> {
     if !new_tables(teller, config, row.1)? {
         new_tables(teller, config, row.1)?;
     }
@@ -51,7 +56,7 @@ fn tell_book(teller: &Teller, config: &Config, row: &Row, udp: &Packet) -> Resul
     Ok(())
 }
 
-fn new_tables(teller: &Teller, config: &Config, entries: u64) -> Result<bool, Stop> {
+fn new_tables(teller: &Teller, config: &Config, entries: u64) -> Result<bool, TellingStop> {
     begin(teller, "Tables::new")?;
     let is_right = are_tables(Tables::new(teller.alloc(), config), entries);
     end(teller)?;
@@ -72,28 +77,30 @@ fn new_book(
     tables: &Tables,
     udp: &Packet,
     rule: Option<u32>,
-) -> Result<bool, Stop> {
-    begin(teller, "Book::new")?;
-    let answer = Book::new(teller.alloc(), config);
+) -> Result<bool, TellingStop> {
+    begin(teller, "CompiledRuleset::new")?;
+    let answer = CompiledRuleset::new(teller.alloc(), config);
     end(teller)?;
     match answer {
-        Ok(book) => decide(teller, &book, tables, udp, rule),
+        Ok(compiled) => decide(teller, &compiled, tables, udp, rule),
         Err(_) => refused(teller, true),
     }
 }
 
 fn decide(
     teller: &Teller,
-    book: &Book,
+    compiled: &CompiledRuleset,
     tables: &Tables,
     udp: &Packet,
     rule: Option<u32>,
-) -> Result<bool, Stop> {
+) -> Result<bool, TellingStop> {
     plain(teller, true)?;
     let mut packet = *udp;
     let mut meter = Meter::new();
     begin_free(teller, "decide")?;
-    let decided = book.decide(tables, &NoSides, &mut packet, &mut meter).rule;
+    let decided = compiled
+        .decide(tables, &NoSides, &mut packet, &mut meter)
+        .rule;
     end(teller)?;
     plain(teller, decided.map(number_of) == rule)
 }
@@ -123,7 +130,7 @@ fn is_held(tables: &Tables, count: u8) -> bool {
 }
 
 /// Room is made for each host, which is then added without memory; the last host is one too many.
-fn add_with_room(teller: &Teller, config: &Config) -> Result<(), Stop>
+fn add_with_room(teller: &Teller, config: &Config) -> Result<(), TellingStop>
     requires { 0 < length config.now.tables }
 {
     let mut tables = Tables::new(teller.alloc(), config)?;
@@ -132,14 +139,14 @@ fn add_with_room(teller: &Teller, config: &Config) -> Result<(), Stop>
             make_room(teller, &mut tables, number)?;
         }
         add_free(teller, &mut tables, number, Added::New)?;
-        add_free(teller, &mut tables, number, Added::Held)?;
+        add_free(teller, &mut tables, number, Added::AlreadyThere)?;
     }
     room_at_limit(teller, &mut tables)?;
     add_free(teller, &mut tables, FREE, Added::Full)?;
     expire(teller, &mut tables)
 }
 
-fn add_without_room(teller: &Teller, config: &Config) -> Result<(), Stop>
+fn add_without_room(teller: &Teller, config: &Config) -> Result<(), TellingStop>
     requires { 0 < length config.now.tables }
 {
     let mut tables = Tables::new(teller.alloc(), config)?;
@@ -151,7 +158,7 @@ fn add_without_room(teller: &Teller, config: &Config) -> Result<(), Stop>
     add_free(teller, &mut tables, FREE, Added::Full)
 }
 
-fn make_room(teller: &Teller, tables: &mut Tables, number: u8) -> Result<bool, Stop>
+fn make_room(teller: &Teller, tables: &mut Tables, number: u8) -> Result<bool, TellingStop>
     requires { 0 < length tables.old.entries }
     ensures { length tables.new.entries ≡ length tables.old.entries }
 {
@@ -167,7 +174,7 @@ fn make_room(teller: &Teller, tables: &mut Tables, number: u8) -> Result<bool, S
     }
 }
 
-fn room_at_limit(teller: &Teller, tables: &mut Tables) -> Result<(), Stop>
+fn room_at_limit(teller: &Teller, tables: &mut Tables) -> Result<(), TellingStop>
     requires { 0 < length tables.old.entries }
     ensures { length tables.new.entries ≡ length tables.old.entries }
 {
@@ -179,7 +186,12 @@ fn room_at_limit(teller: &Teller, tables: &mut Tables) -> Result<(), Stop>
 }
 
 /// A host that there is room for, that is held, or that is one too many.
-fn add_free(teller: &Teller, tables: &mut Tables, number: u8, wanted: Added) -> Result<(), Stop>
+fn add_free(
+    teller: &Teller,
+    tables: &mut Tables,
+    number: u8,
+    wanted: Added,
+) -> Result<(), TellingStop>
     requires { 0 < length tables.old.entries }
     ensures { length tables.new.entries ≡ length tables.old.entries }
 {
@@ -195,7 +207,7 @@ fn add_free(teller: &Teller, tables: &mut Tables, number: u8, wanted: Added) -> 
     Ok(())
 }
 
-fn add(teller: &Teller, tables: &mut Tables, number: u8) -> Result<bool, Stop>
+fn add(teller: &Teller, tables: &mut Tables, number: u8) -> Result<bool, TellingStop>
     requires { 0 < length tables.old.entries }
     ensures { length tables.new.entries ≡ length tables.old.entries }
 {
@@ -212,7 +224,7 @@ fn add(teller: &Teller, tables: &mut Tables, number: u8) -> Result<bool, Stop>
 }
 
 /// All entries leave, those of the text too.
-fn expire(teller: &Teller, tables: &mut Tables) -> Result<(), Stop>
+fn expire(teller: &Teller, tables: &mut Tables) -> Result<(), TellingStop>
     requires { 0 < length tables.old.entries }
 {
     begin_free(teller, "expire")?;
@@ -237,7 +249,7 @@ const ENTRIES: &[&str] = &[
 ];
 
 /// An administrator adds entries, and hosts up to the limit, and takes the entries out.
-fn enter_and_delete(teller: &Teller, config: &Config) -> Result<(), Stop>
+fn enter_and_delete(teller: &Teller, config: &Config) -> Result<(), TellingStop>
     requires { 0 < length config.now.tables }
 {
     let mut tables = Tables::new(teller.alloc(), config)?;
@@ -245,7 +257,7 @@ fn enter_and_delete(teller: &Teller, config: &Config) -> Result<(), Stop>
         if !enter(teller, &mut tables, text)? {
             enter(teller, &mut tables, text)?;
         }
-        enter_free(teller, &mut tables, text, Entered::Held)?;
+        enter_free(teller, &mut tables, text, Entered::AlreadyThere)?;
     }
     enter_free(teller, &mut tables, "10.0.0.0/9", Entered::Conflict)?;
     for number in 0..FREE {
@@ -256,7 +268,7 @@ fn enter_and_delete(teller: &Teller, config: &Config) -> Result<(), Stop>
 }
 
 /// The entry is new; or, where memory was refused, the tables are as before.
-fn enter(teller: &Teller, tables: &mut Tables, text: &str) -> Result<bool, Stop>
+fn enter(teller: &Teller, tables: &mut Tables, text: &str) -> Result<bool, TellingStop>
     requires { 0 < length tables.old.entries }
     ensures { length tables.new.entries ≡ length tables.old.entries }
 {
@@ -289,7 +301,12 @@ fn answers(tables: &Tables) -> (bool, bool, bool, bool) {
 }
 
 /// An entry that is held, with the same sign or the other, or that is one too many.
-fn enter_free(teller: &Teller, tables: &mut Tables, text: &str, wanted: Entered) -> Result<(), Stop>
+fn enter_free(
+    teller: &Teller,
+    tables: &mut Tables,
+    text: &str,
+    wanted: Entered,
+) -> Result<(), TellingStop>
     requires { 0 < length tables.old.entries }
     ensures { length tables.new.entries ≡ length tables.old.entries }
 {
@@ -303,7 +320,7 @@ fn enter_free(teller: &Teller, tables: &mut Tables, text: &str, wanted: Entered)
 }
 
 /// Each entry that was added is taken out, once.
-fn delete_each(teller: &Teller, tables: &mut Tables) -> Result<(), Stop>
+fn delete_each(teller: &Teller, tables: &mut Tables) -> Result<(), TellingStop>
     requires { 0 < length tables.old.entries }
 {
     for text in ENTRIES {
@@ -313,7 +330,7 @@ fn delete_each(teller: &Teller, tables: &mut Tables) -> Result<(), Stop>
     Ok(())
 }
 
-fn delete(teller: &Teller, tables: &mut Tables, text: &str, wanted: u64) -> Result<(), Stop>
+fn delete(teller: &Teller, tables: &mut Tables, text: &str, wanted: u64) -> Result<(), TellingStop>
     requires { 0 < length tables.old.entries }
     ensures { length tables.new.entries ≡ length tables.old.entries }
 {

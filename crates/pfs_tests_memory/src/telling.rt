@@ -10,7 +10,7 @@ use std::process::ExitCode;
 
 /// Why the calls are not made to their end.
 #[derive(Debug, Clone, Copy, PartialEq, Eq)]
-pub enum Stop {
+pub enum TellingStop {
     /// Memory was refused beside the calls.
     Memory,
     /// A line could not be written, or the words not be read.
@@ -19,45 +19,45 @@ pub enum Stop {
     Input,
 }
 
-impl From<NoMemory> for Stop {
-    fn from(_error: NoMemory) -> Stop {
-        Stop::Memory
+impl From<NoMemory> for TellingStop {
+    fn from(_error: NoMemory) -> TellingStop {
+        TellingStop::Memory
     }
 }
 
-impl From<AllocError> for Stop {
-    fn from(_error: AllocError) -> Stop {
-        Stop::Memory
+impl From<AllocError> for TellingStop {
+    fn from(_error: AllocError) -> TellingStop {
+        TellingStop::Memory
     }
 }
 
-impl<T: Drop> From<AllocFailed<T>> for Stop {
-    fn from(_error: AllocFailed<T>) -> Stop {
-        Stop::Memory
+impl<T: Drop> From<AllocFailed<T>> for TellingStop {
+    fn from(_error: AllocFailed<T>) -> TellingStop {
+        TellingStop::Memory
     }
 }
 
-impl From<CaseError> for Stop {
-    fn from(error: CaseError) -> Stop {
+impl From<CaseError> for TellingStop {
+    fn from(error: CaseError) -> TellingStop {
         match error {
-            CaseError::Memory => Stop::Memory,
-            CaseError::Unreadable => Stop::Input,
+            CaseError::Memory => TellingStop::Memory,
+            CaseError::Unreadable => TellingStop::Input,
         }
     }
 }
 
-impl From<LoadFault> for Stop {
-    fn from(_error: LoadFault) -> Stop {
-        Stop::Memory
+impl From<LoadFault> for TellingStop {
+    fn from(_error: LoadFault) -> TellingStop {
+        TellingStop::Memory
     }
 }
 
-impl From<Error> for Stop {
-    fn from(error: Error) -> Stop {
+impl From<Error> for TellingStop {
+    fn from(error: Error) -> TellingStop {
         if error.kind() == ErrorKind::OutOfMemory {
-            Stop::Memory
+            TellingStop::Memory
         } else {
-            Stop::Line
+            TellingStop::Line
         }
     }
 }
@@ -94,7 +94,7 @@ impl<'a> Teller<'a> {
     }
 
     /// What is told behind all calls.
-    pub fn sum(&self) -> Result<(), Stop> {
+    pub fn sum(&self) -> Result<(), TellingStop> {
         if self.lists {
             println!(self.rt; "whole")?;
             return Ok(());
@@ -105,7 +105,7 @@ impl<'a> Teller<'a> {
         Ok(())
     }
 
-    fn begin(&self, kind: &str, name: &'static str, case: &'static str) -> Result<(), Stop> {
+    fn begin(&self, kind: &str, name: &'static str, case: &'static str) -> Result<(), TellingStop> {
         self.call.set((name, case));
         raise(&self.calls);
         if self.lists {
@@ -115,7 +115,7 @@ impl<'a> Teller<'a> {
     }
 
     /// A verdict on the last call, and whether it is what the call has to answer where no memory is refused.
-    fn tell(&self, verdict: &str, deviates: bool) -> Result<(), Stop> {
+    fn tell(&self, verdict: &str, deviates: bool) -> Result<(), TellingStop> {
         if self.lists {
             println!(self.rt; "{verdict}")?;
         } else if deviates {
@@ -134,23 +134,27 @@ fn raise(count: &Cell<u64>) {
 }
 
 /// A call begins that may take memory.
-pub fn begin(teller: &Teller, name: &'static str) -> Result<(), Stop> {
+pub fn begin(teller: &Teller, name: &'static str) -> Result<(), TellingStop> {
     teller.begin("call", name, "")
 }
 
 /// A call begins that may take memory in this case.
-pub fn begin_case(teller: &Teller, name: &'static str, case: &'static str) -> Result<(), Stop> {
+pub fn begin_case(
+    teller: &Teller,
+    name: &'static str,
+    case: &'static str,
+) -> Result<(), TellingStop> {
     teller.begin("call", name, case)
 }
 
 /// A call begins that takes none.
-pub fn begin_free(teller: &Teller, name: &'static str) -> Result<(), Stop> {
+pub fn begin_free(teller: &Teller, name: &'static str) -> Result<(), TellingStop> {
     raise(&teller.free_calls);
     teller.begin("free", name, "")
 }
 
 /// A call has ended; what follows only looks at what came of it.
-pub fn end(teller: &Teller) -> Result<(), Stop> {
+pub fn end(teller: &Teller) -> Result<(), TellingStop> {
     if teller.lists {
         println!(teller.rt; "done")?;
     }
@@ -158,27 +162,27 @@ pub fn end(teller: &Teller) -> Result<(), Stop> {
 }
 
 /// It answered, and that is the plain answer.
-pub fn plain(teller: &Teller, is_right: bool) -> Result<bool, Stop> {
+pub fn plain(teller: &Teller, is_right: bool) -> Result<bool, TellingStop> {
     let verdict = if is_right { "plain" } else { "wrong answer" };
     teller.tell(verdict, !is_right)?;
     Ok(true)
 }
 
 /// It returned out of memory, and all that must then hold holds.
-pub fn refused(teller: &Teller, is_right: bool) -> Result<bool, Stop> {
+pub fn refused(teller: &Teller, is_right: bool) -> Result<bool, TellingStop> {
     let verdict = if is_right { "refused" } else { "wrong refusal" };
     teller.tell(verdict, true)?;
     Ok(false)
 }
 
 /// It answered something else.
-pub fn wrong(teller: &Teller) -> Result<bool, Stop> {
+pub fn wrong(teller: &Teller) -> Result<bool, TellingStop> {
     teller.tell("wrong error", true)?;
     Ok(true)
 }
 
 /// What came of a call that returns a value: whether it is the plain one, or none where memory was refused.
-pub fn answered(teller: &Teller, is_right: Option<bool>) -> Result<bool, Stop> {
+pub fn answered(teller: &Teller, is_right: Option<bool>) -> Result<bool, TellingStop> {
     match is_right {
         Some(is_right) => plain(teller, is_right),
         None => refused(teller, true),
@@ -191,10 +195,10 @@ pub fn is_chosen(chosen: &str, name: &str) -> bool {
 }
 
 /// The status of a program of calls: 0, or 4 where memory was refused beside the calls, or 1.
-pub fn code_of(ended: Result<(), Stop>) -> ExitCode {
+pub fn code_of(ended: Result<(), TellingStop>) -> ExitCode {
     match ended {
         Ok(()) => ExitCode::from(0),
-        Err(Stop::Memory) => ExitCode::from(4),
+        Err(TellingStop::Memory) => ExitCode::from(4),
         Err(_) => ExitCode::from(1),
     }
 }

@@ -1,16 +1,16 @@
 //! Addresses as text, and rules texts with their configurations.
 
 use crate::rules_texts::{FULL, NODES, OVERLOAD};
-use crate::telling::{Stop, Teller, begin, end, plain, refused};
+use crate::telling::{Teller, TellingStop, begin, end, plain, refused};
 use pfs_addr::push_addr;
 use pfs_addr_values::Addr;
 use pfs_conf::{Config, Kind, LoadFault, load, show};
 use pfs_tests_cases::{EVERYTHING, SHOWN};
 
 /// A rules text, and how many items, tables and entries it has.
-type Row = (&'static [u8], u64, u64, u64);
+type TextRow = (&'static [u8], u64, u64, u64);
 
-const TEXTS: &[Row] = &[
+const TEXTS: &[TextRow] = &[
     (EVERYTHING, 3, 2, 2),
     (NODES, 1, 0, 0),
     (OVERLOAD, 3, 1, 0),
@@ -27,7 +27,7 @@ const HOSTS: &[([u8; 4], &[u8])] = &[
 ];
 
 /// Addresses are appended to a text that holds something already.
-pub fn tell_addresses(teller: &Teller) -> Result<(), Stop> {
+pub fn tell_addresses(teller: &Teller) -> Result<(), TellingStop> {
     let mut out = Vec::from_slice(teller.alloc(), b"at ")?;
     for row in HOSTS {
         if !append(teller, &mut out, row)? {
@@ -37,7 +37,7 @@ pub fn tell_addresses(teller: &Teller) -> Result<(), Stop> {
     Ok(())
 }
 
-fn append(teller: &Teller, out: &mut Vec<u8>, row: &([u8; 4], &[u8])) -> Result<bool, Stop> {
+fn append(teller: &Teller, out: &mut Vec<u8>, row: &([u8; 4], &[u8])) -> Result<bool, TellingStop> {
     let (bytes, wanted) = *row;
     let before = out.len();
     begin(teller, "push_addr")?;
@@ -53,7 +53,7 @@ fn append(teller: &Teller, out: &mut Vec<u8>, row: &([u8; 4], &[u8])) -> Result<
 }
 
 /// Rules texts are loaded, shown and copied.
-pub fn tell_texts(teller: &Teller) -> Result<(), Stop> {
+pub fn tell_texts(teller: &Teller) -> Result<(), TellingStop> {
     for row in TEXTS {
         if !load_one(teller, row)? {
             load_one(teller, row)?;
@@ -69,7 +69,7 @@ pub fn tell_texts(teller: &Teller) -> Result<(), Stop> {
     Ok(())
 }
 
-fn load_one(teller: &Teller, row: &Row) -> Result<bool, Stop> {
+fn load_one(teller: &Teller, row: &TextRow) -> Result<bool, TellingStop> {
     let (text, items, tables, entries) = *row;
     begin(teller, "load")?;
     let answer = load(teller.alloc(), text);
@@ -92,7 +92,7 @@ fn is_memory(fault: &LoadFault) -> bool {
     fault.line == 0 && fault.kind == Kind::Memory
 }
 
-fn show_one(teller: &Teller, config: &Config) -> Result<bool, Stop> {
+fn show_one(teller: &Teller, config: &Config) -> Result<bool, TellingStop> {
     begin(teller, "show")?;
     let answer = show(teller.alloc(), config);
     end(teller)?;
@@ -102,7 +102,7 @@ fn show_one(teller: &Teller, config: &Config) -> Result<bool, Stop> {
     }
 }
 
-fn copy_one(teller: &Teller, config: &Config) -> Result<bool, Stop> {
+fn copy_one(teller: &Teller, config: &Config) -> Result<bool, TellingStop> {
     begin(teller, "copy")?;
     let answer = config.copy();
     end(teller)?;

@@ -20,8 +20,8 @@ use Rattle.pfs_engine_machine.specs.declared.events.Arrival.{Arrival}
 use Rattle.pfs_engine_machine.specs.declared.events.Arrival.TheVariants as arrival
 use Rattle.pfs_trace.specs.declared.faults.TraceFault.{TraceFault}
 use Rattle.pfs_trace.specs.declared.faults.TraceFault.TheVariants as fault
-use Rattle.pfs_trace.specs.declared.events.Verb.{Verb}
-use Rattle.pfs_trace.specs.declared.events.Verb.TheVariants as verb
+use Rattle.pfs_trace.specs.declared.events.RecordVerb.{RecordVerb}
+use Rattle.pfs_trace.specs.declared.events.RecordVerb.TheVariants as verb
 use Rattle.pfs_trace.specs.Columns.{column_of}
 use Rattle.pfs_trace.specs.Events.{Change, addition_at, and_then, arrival_at, at_moment, change_at, changing, deletion_at, end_at, event_at, event_by, expiry_at, falls, ends_asked_at, in_column, kill_at, nameless_at, nothing_in, number_to, packet_at, question_at, verb_of}
 
@@ -157,7 +157,7 @@ question-read conf row last time fields e q =
     (empty-read row 5 (nothing_in (column_of fields 5)) _ e
     (empty-read row 6 (nothing_in (column_of fields 6)) _ e
     (end-read (end_at row fields) _ e
-    (moment-read conf row last time (Some arrival.Held) e (λ w same. let is : arrival.Held ≡ w = cc in subst (MayCome conf) is tt))))) q
+    (moment-read conf row last time (Some arrival.HeldQuery) e (λ w same. let is : arrival.HeldQuery ≡ w = cc in subst (MayCome conf) is tt))))) q
 
 kill-read : (conf : Conf) (row : ℕ) (last : Option ℕ) (time : ℕ) (read : Result FromTo TraceFault) (e : Event) → kill_at row last time read ≡ Ok e → IsRead conf last time e
 kill-read conf row last time (Err f) e h = cc
@@ -173,9 +173,9 @@ pub record IsEvent (conf : Conf) (last : Option ℕ) (e : Event) : Type 0 where
 pub event-read : (conf : Conf) (row : ℕ) (last : Option ℕ) (fields : List (List ℕ)) (e : Event) → event_at conf row last fields ≡ Ok e → IsEvent conf last e
 event-read conf row last fields e q = by_length (length fields == 9) q
   where
-    by_kind : (time : ℕ) (v : Option Verb) → event_by conf row last time fields v ≡ Ok e → IsRead conf last time e
+    by_kind : (time : ℕ) (v : Option RecordVerb) → event_by conf row last time fields v ≡ Ok e → IsRead conf last time e
     by_kind time None h = arrival-read conf row last time fields e h
-    by_kind time (Some verb.Held) h = question-read conf row last time fields e h
+    by_kind time (Some verb.HeldQuery) h = question-read conf row last time fields e h
     by_kind time (Some verb.Expire) h = change-read conf row last time (expiry_at row fields) e h
     by_kind time (Some verb.Add) h = change-read conf row last time (addition_at row fields) e h
     by_kind time (Some verb.Kill) h = kill-read conf row last time (ends_asked_at row fields) e h

@@ -27,8 +27,8 @@ use Rattle.pfs_engine_machine.specs.declared.events.Command.{Command}
 use Rattle.pfs_engine_machine.specs.declared.events.Command.TheVariants as command
 use Rattle.pfs_engine_machine.specs.declared.events.Event.{Event}
 use Rattle.pfs_trace.specs.Columns.{column_of}
-use Rattle.pfs_trace.specs.declared.events.Verb.{Verb}
-use Rattle.pfs_trace.specs.declared.events.Verb.TheVariants as verb
+use Rattle.pfs_trace.specs.declared.events.RecordVerb.{RecordVerb}
+use Rattle.pfs_trace.specs.declared.events.RecordVerb.TheVariants as verb
 use Rattle.pfs_trace.specs.declared.faults.TraceFault.{TraceFault}
 use Rattle.pfs_trace.specs.declared.faults.TraceFault.TheVariants as fault
 
@@ -181,27 +181,27 @@ question_at row last time fields =
     and_then (nameless_at row fields) (λ n.
     in_column row 5 (nothing_in (column_of fields 5)) (λ n5.
     in_column row 6 (nothing_in (column_of fields 6)) (λ n6.
-    and_then (end_at row fields) (λ n. at_moment row last time (Some arrival.Held)))))
+    and_then (end_at row fields) (λ n. at_moment row last time (Some arrival.HeldQuery)))))
 
 -- ---- the event of a record
 
 -- what an administrator does, by the word in the second column; none where it is another word
-abbrev pub verb_of : List ℕ → Option Verb
+abbrev pub verb_of : List ℕ → Option RecordVerb
 verb_of word =
     if bytes_eq word (codes "expire") then Some verb.Expire
     else (if bytes_eq word (codes "add") then Some verb.Add
     else (if bytes_eq word (codes "delete") then Some verb.Delete
     else (if bytes_eq word (codes "kill") then Some verb.Kill
-    else (if bytes_eq word (codes "held") then Some verb.Held else None))))
+    else (if bytes_eq word (codes "held") then Some verb.HeldQuery else None))))
 
 -- the event of a record of a packet
 abbrev pub arrival_at : ℕ → Option ℕ → ℕ → List (List ℕ) → Result Event TraceFault
 arrival_at row last time fields = and_then (packet_at row fields) (λ packet. at_moment row last time (Some (option_map_or arrival.Packet packet arrival.Skip)))
 
 -- the event of a record at this moment
-abbrev pub event_by : Conf → ℕ → Option ℕ → ℕ → List (List ℕ) → Option Verb → Result Event TraceFault
+abbrev pub event_by : Conf → ℕ → Option ℕ → ℕ → List (List ℕ) → Option RecordVerb → Result Event TraceFault
 event_by conf row last time fields None = arrival_at row last time fields
-event_by conf row last time fields (Some verb.Held) = question_at row last time fields
+event_by conf row last time fields (Some verb.HeldQuery) = question_at row last time fields
 event_by conf row last time fields (Some verb.Expire) = change_at conf row last time (expiry_at row fields)
 event_by conf row last time fields (Some verb.Add) = change_at conf row last time (addition_at row fields)
 event_by conf row last time fields (Some verb.Kill) = kill_at row last time (ends_asked_at row fields)

@@ -33,25 +33,25 @@ pub fn read_event(
     let time = read_number(column(fields, 1), 4_294_967_295).ok_or(TraceFault::Field(row, 1))?;
     match read_verb(column(fields, 2)) {
         None => read_packet(row, last, time, fields),
-        Some(Verb::Held) => read_question(row, last, time, fields),
-        Some(Verb::Expire) => change(row, last, time, config, read_expiry(row, fields)),
-        Some(Verb::Add) => change(row, last, time, config, read_addition(row, fields)),
-        Some(Verb::Delete) => change(row, last, time, config, read_deletion(row, fields)),
-        Some(Verb::Kill) => kill(row, last, time, read_hosts(row, fields)),
+        Some(RecordVerb::HeldQuery) => read_question(row, last, time, fields),
+        Some(RecordVerb::Expire) => change(row, last, time, config, read_expiry(row, fields)),
+        Some(RecordVerb::Add) => change(row, last, time, config, read_addition(row, fields)),
+        Some(RecordVerb::Delete) => change(row, last, time, config, read_deletion(row, fields)),
+        Some(RecordVerb::Kill) => kill(row, last, time, read_hosts(row, fields)),
     }
 }
 
 /// What an administrator does, by the word of a record.
-enum Verb {
+enum RecordVerb {
     Expire,
     Add,
     Delete,
     Kill,
-    Held,
+    HeldQuery,
 }
 
 /// What a word in the second column says; none where it is a packet's direction, or no word at all.
-fn read_verb(word: &[u8]) -> Option<Verb>
+fn read_verb(word: &[u8]) -> Option<RecordVerb>
     ensures { result ≡ verb_of word.now }
 {
     // Nearly all records are of packets.
@@ -59,15 +59,15 @@ fn read_verb(word: &[u8]) -> Option<Verb>
         return None;
     }
     if word == b"expire".as_slice() {
-        Some(Verb::Expire)
+        Some(RecordVerb::Expire)
     } else if word == b"add".as_slice() {
-        Some(Verb::Add)
+        Some(RecordVerb::Add)
     } else if word == b"delete".as_slice() {
-        Some(Verb::Delete)
+        Some(RecordVerb::Delete)
     } else if word == b"kill".as_slice() {
-        Some(Verb::Kill)
+        Some(RecordVerb::Kill)
     } else if word == b"held".as_slice() {
-        Some(Verb::Held)
+        Some(RecordVerb::HeldQuery)
     } else {
         None
     }
@@ -134,7 +134,7 @@ fn read_question(
     if has_fallen(last, time) {
         return Err(TraceFault::TimeFell(row));
     }
-    let what = Arrival::Held;
+    let what = Arrival::HeldQuery;
     Ok(Event { time, what })
 }
 

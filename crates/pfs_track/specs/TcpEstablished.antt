@@ -2,13 +2,13 @@
 use Rattle.std.specs.Prelude.{Bool, true, false, ◌≡◌, ◌≤◌, ◌||◌, if◌then◌else◌}
 use Rattle.std.proofs.Common.{arith, refl, lit≤}
 use Rattle.pfs_addr_values.specs.declared.flag_sets.Flags.{Flags}
-use Rattle.pfs_track.specs.declared.tcp_ranks.Ends.{Ends}
+use Rattle.pfs_track.specs.declared.tcp_ranks.RanksAfter.{RanksAfter}
 use Rattle.pfs_track.specs.declared.tcp_ranks.TcpRank.{TcpRank}
 use Rattle.pfs_track.specs.declared.tcp_ranks.TcpRank.TheVariants.{SynSent, Closing, TimeWait}
 use Rattle.pfs_track.specs.TcpRanks.{rank_number, raised_rank, IsEstablished, ends_after_ack, ends_after_packet, ends, peers_after}
 
 -- once it has completed, now or before, both are there
-abbrev IsShown : Bool → Ends → Type 0
+abbrev IsShown : Bool → RanksAfter → Type 0
 IsShown complete e = (complete || e.completes) ≡ true → IsEstablished e.sender × IsEstablished e.receiver
 
 raised-keeps : (on : Bool) (rank least : TcpRank) → rank_number rank ≤ rank_number (if on then raised_rank rank least else rank)
@@ -24,7 +24,7 @@ ack-shows true false true forward s r were = λ h. (grind (arith, h), grind (ari
 ack-shows false false true forward s r were = λ h. (grind (arith, h), grind (arith, h))
 ack-shows full false false forward s r were = λ h. absurd cc
 
-rst-shows : (complete rst : Bool) (e : Ends) → IsShown complete e → IsShown complete (if rst then ends TimeWait TimeWait e.completes else e)
+rst-shows : (complete rst : Bool) (e : RanksAfter) → IsShown complete e → IsShown complete (if rst then ends TimeWait TimeWait e.completes else e)
 rst-shows complete true e shown = λ h. (lit≤ tt, lit≤ tt)
 rst-shows complete false e shown = shown
 

@@ -3,7 +3,7 @@ use Rattle.std.specs.Prelude.{Bool, true, false, ◌≡◌, ◌≤◌, ◌||◌,
 use Rattle.std.proofs.Common.{arith, lit≤}
 use Rattle.std.proofs.lemmas.Bool.{false≢true}
 use Rattle.pfs_addr_values.specs.declared.flag_sets.Flags.{Flags}
-use Rattle.pfs_track.specs.declared.tcp_ranks.Ends.{Ends}
+use Rattle.pfs_track.specs.declared.tcp_ranks.RanksAfter.{RanksAfter}
 use Rattle.pfs_track.specs.declared.tcp_ranks.Peers.{Peers}
 use Rattle.pfs_track.specs.declared.tcp_ranks.TcpRank.{TcpRank}
 use Rattle.pfs_track.specs.declared.tcp_ranks.TcpRank.TheVariants.{Closed, SynSent, Closing, TimeWait}
@@ -17,16 +17,16 @@ after_syn begins sender = if begins then raised_rank sender SynSent else sender
 abbrev after_fin : Bool → TcpRank → TcpRank
 after_fin fin sender = if fin then raised_rank sender Closing else sender
 
-abbrev after_ack : Bool → Bool → Bool → TcpRank → TcpRank → Ends
+abbrev after_ack : Bool → Bool → Bool → TcpRank → TcpRank → RanksAfter
 after_ack full ack forward s r = if ack then ends_after_ack full forward s r else ends s r false
 
-abbrev after_rst : Bool → Ends → Ends
+abbrev after_rst : Bool → RanksAfter → RanksAfter
 after_rst rst e = if rst then ends TimeWait TimeWait e.completes else e
 
 -- ---- none lowers a rank
 
 -- no rank of these ends is below what it was
-pub record IsRise (sender receiver : TcpRank) (after : Ends) : Type 0 where
+pub record IsRise (sender receiver : TcpRank) (after : RanksAfter) : Type 0 where
   pub from : rank_number sender ≤ rank_number after.sender
   pub to : rank_number receiver ≤ rank_number after.receiver
 
@@ -57,7 +57,7 @@ after_ack-rises : (full ack forward : Bool) (s r : TcpRank) → IsRise s r (afte
 after_ack-rises full true forward s r = acknowledged-rises full forward s r
 after_ack-rises full false forward s r = record { from = omega arith; to = omega arith }
 
-after_rst-rises : (rst : Bool) (s r : TcpRank) (e : Ends) → IsRise s r e → IsRise s r (after_rst rst e)
+after_rst-rises : (rst : Bool) (s r : TcpRank) (e : RanksAfter) → IsRise s r e → IsRise s r (after_rst rst e)
 after_rst-rises true s r e rise = record { from = rank-last s; to = rank-last r }
 after_rst-rises false s r e rise = rise
 
@@ -73,7 +73,7 @@ acted-rises full forward flags s r =
     after_rst-rises flags.rst s r (after_ack full flags.ack forward fin r) rise
 
 -- a handshake that completes leaves both ranks at least at ESTABLISHED, and before it one of them was not
-pub record IsCompletion (sender receiver : TcpRank) (after : Ends) : Type 0 where
+pub record IsCompletion (sender receiver : TcpRank) (after : RanksAfter) : Type 0 where
   pub from : IsEstablished after.sender
   pub to : IsEstablished after.receiver
   pub first : IsEstablished sender → IsEstablished receiver → ⊥
@@ -89,7 +89,7 @@ after_ack-completes : (full ack forward : Bool) (s r : TcpRank) → (after_ack f
 after_ack-completes full true forward s r done = acknowledged-completes full forward s r done
 after_ack-completes full false forward s r done = absurd (false≢true done)
 
-after_rst-completes : (rst : Bool) (s r : TcpRank) (e : Ends) → (e.completes ≡ true → IsCompletion s r e)
+after_rst-completes : (rst : Bool) (s r : TcpRank) (e : RanksAfter) → (e.completes ≡ true → IsCompletion s r e)
     → (after_rst rst e).completes ≡ true → IsCompletion s r (after_rst rst e)
 after_rst-completes true s r e completion done =
     record { from = lit≤ tt; to = lit≤ tt; first = (completion done).first }

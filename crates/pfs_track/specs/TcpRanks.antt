@@ -3,7 +3,7 @@ use Rattle.std.specs.Prelude.{ℕ, Bool, true, false, not, if◌then◌else◌, 
 use Rattle.pfs_addr_values.specs.declared.flag_sets.Flags.{Flags}
 use Rattle.pfs_conf_values.specs.declared.timeouts.TimeoutName.{TimeoutName}
 use Rattle.pfs_conf_values.specs.declared.timeouts.TimeoutName.TheVariants.{TcpOpening, TcpEstablished, TcpClosing, TcpFinwait, TcpClosed}
-use Rattle.pfs_track.specs.declared.tcp_ranks.Ends.{Ends}
+use Rattle.pfs_track.specs.declared.tcp_ranks.RanksAfter.{RanksAfter}
 use Rattle.pfs_track.specs.declared.tcp_ranks.Peers.{Peers}
 use Rattle.pfs_track.specs.declared.tcp_ranks.TcpRank.{TcpRank}
 use Rattle.pfs_track.specs.declared.tcp_ranks.TcpRank.TheVariants.{Closed, Listen, SynSent, SynReceived, Established, CloseWait, FinWait1, Closing, LastAck, FinWait2, TimeWait}
@@ -38,7 +38,7 @@ abbrev pub IsEstablished : TcpRank → Type 0
 IsEstablished rank = rank_number Established ≤ rank_number rank
 
 -- the ranks of a packet's sender and receiver after it, and whether the handshake completes at it
-abbrev pub ends : TcpRank → TcpRank → Bool → Ends
+abbrev pub ends : TcpRank → TcpRank → Bool → RanksAfter
 ends sender receiver completes = record { sender = sender; receiver = receiver; completes = completes }
 
 -- ACK of a state that is tracked fully, by the first line that applies (certain):
@@ -50,7 +50,7 @@ ends sender receiver completes = record { sender = sender; receiver = receiver; 
 --   where the sender is at SYN_SENT and the receiver below it, so that one half is seen alone, both become ESTABLISHED,
 --     and the handshake completes;
 --   where the sender is at CLOSING, the receiver at ESTABLISHED and the packet goes forward, the receiver becomes CLOSING
-abbrev pub ends_after_ack : Bool → Bool → TcpRank → TcpRank → Ends
+abbrev pub ends_after_ack : Bool → Bool → TcpRank → TcpRank → RanksAfter
 ends_after_ack true forward s r =
     if is_rank r SynSent then ends s Established (is_rank s Established)
     else (if is_rank r Closing then ends s FinWait2 false
@@ -65,7 +65,7 @@ ends_after_ack false forward s r =
 -- what a packet makes of the ranks of its sender and its receiver, by whether its state is tracked fully: SYN, or fully any packet,
 -- raises the sender to SYN_SENT, then FIN raises it to CLOSING; then ACK acts; RST makes both TIME_WAIT, and a handshake that the
 -- same packet's ACK completes stays complete (own but for what is tracked fully)
-abbrev pub ends_after_packet : Bool → Bool → Flags → TcpRank → TcpRank → Ends
+abbrev pub ends_after_packet : Bool → Bool → Flags → TcpRank → TcpRank → RanksAfter
 ends_after_packet full forward flags s r =
     let syn = if full || flags.syn then raised_rank s SynSent else s in
     let fin = if flags.fin then raised_rank syn Closing else syn in

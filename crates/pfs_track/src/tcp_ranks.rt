@@ -36,7 +36,7 @@ pub(crate) enum TcpRank {
 
 /// The ranks of the two ends of a packet after it, and whether the handshake completes at it.
 #[derive(Clone, Copy)]
-pub(crate) struct Ends {
+pub(crate) struct RanksAfter {
     /// The rank of the peer that has sent the packet.
     pub sender: TcpRank,
     /// The rank of the peer to which it goes.
@@ -80,7 +80,7 @@ pub(crate) fn meet(full: bool, forward: bool, flags: Flags, maker: TcpRank, othe
 
 /// What a packet makes of the ranks of its sender and its receiver: SYN, or of a state that is tracked fully any packet,
 /// acts first, then FIN, ACK and RST. `forward`: the packet goes in the direction of the one that made the state.
-fn act(full: bool, forward: bool, flags: Flags, sender: TcpRank, receiver: TcpRank) -> Ends
+fn act(full: bool, forward: bool, flags: Flags, sender: TcpRank, receiver: TcpRank) -> RanksAfter
     ensures { result ≡ ends_after_packet full forward flags sender receiver }
 {
     let sender = if full || flags.syn {
@@ -96,14 +96,14 @@ fn act(full: bool, forward: bool, flags: Flags, sender: TcpRank, receiver: TcpRa
     let ends = if flags.ack {
         acknowledge(full, forward, sender, receiver)
     } else {
-        Ends {
+        RanksAfter {
             sender,
             receiver,
             completes: false,
         }
     };
     if flags.rst {
-        Ends {
+        RanksAfter {
             sender: TcpRank::TimeWait,
             receiver: TcpRank::TimeWait,
             completes: ends.completes,
@@ -114,41 +114,41 @@ fn act(full: bool, forward: bool, flags: Flags, sender: TcpRank, receiver: TcpRa
 }
 
 /// What an ACK does: the first line that applies.
-fn acknowledge(full: bool, forward: bool, sender: TcpRank, receiver: TcpRank) -> Ends
+fn acknowledge(full: bool, forward: bool, sender: TcpRank, receiver: TcpRank) -> RanksAfter
     ensures { result ≡ ends_after_ack full forward sender receiver }
 {
     if receiver == TcpRank::SynSent {
-        Ends {
+        RanksAfter {
             sender,
             receiver: TcpRank::Established,
             completes: sender == TcpRank::Established,
         }
     } else if receiver == TcpRank::Closing {
-        Ends {
+        RanksAfter {
             sender,
             receiver: TcpRank::FinWait2,
             completes: false,
         }
     } else if full {
-        Ends {
+        RanksAfter {
             sender,
             receiver,
             completes: false,
         }
     } else if sender == TcpRank::SynSent && receiver.is_below(TcpRank::SynSent) {
-        Ends {
+        RanksAfter {
             sender: TcpRank::Established,
             receiver: TcpRank::Established,
             completes: true,
         }
     } else if sender == TcpRank::Closing && receiver == TcpRank::Established && forward {
-        Ends {
+        RanksAfter {
             sender,
             receiver: TcpRank::Closing,
             completes: false,
         }
     } else {
-        Ends {
+        RanksAfter {
             sender,
             receiver,
             completes: false,

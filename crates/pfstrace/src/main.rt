@@ -5,8 +5,8 @@
 
 use pfs_capture::{Account, Capture, Feed, FileFault, TraceStop, sink_of, write_trace};
 use pfs_capture_jobs::{
-    Mistake, Output, Request, Source, create_anew, groups_of, is_capture, request, tell_mistake,
-    tell_no_words, tell_refused, tell_stop,
+    CaptureSource, Mistake, Output, TraceRequest, create_anew, groups_of, is_capture, request,
+    tell_mistake, tell_no_words, tell_refused, tell_stop,
 };
 use pfs_words::{Input, texts_of, words};
 use std::fs::File;
@@ -40,7 +40,7 @@ fn trace_groups(rt: &HostRuntime, groups: &[Vec<&str>]) -> u8 {
 }
 
 /// Writes the trace that is asked for; the status.
-fn trace_request(rt: &HostRuntime, request: Request<'_>) -> u8 {
+fn trace_request(rt: &HostRuntime, request: TraceRequest<'_>) -> u8 {
     let output = request.output;
     for source in &request.sources {
         if is_capture(rt, output.told, source.name.unwrap_or("/dev/stdin")) {
@@ -57,7 +57,10 @@ fn trace_request(rt: &HostRuntime, request: Request<'_>) -> u8 {
 type Reader = Input<BufReader<File>>;
 
 /// Opens the file of each capture, before one is read.
-fn open_all(rt: &HostRuntime, sources: Vec<Source<'_>>) -> Result<Vec<Capture<Reader>>, TraceStop> {
+fn open_all(
+    rt: &HostRuntime,
+    sources: Vec<CaptureSource<'_>>,
+) -> Result<Vec<Capture<Reader>>, TraceStop> {
     let mut captures = Vec::new(rt.alloc());
     for source in sources {
         let reader = Feed::of_capture(open(rt, source.name)?);

@@ -8,7 +8,7 @@ from itertools import groupby
 from pathlib import Path
 
 from pfplan.answers.episodes import PASSING, Event
-from pfplan.plays.firewalls import Kept, Pfsrc
+from pfplan.plays.firewalls import Pfsrc, PlayFiles
 from pfplan.traces.entries import add_records
 from pfplan.traces.insertions import Heard
 from pfplan.traces.records import Answer, Traces, read_answer
@@ -36,7 +36,7 @@ def ask(rules: Path, trace: Path, event: Event) -> Asked:
     way out renews the state that it has where it came in. Entries of tables that come by records are put before the
     first. Trouble as the program's own.
     """
-    with Pfsrc(rules, Kept()) as firewall:
+    with Pfsrc(rules, PlayFiles()) as firewall:
         seconds = _seconds(trace)
         row = 0
         for second, lines in seconds:

@@ -13,7 +13,7 @@ from dataclasses import dataclass, field
 from sys import intern
 from typing import Protocol
 
-from pfplan.answers.legs import Legs, Place, Reply
+from pfplan.answers.legs import Crossing, Legs, Reply
 from pfplan.common.limits import DROPPED_COOKIE, DROPS
 from pfplan.common.networks import Network, is_within, network_of
 from pfplan.pf.reading_canonical_text import Flushes
@@ -221,7 +221,7 @@ class _Connection:
     is_lost: bool = False  # it is not open, and holds no state: a later packet that is blocked changes nothing
     refusal: tuple[str, str, str, str] = ("", "", "", "")  # the word and the rule that refused it, and where
     entering: Entering | None = None
-    places: tuple[Place, ...] = ()  # directions and interfaces on which a packet of who began it came through
+    places: tuple[Crossing, ...] = ()  # directions and interfaces on which a packet of who began it came through
 
     def outcome(self, pair: _Pair, last: int) -> str:
         """What became of it, by the end of the trace."""
@@ -340,7 +340,7 @@ class Connections:
         found = self._by_text.get(text) or self._pair_of(text)
         self.follow_pair(found, row, int(column[0]), (column[1], column[2]), column[8], reply)
 
-    def follow_pair(self, found: Way, row: int, moment: int, place: Place, flags: str, reply: Reply) -> None:
+    def follow_pair(self, found: Way, row: int, moment: int, place: Crossing, flags: str, reply: Reply) -> None:
         """As `follow`, where it is known between which ends it goes, and whether the source is the lower one; `place`
         is its direction and its interface. On either interface of its way it is as a packet of its own."""
         if not self._has_routes and reply.onward is None:
@@ -351,7 +351,7 @@ class Connections:
         for it in self._legs.of(place, source, target, flags, reply):
             self._follow_leg(found, row, moment, it.place, it.flags, it.reply)
 
-    def _follow_leg(self, found: Way, row: int, moment: int, place: Place, flags: str, reply: Reply) -> None:
+    def _follow_leg(self, found: Way, row: int, moment: int, place: Crossing, flags: str, reply: Reply) -> None:
         """A packet on one interface."""
         pair, is_low = found
         flow, word = pair.flow, reply.word
@@ -517,7 +517,7 @@ class Connections:
             self.begun[direction, port] += 1
 
     def _begin(
-        self, pair: _Pair, is_low: bool, row: int, moment: int, is_first: bool, reply: Reply, place: Place
+        self, pair: _Pair, is_low: bool, row: int, moment: int, is_first: bool, reply: Reply, place: Crossing
     ) -> _Connection:
         """A packet that is of no connection before: it begins one, or is of one whose beginning is not known."""
         self._end(pair)
@@ -542,7 +542,7 @@ class Connections:
             return is_first and flow.state in ("refused", *LOST)
         return flow.state == "refused"
 
-    def _refuse(self, pair: _Pair, flow: _Connection, reply: Reply, place: Place) -> None:
+    def _refuse(self, pair: _Pair, flow: _Connection, reply: Reply, place: Crossing) -> None:
         flow.state = "refused"
         flow.refusal = (reply.word, reply.rule, *(place if self._has_routes else ("", "")))
         source = pair.key[1] if flow.is_low else pair.key[3]
@@ -553,7 +553,7 @@ class Connections:
         pair: _Pair,
         flow: _Connection,
         reply: Reply,
-        place: Place,
+        place: Crossing,
         flags: str,
         is_first: bool,
         is_low: bool,

@@ -14,7 +14,7 @@ from pfplan.pf.routes import NO_ROUTES, Routes
 from pfplan.traces.records import KILL, Answer
 
 # A direction, and the interface, as far as it is known.
-Place = tuple[str, str]
+Crossing = tuple[str, str]
 
 
 @dataclass(frozen=True, slots=True)
@@ -66,7 +66,7 @@ class Leg:
     """One interface of a packet's way: its direction and name, the flags that the packet has there, and what was
     said."""
 
-    place: Place
+    place: Crossing
     flags: str
     reply: Reply
 
@@ -77,19 +77,19 @@ class Legs:
 
     routes: Routes = NO_ROUTES
 
-    def first(self, place: Place, source: str) -> Place:
+    def first(self, place: Crossing, source: str) -> Crossing:
         """Where the packet of a record was asked first, by the place of the record."""
         if place[0] != "out" or not self.routes or self.routes.is_local(source):
             return place
         return "in", self.routes.to(source)
 
-    def second(self, place: Place, target: str) -> Place:
+    def second(self, place: Crossing, target: str) -> Crossing:
         """Where it was asked on its way out."""
         if place[0] == "out":
             return place
         return "out", "" if not self.routes or self.routes.is_local(target) else self.routes.to(target)
 
-    def of(self, place: Place, source: str, target: str, flags: str, reply: Reply) -> Iterator[Leg]:
+    def of(self, place: Crossing, source: str, target: str, flags: str, reply: Reply) -> Iterator[Leg]:
         """The legs of a record at a place. Behind `proxy` it is pf's own SYN that goes on."""
         if reply.onward is None:
             yield Leg(self.first(place, source), flags, reply)
@@ -99,7 +99,7 @@ class Legs:
         yield Leg(self.second(place, target), "S" if reply.word == "proxy" else flags, reply.onward)
 
 
-def place_text(place: Place) -> str:
+def place_text(place: Crossing) -> str:
     """A place in a sentence: `on its way out, on em1`."""
     way = "where it comes in" if place[0] == "in" else "on its way out"
     return f"{way}, on {place[1]}" if place[1] else way

@@ -90,7 +90,7 @@ class Answer(Protocol):
         """The numbers for machines."""
 
 
-Found = TypeVar("Found", bound=Answer)
+AnyAnswer = TypeVar("AnyAnswer", bound=Answer)
 
 
 def add_answer_words(parser: argparse.ArgumentParser) -> None:
@@ -101,7 +101,7 @@ def add_answer_words(parser: argparse.ArgumentParser) -> None:
 
 
 def write_answer(
-    arguments: argparse.Namespace, found: Found, text_of: Callable[[Found], str], page_of: Callable[[Found], str]
+    arguments: argparse.Namespace, found: AnyAnswer, text_of: Callable[[AnyAnswer], str], page_of: Callable[[AnyAnswer], str]
 ) -> Status:
     """Tells an answer: as a text or for machines, and as a page where one is asked for."""
     outputs = (arguments.out, arguments.page) if arguments.page else (arguments.out,)

@@ -24,7 +24,7 @@ from pfplan.pf.reading_canonical_text import tables_in
 from pfplan.pf.reading_routes import routes_given
 from pfplan.pf.reading_statements import parse
 from pfplan.pf.routes import NO_ROUTES, Routes
-from pfplan.pf.statements import Place, Setting, Statement, Table
+from pfplan.pf.statements import Setting, SourceLine, Statement, Table
 from pfplan.pf.walking import overloaded_tables, table_names, walk
 from pfplan.pf.writing_lists import Chooser, MadeTables
 from pfplan.pf.writing_settings import Settings
@@ -79,12 +79,12 @@ class Ruleset:
     labels: dict[int, str]
     leftovers: tuple[Leftover, ...]
     notes: tuple[str, ...]
-    origins: tuple[Place, ...] = field(default=())
+    origins: tuple[SourceLine, ...] = field(default=())
     records: tuple[str, ...] = ()
     pf_rules: tuple[PfRule, ...] = ()
-    guessed: Place | None = None
+    guessed: SourceLine | None = None
     skipped: frozenset[int] = frozenset()
-    limits: dict[str, Place] = field(default_factory=dict)
+    limits: dict[str, SourceLine] = field(default_factory=dict)
     routes: Routes = NO_ROUTES
     loosened: frozenset[str] = frozenset()
 

@@ -16,8 +16,8 @@ from pfplan.pf.left_out import (
     OLD_TRANSLATIONS,
     OTHER_STATES,
     PASSES_MORE,
-    TRANSLATION_NOTE,
     TRANSLATIONS,
+    TRANSLATION_NOTE,
     Reason,
     Teller,
     counts_states,
@@ -47,10 +47,10 @@ from pfplan.pf.statements import (
     OldTranslation,
     Other,
     Part,
-    Place,
     Rule,
     Setting,
     Side,
+    SourceLine,
     State,
     Statement,
     Table,
@@ -98,14 +98,14 @@ class Expander:
     translates: bool = False
     lines: list[str] = field(default_factory=list)
     labels: dict[int, str] = field(default_factory=dict)
-    origins: list[Place] = field(default_factory=list)
+    origins: list[SourceLine] = field(default_factory=list)
     skipped: set[int] = field(default_factory=set)
     _defaults: State | None = None
     _lines_of_tables: dict[int, str] = field(default_factory=dict)
     _opened: dict[int, dict[str, str]] = field(default_factory=dict)
     _tags: TagNames = field(init=False)
     _translator: Translator = field(init=False)
-    _called: dict[tuple[str, Place], bool] = field(default_factory=dict)
+    _called: dict[tuple[str, SourceLine], bool] = field(default_factory=dict)
 
     def __post_init__(self) -> None:
         self._tags = TagNames(self.teller)
@@ -316,7 +316,7 @@ class Expander:
     def _renamed(self, scope: Scope) -> dict[str, str]:
         return {**self.chooser.tables.renamed, **scope.tables}
 
-    def _item(self, place: Place, line: str, number: int | None) -> None:
+    def _item(self, place: SourceLine, line: str, number: int | None) -> None:
         if len(self.origins) == MOST_ITEMS:
             raise refuse(
                 place, f"the text stands for more than {MOST_ITEMS} rules and anchors, which pfsrc does not take"

@@ -17,9 +17,9 @@ from pfplan.pf.statements import (
     OldTranslation,
     Other,
     Part,
-    Place,
     Rule,
     Setting,
+    SourceLine,
     State,
     Statement,
     Unread,
@@ -369,7 +369,7 @@ class Teller:
     notes: list[str] = field(default_factory=list)
     _seen: set[Leftover] = field(default_factory=set)
 
-    def tell(self, place: Place, text: str, reason: Reason, of: Statement | None = None) -> None:
+    def tell(self, place: SourceLine, text: str, reason: Reason, of: Statement | None = None) -> None:
         """Tells a thing once, however often the statement that it is a part of is expanded."""
         way = self._way(reason, of) if reason.changes else ""
         shown = text if len(text) <= LONGEST else f"{text[:LONGEST]} .."

@@ -7,7 +7,7 @@ from pathlib import Path
 from pfplan.pf.left_out import Teller, harmless, telling
 from pfplan.pf.named_files import NamedFiles
 from pfplan.pf.reading_statements import parse_file, unquoted
-from pfplan.pf.statements import Anchor, Load, OldAnchor, Place, Setting, Statement
+from pfplan.pf.statements import Anchor, Load, OldAnchor, Setting, SourceLine, Statement
 
 DEEPEST = 16  # anchors inside one another, as pfsrc takes them
 
@@ -22,7 +22,7 @@ class Linker:
     files: dict[str, Path]
     translates: bool = False
     _bodies: dict[str, tuple[Statement, ...]] = field(default_factory=dict)
-    _places: dict[Path, Place] = field(default_factory=dict)
+    _places: dict[Path, SourceLine] = field(default_factory=dict)
 
     def link(self, statements: list[Statement]) -> list[Statement]:
         """The statements, with a body for each anchor whose file is known; loads are told where they lead nowhere."""
@@ -67,7 +67,7 @@ class Linker:
     def _loaded(self, path: Path) -> list[Statement]:
         """The rules of an anchor's file, read with macros of its own. Settings in it are told: pf takes none of
         them."""
-        with unquoted(path, self.sources, self._places.get(path, Place(str(path), 1))):
+        with unquoted(path, self.sources, self._places.get(path, SourceLine(str(path), 1))):
             found = parse_file(path, dict(self.macros), self.sources).statements
         for it in found:
             if isinstance(it, Setting):

@@ -6,7 +6,7 @@ from pathlib import Path
 from pfplan.common.errors import Status, Trouble
 from pfplan.common.inputs import check_readable, is_regular
 from pfplan.pf.lexer import Budget, printable
-from pfplan.pf.statements import Place
+from pfplan.pf.statements import SourceLine
 
 MOST_BYTES = 64 << 20  # of one file
 # What pipes gave.
@@ -28,7 +28,7 @@ class NamedFiles:
     strange: set[Path] = field(default_factory=set)
     _beside: Path | None = None
 
-    def find(self, name: str, place: Place) -> Path | None:
+    def find(self, name: str, place: SourceLine) -> Path | None:
         """The file of that name, or None where there is none. Trouble with status 3 where it leads out of `root`, or
         there are too many."""
         self.budget.take("files", 1, place.file, place.line)
@@ -50,7 +50,7 @@ class NamedFiles:
             return near
         return None
 
-    def _confined(self, found: Path | None, name: str, place: Place) -> Path | None:
+    def _confined(self, found: Path | None, name: str, place: SourceLine) -> Path | None:
         """The file, where it is in `root` or below the text's own folder. A link that leads out of both is refused, as
         `..` is."""
         if found is None or self.root is None:

@@ -19,7 +19,7 @@ from collections.abc import Iterable, Iterator, Sequence
 from dataclasses import dataclass, field, replace
 
 from pfplan.pf.interfaces import Machine, prefix_of
-from pfplan.pf.statements import Anchor, Filter, Host, HostKind, Place, Rule, Statement
+from pfplan.pf.statements import Anchor, Filter, Host, HostKind, Rule, SourceLine, Statement
 
 # Bytes of an anchor's name in a log (PFLOG_RULESET_NAME_SIZE, with a zero at the end).
 NAME_BYTES = 15
@@ -55,7 +55,7 @@ class PfRule:
     items of the rules text that stand for it."""
 
     number: RuleNumber
-    place: Place
+    place: SourceLine
     action: str
     log: str
     items: tuple[int, ...] = ()
@@ -90,7 +90,7 @@ class Numbers:
 
     machine: Machine
     found: list[PfRule] = field(default_factory=list)
-    guessed: Place | None = None
+    guessed: SourceLine | None = None
     _names: dict[int, str] = field(default_factory=dict)
 
     def look(self, statements: Iterable[Statement]) -> None:

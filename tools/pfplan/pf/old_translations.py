@@ -34,7 +34,7 @@ from dataclasses import dataclass, replace
 
 from pfplan.common.networks import Network
 from pfplan.pf.combinations import Combination
-from pfplan.pf.statements import Filter, OldAnchor, OldTranslation, Part, Place, Rule, Side, State, Statement
+from pfplan.pf.statements import Filter, OldAnchor, OldTranslation, Part, Rule, Side, SourceLine, State, Statement
 from pfplan.pf.writing_translations import Written
 
 DIRECTIONS = ("out", "in")
@@ -82,7 +82,7 @@ def old_rules(statements: Iterable[Statement]) -> Iterator[OldTranslation]:
                     yield replace(found, filter=joined(it.filter, found.filter))
 
 
-def called_places(statements: Iterable[Statement]) -> set[tuple[str, Place]]:
+def called_places(statements: Iterable[Statement]) -> set[tuple[str, SourceLine]]:
     """The sorts and places of the rules that anchors of the older translation call."""
     anchors = [it for it in statements if isinstance(it, OldAnchor)]
     return {(it.sort, it.place) for it in old_rules(anchors)}

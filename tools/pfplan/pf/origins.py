@@ -6,7 +6,7 @@ from pathlib import Path
 
 from pfplan.pf.conversion import Ruleset
 from pfplan.pf.lexer import printable
-from pfplan.pf.statements import Place
+from pfplan.pf.statements import SourceLine
 
 
 @dataclass(frozen=True, slots=True)
@@ -30,7 +30,7 @@ def origins_of(ruleset: Ruleset) -> Origins:
     last_names = [Path(it).name for it in files]
     is_short = len(set(last_names)) == len(files)
 
-    def shown(place: Place) -> str:
+    def shown(place: SourceLine) -> str:
         return f"{printable(Path(place.file).name if is_short else place.file)}:{place.line}"
 
     items = {number: shown(it) for number, it in enumerate(ruleset.origins)}

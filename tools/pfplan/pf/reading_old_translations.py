@@ -10,7 +10,7 @@ from pfplan.common.errors import Trouble
 from pfplan.pf.cursor import Cursor
 from pfplan.pf.lexer import Kind, Token, printable
 from pfplan.pf.reading_filters import FilterReader
-from pfplan.pf.statements import Filter, OldAnchor, OldTranslation, Other, Part, Place, Unread
+from pfplan.pf.statements import Filter, OldAnchor, OldTranslation, Other, Part, SourceLine, Unread
 
 SORTS = ("nat", "rdr", "binat")
 ANCHORS = tuple(f"{it}-anchor" for it in SORTS)
@@ -37,7 +37,7 @@ def is_old_translation(tokens: Sequence[Token]) -> bool:
     return texts[0] in (*SORTS, *ANCHORS) or texts[0] == "no" and len(texts) == 2 and texts[1] in SORTS
 
 
-def read_old_translation(tokens: Sequence[Token], place: Place, text: str) -> Other:
+def read_old_translation(tokens: Sequence[Token], place: SourceLine, text: str) -> Other:
     """The statement of these tokens, whose text is given; `Unread` where it has words that are not known."""
     try:
         return _Reader(tokens).statement(place, text)
@@ -54,7 +54,7 @@ class _Reader:
         self._at = Cursor(_Line(tokens))
         self._filters = FilterReader(self._at)
 
-    def statement(self, place: Place, text: str) -> Other:
+    def statement(self, place: SourceLine, text: str) -> Other:
         """The statement. Trouble at the first word that is not known."""
         if self._kind in ANCHORS:
             self._at.take()

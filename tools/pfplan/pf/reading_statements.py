@@ -33,11 +33,11 @@ from pfplan.pf.statements import (
     Other,
     Parsed,
     Part,
-    Place,
     Rule,
     Setting,
-    Statement,
+    SourceLine,
     StateOption,
+    Statement,
     Table,
 )
 
@@ -107,7 +107,7 @@ class Parser:
         if self.at.take_mark("@"):  # as pfctl -vv numbers rules
             self.at.want_name("the number of a rule")
             token = self.at.begin()
-        place = Place(token.file, token.line)
+        place = SourceLine(token.file, token.line)
         if self.at.is_word("include"):
             return self._include(place)
         for words, read in (
@@ -159,7 +159,7 @@ class Parser:
         self.at.token = token
         raise self.at.wanted("a statement", FIRST)
 
-    def _include(self, place: Place) -> list[Statement]:
+    def _include(self, place: SourceLine) -> list[Statement]:
         self.at.take()
         token = self.at.token
         name = self.at.want_name("the name of a file")
@@ -176,7 +176,7 @@ class Parser:
         with unquoted(path, self._sources, place):
             return Parser(read_text(path), str(path), self._parsed, self._sources, self._fixed, self._depth + 1).text()
 
-    def _rule(self, place: Place) -> Rule:
+    def _rule(self, place: SourceLine) -> Rule:
         action = self.at.take().text
         parts: list[Part] = []
         answer = ""
@@ -193,7 +193,7 @@ class Parser:
         self.at.take()
         return Rule(place, text, action, answer, replace(read, parts=(*parts, *read.parts)))
 
-    def _anchor(self, place: Place) -> Anchor:
+    def _anchor(self, place: SourceLine) -> Anchor:
         token = self.at.take()
         name = ""
         if (
@@ -221,7 +221,7 @@ class Parser:
         self.at.want_line_end()
         return Anchor(place, f"{text} {{ .. }}", name, read, tuple(body))
 
-    def _load(self, place: Place) -> Load:
+    def _load(self, place: SourceLine) -> Load:
         self.at.take()
         self.at.want_word("anchor")
         name = self.at.want_name("the name of an anchor")
@@ -231,14 +231,14 @@ class Parser:
         self.at.want_line_end()
         return Load(place, text, name, path)
 
-    def _other(self, place: Place) -> Other:
+    def _other(self, place: SourceLine) -> Other:
         kind = self.at.token.text
         self.at.skip_line()
         if is_old_translation(self.at.tokens()):
             return read_old_translation(self.at.tokens(), place, self.at.text_since())
         return Other(place, self.at.text_since(), kind)
 
-    def _antispoof(self, place: Place) -> Antispoof:
+    def _antispoof(self, place: SourceLine) -> Antispoof:
         self.at.take()
         log, quick = self.filters.log_quick()
         self.at.want_word("for")
@@ -262,7 +262,7 @@ class Parser:
             return Host(HostKind.DYNAMIC, name)
         return Host(HostKind.NAME, self.at.want_name("an interface"))
 
-    def _table(self, place: Place) -> Table:
+    def _table(self, place: SourceLine) -> Table:
         self.at.take()
         self.at.want_mark("<")
         name = self.filters.table_name()
@@ -298,7 +298,7 @@ class Parser:
                 self.at.skip_line_ends()
         return found
 
-    def _set(self, place: Place) -> Setting:
+    def _set(self, place: SourceLine) -> Setting:
         self.at.take()
         name = self.at.take_word(*OF_RULES_TEXTS) or self.at.want_word(*SETTINGS)
         pairs: tuple[tuple[str, int], ...] = ()
@@ -400,7 +400,7 @@ class Parser:
 
 
 @contextlib.contextmanager
-def unquoted(path: Path, sources: NamedFiles, place: Place) -> Iterator[None]:
+def unquoted(path: Path, sources: NamedFiles, place: SourceLine) -> Iterator[None]:
     """Tells a syntax error in a file by its line alone, where a text named it by an absolute name: it may be any file
     of this machine."""
     try:

@@ -7,7 +7,7 @@ from pfplan.common.networks import Network
 
 
 @dataclass(frozen=True)
-class Place:
+class SourceLine:
     """Where a statement begins: a file and a line of it, from 1."""
 
     file: str
@@ -148,7 +148,7 @@ class Filter:
 class Statement:
     """A statement, with its place and its text on one line."""
 
-    place: Place
+    place: SourceLine
     text: str
 
 

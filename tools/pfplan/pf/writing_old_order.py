@@ -17,7 +17,7 @@ from pfplan.pf.old_translations import (
     old_rules,
     planned,
 )
-from pfplan.pf.statements import OldAnchor, OldTranslation, Place, Rule, Statement
+from pfplan.pf.statements import OldAnchor, OldTranslation, Rule, SourceLine, Statement
 from pfplan.pf.walking import walk
 from pfplan.pf.writing_marks import TagNames
 from pfplan.pf.writing_translations import Planned, Written
@@ -37,7 +37,7 @@ class OldOrder:
     plan: Callable[[Rule], list[Planned]]
     put: Callable[[Planned, str], None]
 
-    def write(self, statements: Sequence[Statement], known: Knowledge) -> dict[tuple[str, Place], bool]:
+    def write(self, statements: Sequence[Statement], known: Knowledge) -> dict[tuple[str, SourceLine], bool]:
         """Writes all of it. Answers each rule, by its sort and place, and whether an anchor calls it."""
         for it in statements:
             if isinstance(it, OldAnchor) and (it.body is None or has_more(it)):

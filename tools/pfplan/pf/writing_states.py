@@ -7,7 +7,7 @@ from pfplan.pf.left_out import OTHER_STATES, Reason, beyond, harmless, telling
 from pfplan.pf.lexer import printable
 from pfplan.pf.profiles import Profile
 from pfplan.pf.reading_filters import MOST_SECONDS, MOST_STATES, TIMEOUTS_FOR_NOTHING
-from pfplan.pf.statements import Place, Rule, State, StateOption
+from pfplan.pf.statements import Rule, SourceLine, State, StateOption
 from pfplan.pf.writing_settings import Settings
 
 MOST_HANDSHAKES = 4294967
@@ -27,7 +27,7 @@ _KIND_OF_STATE = {
 }
 
 
-def refuse(place: Place, message: str) -> Trouble:
+def refuse(place: SourceLine, message: str) -> Trouble:
     """A refusal of a statement that pfctl refuses too."""
     return Trouble(f"{printable(place.file)}: line {place.line}: {message}", Status.RULES)
 
@@ -57,7 +57,7 @@ def beyond_pfsrc(state: State | None) -> Reason | None:
     return None
 
 
-def carried_state(state: State | None, place: Place, settings: Settings, overload: dict[str, str]) -> str:
+def carried_state(state: State | None, place: SourceLine, settings: Settings, overload: dict[str, str]) -> str:
     """The clause, or nothing where there is none. Options that pfsrc does not have are told. `overload` renames
     tables."""
     teller = settings.teller
@@ -107,7 +107,7 @@ def _turned_off(options: tuple[StateOption, ...]) -> tuple[StateOption, ...]:
     return tuple(replace(it, value=never.get(it.name, it.value)) for it in options)
 
 
-def _scaled(options: tuple[StateOption, ...], place: Place, settings: Settings) -> tuple[StateOption, ...]:
+def _scaled(options: tuple[StateOption, ...], place: SourceLine, settings: Settings) -> tuple[StateOption, ...]:
     """The options with the adaptive pair by which pf scales the rule's timeouts. A value that is not given is 0 there,
     and either cancels the pair that `max` brings.
 

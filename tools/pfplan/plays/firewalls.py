@@ -49,7 +49,7 @@ class Writer(Protocol):
 
 
 @dataclass(frozen=True)
-class Kept:
+class PlayFiles:
     """The files that a play keeps: what was asked, and what was answered. None keeps nothing."""
 
     trace: Writer | None = None
@@ -59,7 +59,7 @@ class Kept:
 class Pfsrc:
     """The program as a firewall. Leaving it ends the program."""
 
-    def __init__(self, rules: Path, kept: Kept) -> None:
+    def __init__(self, rules: Path, kept: PlayFiles) -> None:
         """Trouble with status 70 where the program can't be run."""
         self._rules = rules
         self._kept = kept

@@ -20,7 +20,7 @@ from pfplan.common.outputs import part_file
 from pfplan.common.progress import Progress
 from pfplan.pf.routes import NO_ROUTES, Routes
 from pfplan.plays.counts import Tally
-from pfplan.plays.firewalls import Kept, Pfsrc, Writer
+from pfplan.plays.firewalls import Pfsrc, PlayFiles, Writer
 from pfplan.plays.model import Scenario
 from pfplan.plays.returning import Answer
 from pfplan.plays.staging import Play, traces_of
@@ -84,7 +84,7 @@ def play(task: Task, hear: Callable[[int], None] | None = None) -> Played:
     with _named(task.rules), contextlib.ExitStack() as stack:
         trace, report = (stack.enter_context(_kept(it)) for it in (task.trace, task.report))
         traces = stack.enter_context(traces_of(task.scenario, task.routes))
-        firewall = stack.enter_context(Pfsrc(task.rules, Kept(trace, report)))
+        firewall = stack.enter_context(Pfsrc(task.rules, PlayFiles(trace, report)))
         stack.enter_context(seldom_collected())
         game = Play(task.scenario, firewall, task.returning, traces, routes=task.routes)
         end = game.run(at, task.entries, task.orders)

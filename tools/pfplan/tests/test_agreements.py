@@ -13,7 +13,7 @@ from pfplan.common.repository import DIFFERENCES, TOP
 from pfplan.pages.differences import explanation
 from pfplan.pf.numbers_of_pf import PfRule, RuleNumber
 from pfplan.pf.profiles import Profile
-from pfplan.pf.statements import Place
+from pfplan.pf.statements import SourceLine
 from pfplan.tests.logs import BLOCK, MATCH, PASS, REASONS, Packets, log_of, repeated, reported, with_log
 from pfplan.tests.packets import NONE, Logged, ethernet_capture, log_capture
 from pfplan.tests.support import Done, FolderCase, pfplan
@@ -259,7 +259,7 @@ class Differences(Agreeing):
         self.assertEqual((found["kind"], found["pf"]["reason"]), ("pf answers itself, pfsrc passes", "synproxy"))
         self.assertEqual(found["explained_by"], plain(explaining.SYNPROXY))
         self.assertIn("pf proxy, pfsrc state", done.out)
-        rule = PfRule(RuleNumber("", 0), Place("pf.conf", 1), "pass", "log (all)", (0,))
+        rule = PfRule(RuleNumber("", 0), SourceLine("pf.conf", 1), "pass", "log (all)", (0,))
         for said, word, verdict in (
             ("synproxy", "proxy", judging.Verdict.AGREES),
             ("match", "proxy", judging.Verdict.DIFFERS),

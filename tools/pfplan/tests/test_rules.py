@@ -14,7 +14,7 @@ from pfplan.common.repository import TOP, program
 from pfplan.pf.conversion import RuleOptions, convert, convert_text
 from pfplan.pf.left_out import Leftover
 from pfplan.pf.profiles import Profile, profile_of
-from pfplan.pf.statements import Place
+from pfplan.pf.statements import SourceLine
 from pfplan.replays.runs import show_rules
 
 
@@ -79,7 +79,7 @@ class Rulesets(unittest.TestCase):
     def test_origins(self) -> None:
         """Each item has the place of its statement, heads of anchors too."""
         made = convert_text('block\nanchor "a" {\n  pass proto tcp \\\n  to port { 1 2 }\n}\n', "x", RuleOptions())
-        self.assertEqual(made.origins, (Place("x", 1), Place("x", 2), Place("x", 3), Place("x", 3)))
+        self.assertEqual(made.origins, (SourceLine("x", 1), SourceLine("x", 2), SourceLine("x", 3), SourceLine("x", 3)))
 
     def test_leftovers(self) -> None:
         """A leftover has its file, line, text, reason, and whether an answer can change."""

@@ -127,7 +127,7 @@ fn come<S: Store>(
         Arrival::Skip => Ok(Outcome::Skip),
         Arrival::Table { table, command } => change(rt, engine, *table, command),
         Arrival::Kill(hosts) => kill(rt, engine, hosts),
-        Arrival::Held => Ok(Outcome::Held(engine.amounts())),
+        Arrival::HeldQuery => Ok(Outcome::HeldAnswer(engine.amounts())),
     }
 }
 

@@ -2,7 +2,7 @@
 
 use super::engines::tell_each;
 use super::profiled::PROFILED;
-use pfs_tests_cases::{A1, Came, Case};
+use pfs_tests_cases::{A1, Case, RowEvent};
 use std::test::Fail;
 
 const CASES: &[Case] = &[
@@ -10,16 +10,16 @@ const CASES: &[Case] = &[
         shows: "pf asks the server from the ACK on that completes the maker's handshake, at the maker's packets",
         rules: "pass in proto tcp to any port 80 synproxy state",
         rows: &[
-            (0, Came::Syn, A1, 1000, "proxy:new @0"),
-            (0, Came::Syn, A1, 1000, "proxy @0"),
-            (1, Came::SynAck, A1, 1000, "proxy @0"),
-            (1, Came::Reset, A1, 1000, "proxy @0"),
-            (2, Came::Ack, A1, 1000, "proxy:asks @0"),
-            (3, Came::Ack, A1, 1000, "proxy:asks @0"),
-            (3, Came::Syn, A1, 1000, "proxy:asks @0"),
-            (4, Came::Fin, A1, 1000, "proxy:asks @0"),
-            (5, Came::SynAck, A1, 1000, "proxy @0"),
-            (5, Came::Ack, A1, 1000, "state @0"),
+            (0, RowEvent::Syn, A1, 1000, "proxy:new @0"),
+            (0, RowEvent::Syn, A1, 1000, "proxy @0"),
+            (1, RowEvent::SynAck, A1, 1000, "proxy @0"),
+            (1, RowEvent::Reset, A1, 1000, "proxy @0"),
+            (2, RowEvent::Ack, A1, 1000, "proxy:asks @0"),
+            (3, RowEvent::Ack, A1, 1000, "proxy:asks @0"),
+            (3, RowEvent::Syn, A1, 1000, "proxy:asks @0"),
+            (4, RowEvent::Fin, A1, 1000, "proxy:asks @0"),
+            (5, RowEvent::SynAck, A1, 1000, "proxy @0"),
+            (5, RowEvent::Ack, A1, 1000, "state @0"),
         ],
         end: (1, 0, 0),
     },
@@ -27,12 +27,12 @@ const CASES: &[Case] = &[
         shows: "pf asks no server for a connection that exceeds a limit",
         rules: "pass in proto tcp to any port 80 synproxy state (max-src-conn 1)",
         rows: &[
-            (0, Came::Syn, A1, 1000, "proxy:new @0"),
-            (0, Came::Ack, A1, 1000, "proxy:asks @0"),
-            (1, Came::Syn, A1, 1001, "proxy:new @0"),
+            (0, RowEvent::Syn, A1, 1000, "proxy:new @0"),
+            (0, RowEvent::Ack, A1, 1000, "proxy:asks @0"),
+            (1, RowEvent::Syn, A1, 1001, "proxy:new @0"),
             (
                 1,
-                Came::Ack,
+                RowEvent::Ack,
                 A1,
                 1001,
                 "kill:max-src-conn @0 overload=none killed=1",
@@ -44,11 +44,11 @@ const CASES: &[Case] = &[
         shows: "pf asks the server at the maker's packets behind the ACK of a SYN cookie",
         rules: "set syncookies always\npass in proto tcp to any port 80 keep state",
         rows: &[
-            (0, Came::Syn, A1, 1000, "cookie -"),
-            (0, Came::Ack, A1, 1000, "proxy:new @0"),
-            (1, Came::Ack, A1, 1000, "proxy:asks @0"),
-            (2, Came::SynAck, A1, 1000, "proxy @0"),
-            (2, Came::Ack, A1, 1000, "state @0"),
+            (0, RowEvent::Syn, A1, 1000, "cookie -"),
+            (0, RowEvent::Ack, A1, 1000, "proxy:new @0"),
+            (1, RowEvent::Ack, A1, 1000, "proxy:asks @0"),
+            (2, RowEvent::SynAck, A1, 1000, "proxy @0"),
+            (2, RowEvent::Ack, A1, 1000, "state @0"),
         ],
         end: (1, 0, 0),
     },

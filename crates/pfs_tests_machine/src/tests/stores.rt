@@ -15,7 +15,7 @@ use std::test::Fail;
 
 /// What is done with a store, and what it answers.
 #[derive(Clone, Copy)]
-pub enum Step {
+pub enum StoreStep {
     /// A UDP packet of this source and port is admitted at a rule.
     Admit(Addr, u16, u32, Result<u64, Limit>),
     /// It comes once more, of a rule that tracks no sources.
@@ -39,7 +39,7 @@ pub enum Step {
     /// The states leave that go from hosts of this prefix, to hosts of that one, or to any where it is empty: how many they are.
     Leave(&'static str, &'static str, u64),
     /// Whether a state of this number is held.
-    Holds(u64, bool),
+    IsHeld(u64, bool),
     /// A slice of the states examines and removes so many.
     States(u64, u64),
     /// So does one of the source nodes.
@@ -47,7 +47,7 @@ pub enum Step {
     /// The seconds pass up to this moment: at most so many states, and so many source nodes, are examined in one.
     PassTo(u64, u64, u64),
     /// So many states and source nodes are held, and so many numbers were ever used.
-    Held(u64, u64, u64),
+    Amounts(u64, u64, u64),
     /// So many states are half open.
     HalfOpen(u64),
     /// The first source's ACK from this port brings a SYN cookie, and is admitted at a rule.
@@ -55,7 +55,7 @@ pub enum Step {
 }
 
 /// When it is done, and what.
-pub type Row = (u64, Step);
+pub type StoreRow = (u64, StoreStep);
 
 /// A handshake of the first source from this port: what its third packet did
 fn shake<S: Store>(rt: &impl Abort, tried: &mut Tried<S>, port: u16) -> Result<Touched, Fail> {
@@ -101,9 +101,9 @@ fn admit<S: Store>(
     Ok(())
 }
 
-fn come<S: Store>(rt: &impl Abort, tried: &mut Tried<S>, row: &Row) -> Result<(), Fail> {
+fn come<S: Store>(rt: &impl Abort, tried: &mut Tried<S>, row: &StoreRow) -> Result<(), Fail> {
     match row.1 {
-        Step::Admit(source, port, rule, want) => {
+        StoreStep::Admit(source, port, rule, want) => {
             admit(
                 rt,
                 tried,
@@ -112,29 +112,29 @@ fn come<S: Store>(rt: &impl Abort, tried: &mut Tried<S>, row: &Row) -> Result<()
                 want,
             )?;
         }
-        Step::Send(sent, source, port, rule, want) => {
+        StoreStep::Send(sent, source, port, rule, want) => {
             admit(rt, tried, &packet(&sent, source, port)?, rule, want)?;
         }
-        Step::Cookie(port, rule, want) => {
+        StoreStep::Cookie(port, rule, want) => {
             let ack = packet(&Sent::Tcp(80, ACK), A1, port)?;
             let answer = tried.admit(rt, &ack, RuleNo(rule), true)?;
             same!(rt; numbered(answer), want);
         }
-        Step::Comes(sent, port, dir, completed) => {
+        StoreStep::Comes(sent, port, dir, completed) => {
             let told = tried.touch(&packet(&sent, A1, port)?)?;
             same!(rt; (told.dir, told.completed), (dir, completed));
             same!(rt; (told.taken, told.asks), (false, false));
         }
-        Step::Takes(sent, port, completed, asks) => {
+        StoreStep::Takes(sent, port, completed, asks) => {
             let told = tried.touch(&packet(&sent, A1, port)?)?;
             same!(rt; (told.completed, told.taken, told.asks), (completed, true, asks));
         }
-        Step::Again(source, port, rule) => {
+        StoreStep::Again(source, port, rule) => {
             let told = tried.touch(&packet(&Sent::Udp(53), source, port)?)?;
             same!(rt; (told.rule, told.source, told.completed), (RuleNo(rule), source, false));
             same!(rt; (told.connections, told.score), (0, Score::default()));
         }
-        Step::Shake(port, connections, value) => {
+        StoreStep::Shake(port, connections, value) => {
             let told = shake(rt, tried, port)?;
             let wanted = Touched {
                 rule: RuleNo(0),
@@ -154,19 +154,20 @@ fn come<S: Store>(rt: &impl Abort, tried: &mut Tried<S>, row: &Row) -> Result<()
     Ok(())
 }
 
-fn leave<S: Store>(rt: &impl Abort, tried: &mut Tried<S>, step: &Step) -> Result<(), Fail> {
+fn leave<S: Store>(rt: &impl Abort, tried: &mut Tried<S>, step: &StoreStep) -> Result<(), Fail> {
     match *step {
-        Step::Kill(number, source, port) => {
+        StoreStep::Kill(number, source, port) => {
             let killed = tried.kill(&packet(&Sent::Udp(53), source, port)?);
             same!(rt; killed, Some(StateNo(number)));
         }
-        Step::Flush(dir, rule, killed) => same!(rt; tried.flush(dir, A1, rule), killed),
-        Step::Leave(from, to, killed) => same!(rt; tried.kill_from_to(&hosts(from, to)?), killed),
-        Step::States(examined, removed) => {
+        StoreStep::Flush(dir, rule, killed) => same!(rt; tried.flush(dir, A1, rule), killed),
+        StoreStep::Leave(from, to, killed) =>
+            same!(rt; tried.kill_from_to(&hosts(from, to)?), killed),
+        StoreStep::States(examined, removed) => {
             let slice = tried.purge_states();
             same!(rt; (slice.examined, slice.removed), (examined, removed));
         }
-        Step::Nodes(examined, removed) => {
+        StoreStep::Nodes(examined, removed) => {
             let slice = tried.purge_nodes();
             same!(rt; (slice.examined, slice.removed), (examined, removed));
         }
@@ -175,22 +176,22 @@ fn leave<S: Store>(rt: &impl Abort, tried: &mut Tried<S>, step: &Step) -> Result
     Ok(())
 }
 
-fn pass<S: Store>(rt: &impl Abort, tried: &mut Tried<S>, step: &Step) {
-    if let Step::PassTo(now, most_states, most_nodes) = *step {
+fn pass<S: Store>(rt: &impl Abort, tried: &mut Tried<S>, step: &StoreStep) {
+    if let StoreStep::PassTo(now, most_states, most_nodes) = *step {
         let purged = tried.pass_to(rt, now);
         same!(rt; (purged.most_states, purged.most_nodes), (most_states, most_nodes));
     }
 }
 
-fn look<S: Store>(rt: &impl Abort, tried: &Tried<S>, step: &Step) -> Result<(), Fail> {
+fn look<S: Store>(rt: &impl Abort, tried: &Tried<S>, step: &StoreStep) -> Result<(), Fail> {
     let store = tried.store();
     match *step {
-        Step::Holds(number, wanted) => same!(rt; store.holds(StateNo(number)), wanted),
-        Step::Held(states, nodes, made) => {
+        StoreStep::IsHeld(number, wanted) => same!(rt; store.holds(StateNo(number)), wanted),
+        StoreStep::Amounts(states, nodes, made) => {
             same!(rt; (store.state_count(), store.node_count(), store.made()), (states, nodes, made));
         }
-        Step::HalfOpen(wanted) => same!(rt; store.half_open_count(), wanted),
-        Step::Closed(sent, port, wanted) => {
+        StoreStep::HalfOpen(wanted) => same!(rt; store.half_open_count(), wanted),
+        StoreStep::Closed(sent, port, wanted) => {
             same!(rt; tried.has_closed(&packet(&sent, A1, port)?)?, wanted);
         }
         _ => {}
@@ -199,7 +200,7 @@ fn look<S: Store>(rt: &impl Abort, tried: &Tried<S>, step: &Step) -> Result<(), 
 }
 
 /// The steps one by one
-fn follow<S: Store>(rt: &impl Abort, tried: &mut Tried<S>, rows: &[Row]) -> Result<(), Fail> {
+fn follow<S: Store>(rt: &impl Abort, tried: &mut Tried<S>, rows: &[StoreRow]) -> Result<(), Fail> {
     for row in rows {
         tried.go_to(rt, row.0);
         come(rt, tried, row)?;
@@ -211,15 +212,18 @@ fn follow<S: Store>(rt: &impl Abort, tried: &mut Tried<S>, rows: &[Row]) -> Resu
 }
 
 /// How many calls a step makes that change a store, or might
-fn changes(step: &Step) -> u64 {
+fn changes(step: &StoreStep) -> u64 {
     match step {
-        Step::Shake(..) => 3,
-        Step::Holds(..) | Step::Held(..) | Step::HalfOpen(..) | Step::Closed(..) => 0,
+        StoreStep::Shake(..) => 3,
+        StoreStep::IsHeld(..)
+        | StoreStep::Amounts(..)
+        | StoreStep::HalfOpen(..)
+        | StoreStep::Closed(..) => 0,
         _ => 1,
     }
 }
 
-fn all_changes(rows: &[Row]) -> u64 {
+fn all_changes(rows: &[StoreRow]) -> u64 {
     let mut all: u64 = 0;
     for (_, step) in rows {
         all = all.saturating_add(changes(step));
@@ -227,7 +231,7 @@ fn all_changes(rows: &[Row]) -> u64 {
     all
 }
 
-fn tell(rt: &(impl Abort + AllocGlobal), rules: &str, rows: &[Row]) -> Result<(), Fail> {
+fn tell(rt: &(impl Abort + AllocGlobal), rules: &str, rows: &[StoreRow]) -> Result<(), Fail> {
     tell_under(rt, UNSCALED, rules, rows)
 }
 
@@ -236,7 +240,7 @@ pub fn tell_under(
     rt: &(impl Abort + AllocGlobal),
     first: &str,
     rules: &str,
-    rows: &[Row],
+    rows: &[StoreRow],
 ) -> Result<(), Fail> {
     let config = configured(rt.alloc(), first, rules)?;
     tell_plain(rt, &config, rows)?;
@@ -244,7 +248,11 @@ pub fn tell_under(
     tell_indexed(rt, &config, rows)
 }
 
-fn tell_plain(rt: &(impl Abort + AllocGlobal), config: &Config, rows: &[Row]) -> Result<(), Fail> {
+fn tell_plain(
+    rt: &(impl Abort + AllocGlobal),
+    config: &Config,
+    rows: &[StoreRow],
+) -> Result<(), Fail> {
     let store = PlainStore::new(rt.alloc(), config)?;
     follow(rt, &mut Tried::new(store, config), rows)
 }
@@ -252,7 +260,7 @@ fn tell_plain(rt: &(impl Abort + AllocGlobal), config: &Config, rows: &[Row]) ->
 fn tell_tallied(
     rt: &(impl Abort + AllocGlobal),
     config: &Config,
-    rows: &[Row],
+    rows: &[StoreRow],
 ) -> Result<(), Fail> {
     let store = Tallied::new(PlainStore::new(rt.alloc(), config)?);
     let mut tried = Tried::new(store, config);
@@ -264,20 +272,20 @@ fn tell_tallied(
 fn tell_indexed(
     rt: &(impl Abort + AllocGlobal),
     config: &Config,
-    rows: &[Row],
+    rows: &[StoreRow],
 ) -> Result<(), Fail> {
     let store = IndexStore::new(rt.alloc(), config)?;
     follow(rt, &mut Tried::new(store, config), rows)
 }
 
-const NUMBERED: &[Row] = &[
-    (0, Step::Held(0, 0, 0)),
-    (5, Step::Admit(A1, 1000, 0, Ok(1))),
-    (5, Step::Holds(1, true)),
-    (5, Step::Admit(A2, 1000, 0, Err(Limit::Max))),
-    (5, Step::Admit(A2, 1000, 1, Err(Limit::States))),
-    (5, Step::Holds(2, false)),
-    (5, Step::Held(1, 0, 1)),
+const NUMBERED: &[StoreRow] = &[
+    (0, StoreStep::Amounts(0, 0, 0)),
+    (5, StoreStep::Admit(A1, 1000, 0, Ok(1))),
+    (5, StoreStep::IsHeld(1, true)),
+    (5, StoreStep::Admit(A2, 1000, 0, Err(Limit::Max))),
+    (5, StoreStep::Admit(A2, 1000, 1, Err(Limit::States))),
+    (5, StoreStep::IsHeld(2, false)),
+    (5, StoreStep::Amounts(1, 0, 1)),
 ];
 
 #[test]
@@ -290,32 +298,32 @@ fn states_are_numbered_and_refused(rt: HostRuntime) -> Result<(), Fail> {
 }
 
 /// Two rules with the global nodes of their sources, each with its own maximum
-const SHARED: &[(&str, &[Row])] = &[
+const SHARED: &[(&str, &[StoreRow])] = &[
     (
         "pass keep state (source-track global, max-src-states 2)\n\
             pass keep state (source-track global, max-src-states 3)",
         &[
-            (5, Step::Admit(A1, 1, 0, Ok(1))),
-            (5, Step::Admit(A1, 2, 0, Ok(2))),
-            (5, Step::Admit(A1, 3, 0, Err(Limit::MaxSrcStates))),
-            (5, Step::Admit(A1, 4, 1, Ok(3))),
-            (5, Step::Admit(A1, 5, 1, Err(Limit::MaxSrcStates))),
-            (5, Step::Admit(A2, 1, 0, Ok(4))),
-            (5, Step::Held(4, 2, 4)),
+            (5, StoreStep::Admit(A1, 1, 0, Ok(1))),
+            (5, StoreStep::Admit(A1, 2, 0, Ok(2))),
+            (5, StoreStep::Admit(A1, 3, 0, Err(Limit::MaxSrcStates))),
+            (5, StoreStep::Admit(A1, 4, 1, Ok(3))),
+            (5, StoreStep::Admit(A1, 5, 1, Err(Limit::MaxSrcStates))),
+            (5, StoreStep::Admit(A2, 1, 0, Ok(4))),
+            (5, StoreStep::Amounts(4, 2, 4)),
         ],
     ),
     (
         "pass keep state (source-track global, max-src-states 2)\n\
             pass keep state (source-track global, max-src-states 5)",
         &[
-            (5, Step::Admit(A1, 1, 1, Ok(1))),
-            (5, Step::Admit(A1, 2, 1, Ok(2))),
-            (5, Step::Admit(A1, 3, 1, Ok(3))),
-            (5, Step::Admit(A1, 4, 1, Ok(4))),
-            (5, Step::Admit(A1, 5, 1, Ok(5))),
-            (5, Step::Admit(A1, 6, 1, Err(Limit::MaxSrcStates))),
-            (5, Step::Admit(A1, 7, 0, Err(Limit::MaxSrcStates))),
-            (5, Step::Held(5, 1, 5)),
+            (5, StoreStep::Admit(A1, 1, 1, Ok(1))),
+            (5, StoreStep::Admit(A1, 2, 1, Ok(2))),
+            (5, StoreStep::Admit(A1, 3, 1, Ok(3))),
+            (5, StoreStep::Admit(A1, 4, 1, Ok(4))),
+            (5, StoreStep::Admit(A1, 5, 1, Ok(5))),
+            (5, StoreStep::Admit(A1, 6, 1, Err(Limit::MaxSrcStates))),
+            (5, StoreStep::Admit(A1, 7, 0, Err(Limit::MaxSrcStates))),
+            (5, StoreStep::Amounts(5, 1, 5)),
         ],
     ),
 ];
@@ -328,18 +336,18 @@ fn rules_share_global_nodes_under_their_own_maxima(rt: HostRuntime) -> Result<()
     Ok(())
 }
 
-const FULL: &[Row] = &[
-    (5, Step::Admit(A1, 1, 0, Ok(1))),
-    (5, Step::Admit(A2, 1, 0, Err(Limit::States))),
-    (5, Step::Held(1, 1, 1)),
+const FULL: &[StoreRow] = &[
+    (5, StoreStep::Admit(A1, 1, 0, Ok(1))),
+    (5, StoreStep::Admit(A2, 1, 0, Err(Limit::States))),
+    (5, StoreStep::Amounts(1, 1, 1)),
 ];
 
-const REFUSALS: &[Row] = &[
-    (5, Step::Admit(A1, 1, 0, Ok(1))),
-    (5, Step::Admit(A2, 1, 0, Err(Limit::SrcNodes))),
-    (5, Step::Admit(A1, 2, 0, Ok(2))),
-    (5, Step::Admit(A1, 3, 0, Err(Limit::States))),
-    (5, Step::Held(2, 1, 2)),
+const REFUSALS: &[StoreRow] = &[
+    (5, StoreStep::Admit(A1, 1, 0, Ok(1))),
+    (5, StoreStep::Admit(A2, 1, 0, Err(Limit::SrcNodes))),
+    (5, StoreStep::Admit(A1, 2, 0, Ok(2))),
+    (5, StoreStep::Admit(A1, 3, 0, Err(Limit::States))),
+    (5, StoreStep::Amounts(2, 1, 2)),
 ];
 
 #[test]
@@ -350,20 +358,20 @@ fn a_refusal_makes_no_node(rt: HostRuntime) -> Result<(), Fail> {
     tell(&rt, rules, REFUSALS)
 }
 
-const AT_ONCE: &[Row] = &[
-    (0, Step::Shake(1, 1, 1000)),
-    (0, Step::Shake(2, 2, 2000)),
-    (0, Step::Shake(3, 3, 3000)),
-    (0, Step::Shake(4, 4, 4000)),
-    (3, Step::Admit(A2, 1, 1, Ok(5))),
-    (3, Step::Again(A2, 1, 1)),
+const AT_ONCE: &[StoreRow] = &[
+    (0, StoreStep::Shake(1, 1, 1000)),
+    (0, StoreStep::Shake(2, 2, 2000)),
+    (0, StoreStep::Shake(3, 3, 3000)),
+    (0, StoreStep::Shake(4, 4, 4000)),
+    (3, StoreStep::Admit(A2, 1, 1, Ok(5))),
+    (3, StoreStep::Again(A2, 1, 1)),
 ];
 
-const IN_TURN: &[Row] = &[
-    (0, Step::Shake(1, 1, 1000)),
-    (1, Step::Shake(2, 2, 1900)),
-    (2, Step::Shake(3, 3, 2710)),
-    (3, Step::Shake(4, 4, 3439)),
+const IN_TURN: &[StoreRow] = &[
+    (0, StoreStep::Shake(1, 1, 1000)),
+    (1, StoreStep::Shake(2, 2, 1900)),
+    (2, StoreStep::Shake(3, 3, 2710)),
+    (3, StoreStep::Shake(4, 4, 3439)),
 ];
 
 #[test]
@@ -373,24 +381,24 @@ fn handshakes_count_in_the_score_of_their_source(rt: HostRuntime) -> Result<(), 
     tell(&rt, rules, IN_TURN)
 }
 
-const LEAVING: &[Row] = &[
-    (5, Step::Admit(A1, 1, 0, Ok(1))),
-    (5, Step::Admit(A1, 2, 0, Ok(2))),
-    (5, Step::Admit(A1, 3, 1, Ok(3))),
-    (5, Step::Admit(A2, 4, 1, Ok(4))),
-    (5, Step::Admit(A1, 5, 1, Ok(5))),
-    (5, Step::Holds(2, true)),
-    (6, Step::Kill(2, A1, 2)),
-    (6, Step::Holds(2, false)),
-    (6, Step::Holds(1, true)),
-    (6, Step::Flush(Dir::In, Some(RuleNo(1)), 2)),
-    (6, Step::Holds(1, true)),
-    (6, Step::Holds(4, true)),
-    (7, Step::Flush(Dir::In, None, 1)),
-    (7, Step::Held(1, 1, 5)),
-    (26, Step::Nodes(1, 0)),
-    (27, Step::Nodes(1, 1)),
-    (27, Step::Held(1, 0, 5)),
+const LEAVING: &[StoreRow] = &[
+    (5, StoreStep::Admit(A1, 1, 0, Ok(1))),
+    (5, StoreStep::Admit(A1, 2, 0, Ok(2))),
+    (5, StoreStep::Admit(A1, 3, 1, Ok(3))),
+    (5, StoreStep::Admit(A2, 4, 1, Ok(4))),
+    (5, StoreStep::Admit(A1, 5, 1, Ok(5))),
+    (5, StoreStep::IsHeld(2, true)),
+    (6, StoreStep::Kill(2, A1, 2)),
+    (6, StoreStep::IsHeld(2, false)),
+    (6, StoreStep::IsHeld(1, true)),
+    (6, StoreStep::Flush(Dir::In, Some(RuleNo(1)), 2)),
+    (6, StoreStep::IsHeld(1, true)),
+    (6, StoreStep::IsHeld(4, true)),
+    (7, StoreStep::Flush(Dir::In, None, 1)),
+    (7, StoreStep::Amounts(1, 1, 5)),
+    (26, StoreStep::Nodes(1, 0)),
+    (27, StoreStep::Nodes(1, 1)),
+    (27, StoreStep::Amounts(1, 0, 5)),
 ];
 
 /// The last state of the node leaves at moment 7, and it is kept for 20 seconds
@@ -401,24 +409,27 @@ fn states_leave_by_number_and_by_source(rt: HostRuntime) -> Result<(), Fail> {
     tell(&rt, rules, LEAVING)
 }
 
-const LEFT: &[Row] = &[
-    (5, Step::Admit(A1, 1, 0, Ok(1))),
-    (5, Step::Admit(A2, 2, 0, Ok(2))),
-    (5, Step::Admit(A1, 3, 1, Ok(3))),
-    (5, Step::Send(Sent::Answer(SYN_ACK), A1, 1000, 1, Ok(4))),
-    (6, Step::Leave("198.51.100.1", "198.51.100.0/24", 0)),
-    (6, Step::Leave("192.0.2.0/24", "192.0.2.0/24", 0)),
-    (7, Step::Leave("198.51.100.1", "192.0.2.1", 2)),
-    (7, Step::Holds(1, false)),
-    (7, Step::Holds(2, true)),
-    (7, Step::Holds(3, false)),
-    (7, Step::Holds(4, true)),
-    (8, Step::Leave("192.0.2.1", "198.51.100.1", 1)),
-    (8, Step::Held(1, 2, 4)),
-    (26, Step::Nodes(2, 0)),
-    (27, Step::Nodes(2, 1)),
-    (27, Step::Leave("0.0.0.0/0", "", 1)),
-    (27, Step::Held(0, 1, 4)),
+const LEFT: &[StoreRow] = &[
+    (5, StoreStep::Admit(A1, 1, 0, Ok(1))),
+    (5, StoreStep::Admit(A2, 2, 0, Ok(2))),
+    (5, StoreStep::Admit(A1, 3, 1, Ok(3))),
+    (
+        5,
+        StoreStep::Send(Sent::Answer(SYN_ACK), A1, 1000, 1, Ok(4)),
+    ),
+    (6, StoreStep::Leave("198.51.100.1", "198.51.100.0/24", 0)),
+    (6, StoreStep::Leave("192.0.2.0/24", "192.0.2.0/24", 0)),
+    (7, StoreStep::Leave("198.51.100.1", "192.0.2.1", 2)),
+    (7, StoreStep::IsHeld(1, false)),
+    (7, StoreStep::IsHeld(2, true)),
+    (7, StoreStep::IsHeld(3, false)),
+    (7, StoreStep::IsHeld(4, true)),
+    (8, StoreStep::Leave("192.0.2.1", "198.51.100.1", 1)),
+    (8, StoreStep::Amounts(1, 2, 4)),
+    (26, StoreStep::Nodes(2, 0)),
+    (27, StoreStep::Nodes(2, 1)),
+    (27, StoreStep::Leave("0.0.0.0/0", "", 1)),
+    (27, StoreStep::Amounts(0, 1, 4)),
 ];
 
 /// The last state of the first source's node leaves at moment 7, and it is kept for 20 seconds
@@ -433,23 +444,23 @@ fn states_leave_by_source_and_destination(rt: HostRuntime) -> Result<(), Fail> {
 const SLICES: &str = "set limit { states 6, src-nodes 4 }\n\
     set timeout { src.track 20, interval 5, udp.first 5 }\npass keep state (source-track rule)";
 
-const ROUNDS: &[Row] = &[
-    (5, Step::Admit(A1, 1, 0, Ok(1))),
-    (5, Step::Admit(A1, 2, 0, Ok(2))),
-    (5, Step::Admit(A1, 3, 0, Ok(3))),
-    (5, Step::Admit(A2, 4, 0, Ok(4))),
-    (5, Step::Admit(A1, 5, 0, Ok(5))),
-    (9, Step::States(2, 0)),
-    (10, Step::States(2, 2)),
-    (11, Step::States(1, 1)),
-    (12, Step::States(2, 2)),
-    (13, Step::States(0, 0)),
-    (13, Step::Held(0, 2, 5)),
-    (29, Step::Nodes(1, 0)),
-    (30, Step::Nodes(1, 1)),
-    (31, Step::Nodes(1, 0)),
-    (32, Step::Nodes(1, 1)),
-    (33, Step::Nodes(0, 0)),
+const ROUNDS: &[StoreRow] = &[
+    (5, StoreStep::Admit(A1, 1, 0, Ok(1))),
+    (5, StoreStep::Admit(A1, 2, 0, Ok(2))),
+    (5, StoreStep::Admit(A1, 3, 0, Ok(3))),
+    (5, StoreStep::Admit(A2, 4, 0, Ok(4))),
+    (5, StoreStep::Admit(A1, 5, 0, Ok(5))),
+    (9, StoreStep::States(2, 0)),
+    (10, StoreStep::States(2, 2)),
+    (11, StoreStep::States(1, 1)),
+    (12, StoreStep::States(2, 2)),
+    (13, StoreStep::States(0, 0)),
+    (13, StoreStep::Amounts(0, 2, 5)),
+    (29, StoreStep::Nodes(1, 0)),
+    (30, StoreStep::Nodes(1, 1)),
+    (31, StoreStep::Nodes(1, 0)),
+    (32, StoreStep::Nodes(1, 1)),
+    (33, StoreStep::Nodes(0, 0)),
 ];
 
 /// A slice examines two states and one node, and does not go on into the next round. The states expire at moment 10; the
@@ -459,23 +470,23 @@ fn a_slice_examines_its_share_of_a_round(rt: HostRuntime) -> Result<(), Fail> {
     tell(&rt, SLICES, ROUNDS)
 }
 
-const RETURNING: &[Row] = &[
-    (5, Step::Admit(A1, 1, 0, Ok(1))),
-    (5, Step::Admit(A2, 2, 0, Ok(2))),
-    (6, Step::Kill(1, A1, 1)),
-    (10, Step::Kill(2, A2, 2)),
-    (26, Step::Nodes(1, 1)),
-    (26, Step::Admit(A1, 3, 0, Ok(3))),
-    (26, Step::Held(1, 2, 3)),
-    (27, Step::Nodes(1, 0)),
-    (30, Step::Nodes(1, 1)),
-    (31, Step::Nodes(1, 0)),
-    (31, Step::Kill(3, A1, 3)),
-    (32, Step::Admit(A2, 4, 0, Ok(4))),
-    (33, Step::Kill(4, A2, 4)),
-    (51, Step::Nodes(1, 1)),
-    (53, Step::Nodes(1, 1)),
-    (53, Step::Held(0, 0, 4)),
+const RETURNING: &[StoreRow] = &[
+    (5, StoreStep::Admit(A1, 1, 0, Ok(1))),
+    (5, StoreStep::Admit(A2, 2, 0, Ok(2))),
+    (6, StoreStep::Kill(1, A1, 1)),
+    (10, StoreStep::Kill(2, A2, 2)),
+    (26, StoreStep::Nodes(1, 1)),
+    (26, StoreStep::Admit(A1, 3, 0, Ok(3))),
+    (26, StoreStep::Amounts(1, 2, 3)),
+    (27, StoreStep::Nodes(1, 0)),
+    (30, StoreStep::Nodes(1, 1)),
+    (31, StoreStep::Nodes(1, 0)),
+    (31, StoreStep::Kill(3, A1, 3)),
+    (32, StoreStep::Admit(A2, 4, 0, Ok(4))),
+    (33, StoreStep::Kill(4, A2, 4)),
+    (51, StoreStep::Nodes(1, 1)),
+    (53, StoreStep::Nodes(1, 1)),
+    (53, StoreStep::Amounts(0, 0, 4)),
 ];
 
 /// The first source leaves and comes again, where the second one is held: its new number is the greater one, so that the second
@@ -485,24 +496,24 @@ fn a_source_that_comes_again_is_examined_by_its_new_number(rt: HostRuntime) -> R
     tell(&rt, SLICES, RETURNING)
 }
 
-const PASSED: &[Row] = &[
-    (5, Step::Admit(A1, 1, 0, Ok(1))),
-    (5, Step::Admit(A1, 2, 0, Ok(2))),
-    (5, Step::Admit(A1, 3, 0, Ok(3))),
-    (5, Step::Admit(A2, 4, 0, Ok(4))),
-    (5, Step::Admit(A1, 5, 0, Ok(5))),
-    (5, Step::PassTo(9, 2, 1)),
-    (9, Step::Held(5, 2, 5)),
-    (9, Step::PassTo(12, 2, 1)),
-    (12, Step::Held(0, 2, 5)),
-    (12, Step::PassTo(30, 0, 1)),
-    (30, Step::Held(0, 2, 5)),
-    (30, Step::PassTo(31, 0, 1)),
-    (31, Step::Held(0, 1, 5)),
-    (31, Step::PassTo(32, 0, 1)),
-    (32, Step::Held(0, 0, 5)),
-    (32, Step::PassTo(4294967295, 0, 0)),
-    (4294967295, Step::Held(0, 0, 5)),
+const PASSED: &[StoreRow] = &[
+    (5, StoreStep::Admit(A1, 1, 0, Ok(1))),
+    (5, StoreStep::Admit(A1, 2, 0, Ok(2))),
+    (5, StoreStep::Admit(A1, 3, 0, Ok(3))),
+    (5, StoreStep::Admit(A2, 4, 0, Ok(4))),
+    (5, StoreStep::Admit(A1, 5, 0, Ok(5))),
+    (5, StoreStep::PassTo(9, 2, 1)),
+    (9, StoreStep::Amounts(5, 2, 5)),
+    (9, StoreStep::PassTo(12, 2, 1)),
+    (12, StoreStep::Amounts(0, 2, 5)),
+    (12, StoreStep::PassTo(30, 0, 1)),
+    (30, StoreStep::Amounts(0, 2, 5)),
+    (30, StoreStep::PassTo(31, 0, 1)),
+    (31, StoreStep::Amounts(0, 1, 5)),
+    (31, StoreStep::PassTo(32, 0, 1)),
+    (32, StoreStep::Amounts(0, 0, 5)),
+    (32, StoreStep::PassTo(4294967295, 0, 0)),
+    (4294967295, StoreStep::Amounts(0, 0, 5)),
 ];
 
 /// Three seconds are a whole round of the states, two one of the nodes. The states expire at moment 10, and have left at 12; the source
@@ -512,18 +523,18 @@ fn seconds_are_passed_over_by_rounds(rt: HostRuntime) -> Result<(), Fail> {
     tell(&rt, SLICES, PASSED)
 }
 
-const JOINED: &[Row] = &[
-    (5, Step::Admit(A1, 1, 0, Ok(1))),
-    (5, Step::Admit(A1, 2, 0, Ok(2))),
-    (5, Step::Admit(A1, 3, 0, Ok(3))),
-    (5, Step::PassTo(6, 2, 1)),
-    (6, Step::Admit(A1, 4, 0, Ok(4))),
-    (6, Step::PassTo(9, 2, 1)),
-    (9, Step::Held(4, 1, 4)),
-    (9, Step::PassTo(10, 2, 1)),
-    (10, Step::Held(2, 1, 4)),
-    (10, Step::PassTo(11, 2, 1)),
-    (11, Step::Held(0, 1, 4)),
+const JOINED: &[StoreRow] = &[
+    (5, StoreStep::Admit(A1, 1, 0, Ok(1))),
+    (5, StoreStep::Admit(A1, 2, 0, Ok(2))),
+    (5, StoreStep::Admit(A1, 3, 0, Ok(3))),
+    (5, StoreStep::PassTo(6, 2, 1)),
+    (6, StoreStep::Admit(A1, 4, 0, Ok(4))),
+    (6, StoreStep::PassTo(9, 2, 1)),
+    (9, StoreStep::Amounts(4, 1, 4)),
+    (9, StoreStep::PassTo(10, 2, 1)),
+    (10, StoreStep::Amounts(2, 1, 4)),
+    (10, StoreStep::PassTo(11, 2, 1)),
+    (11, StoreStep::Amounts(0, 1, 4)),
 ];
 
 /// The fourth state comes while a round is under way: the end of that round says nothing of it, the end of the next one does; it leaves at

@@ -4,7 +4,7 @@ ghost use Rattle.std.specs.Prelude.{◌≡◌};
 
 use pfs_addr_values::{Addr, Dir, FlowKey, Meter, NoMemory, Packet};
 use pfs_conf::RuleNo;
-use pfs_store_contract::{Found, FromTo, Limit, Purged, Slice, StateNo, Store, Touched};
+use pfs_store_contract::{FromTo, Limit, Purged, Slice, StateHandle, StateNo, Store, Touched};
 
 /// Any store, with a count of the calls that change it.
 #[derive(Drop)]
@@ -38,15 +38,15 @@ impl<S: Store> Store for Tallied<S> {
 
     ghost reaches = { λ t. S.reaches t.inner };
 
-    fn find(&self, key: &FlowKey) -> Option<Found> {
+    fn find(&self, key: &FlowKey) -> Option<StateHandle> {
         self.inner.find(key)
     }
 
-    fn find_inside(&self, key: &FlowKey) -> Option<Found> {
+    fn find_inside(&self, key: &FlowKey) -> Option<StateHandle> {
         self.inner.find_inside(key)
     }
 
-    fn onward_key(&self, found: Found, dir: Dir) -> Option<FlowKey> {
+    fn onward_key(&self, found: StateHandle, dir: Dir) -> Option<FlowKey> {
         self.inner.onward_key(found, dir)
     }
 
@@ -91,21 +91,33 @@ impl<S: Store> Store for Tallied<S> {
         self.inner.make(packet, going, rule, cookie, now)
     }
 
-    fn touch(&mut self, found: Found, packet: &Packet, now: u64, meter: &mut Meter) -> Touched {
+    fn touch(
+        &mut self,
+        found: StateHandle,
+        packet: &Packet,
+        now: u64,
+        meter: &mut Meter,
+    ) -> Touched {
         self.tick();
         self.inner.touch(found, packet, now, meter)
     }
 
-    fn renew(&mut self, found: Found, packet: &Packet, now: u64, meter: &mut Meter) -> Touched {
+    fn renew(
+        &mut self,
+        found: StateHandle,
+        packet: &Packet,
+        now: u64,
+        meter: &mut Meter,
+    ) -> Touched {
         self.tick();
         self.inner.renew(found, packet, now, meter)
     }
 
-    fn has_closed(&self, found: Found, meter: &mut Meter) -> bool {
+    fn has_closed(&self, found: StateHandle, meter: &mut Meter) -> bool {
         self.inner.has_closed(found, meter)
     }
 
-    fn kill(&mut self, found: Found, now: u64, meter: &mut Meter) {
+    fn kill(&mut self, found: StateHandle, now: u64, meter: &mut Meter) {
         self.tick();
         self.inner.kill(found, now, meter)
     }

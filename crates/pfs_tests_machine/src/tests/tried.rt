@@ -6,14 +6,14 @@ ghost use Rattle.pfs_store_contract.specs.Worlds.{empty_world, holds_number};
 use pfs_addr_values::{Addr, Dir, FlowKey, Meter, Packet, RUN_LIMIT};
 use pfs_conf::{Config, RuleNo};
 use pfs_store_contract::{
-    Found, FromTo, Limit, Purged, Slice, StateNo, Store, Touched, inner_key, wire_key,
+    FromTo, Limit, Purged, Slice, StateHandle, StateNo, Store, Touched, inner_key, wire_key,
 };
 use std::marker::Model;
 use std::process::Abort;
 use std::test::Fail;
 
 /// The state of a store that has the key of a packet on the wire.
-fn found<S: Store>(store: &S, packet: &Packet) -> Result<Found, Fail>
+fn found<S: Store>(store: &S, packet: &Packet) -> Result<StateHandle, Fail>
     ensures held { IfOk result (λ f. holds_number (S.world store.now).states f.number.0 ≡ true) }
     ensures reached { IfOk result (λ f. S.reaches store.now f ≡ true) }
 {

@@ -20,7 +20,7 @@ const STATE: Outcome = Outcome::State(RuleNo(0));
 
 /// What comes to an engine.
 #[derive(Clone, Copy)]
-enum Step {
+enum WorkStep {
     // time passes to this moment
     Until(u64),
     // a packet of this source and port, and what is made of it
@@ -28,7 +28,7 @@ enum Step {
 }
 
 /// What comes, and the work of it: visits, looks, slices, the most states and the most nodes of one slice.
-type Row = (Step, [u64; 5]);
+type WorkRow = (WorkStep, [u64; 5]);
 
 /// The work of a row, over a store that counts looks or over one that does not
 fn work_of(row: &[u64; 5], counts: bool) -> Work {
@@ -45,7 +45,7 @@ fn work_of(row: &[u64; 5], counts: bool) -> Work {
 fn works(
     rt: &(impl Abort + AllocGlobal),
     rules: &str,
-    rows: &[Row],
+    rows: &[WorkRow],
     end: (u64, u64, u64),
 ) -> Result<(), Fail> {
     let alloc = rt.alloc();
@@ -56,7 +56,7 @@ fn works(
 fn follow<S: Store + Drop>(
     rt: &impl Abort,
     engine: Engine<S>,
-    rows: &[Row],
+    rows: &[WorkRow],
     counts: bool,
     end: (u64, u64, u64),
 ) -> Result<(), Fail> {
@@ -72,15 +72,15 @@ fn follow<S: Store + Drop>(
 fn act<S: Store>(
     rt: &impl Abort,
     engine: &mut Engine<S>,
-    step: &Step,
+    step: &WorkStep,
     wanted: Work,
 ) -> Result<(), Fail> {
     match *step {
-        Step::Until(time) => {
+        WorkStep::Until(time) => {
             pass_time(rt, engine, time);
             same!(rt; engine.last(), Some(time));
         }
-        Step::Packet(sent, source, port, outcome) => {
+        WorkStep::Packet(sent, source, port, outcome) => {
             let packet = packet(&sent, source, port)?;
             same!(rt; take(rt, engine, &packet)?, outcome);
         }
@@ -89,26 +89,26 @@ fn act<S: Store>(
     Ok(())
 }
 
-const PATHS: &[Row] = &[
-    (Step::Until(0), [0, 0, 0, 0, 0]),
+const PATHS: &[WorkRow] = &[
+    (WorkStep::Until(0), [0, 0, 0, 0, 0]),
     (
-        Step::Packet(UDP, A1, 1, Outcome::Pass(Some(RuleNo(2)))),
+        WorkStep::Packet(UDP, A1, 1, Outcome::Pass(Some(RuleNo(2)))),
         [3, 0, 0, 0, 0],
     ),
     (
-        Step::Packet(Sent::Tcp(22, SYN), A1, 1, Outcome::Pass(Some(RuleNo(7)))),
+        WorkStep::Packet(Sent::Tcp(22, SYN), A1, 1, Outcome::Pass(Some(RuleNo(7)))),
         [7, 0, 0, 0, 0],
     ),
     (
-        Step::Packet(Sent::Tcp(80, SYN), A1, 1, Outcome::Pass(Some(RuleNo(5)))),
+        WorkStep::Packet(Sent::Tcp(80, SYN), A1, 1, Outcome::Pass(Some(RuleNo(5)))),
         [8, 0, 0, 0, 0],
     ),
     (
-        Step::Packet(Sent::Udp(99), A1, 1, Outcome::Pass(Some(RuleNo(8)))),
+        WorkStep::Packet(Sent::Udp(99), A1, 1, Outcome::Pass(Some(RuleNo(8)))),
         [7, 0, 0, 0, 0],
     ),
     (
-        Step::Packet(Sent::Out(53), A1, 1, Outcome::Block(RuleNo(0))),
+        WorkStep::Packet(Sent::Out(53), A1, 1, Outcome::Block(RuleNo(0))),
         [4, 0, 0, 0, 0],
     ),
 ];
@@ -118,11 +118,11 @@ fn a_packet_visits_the_items_on_its_path(rt: HostRuntime) -> Result<(), Fail> {
     works(&rt, ANCHORED, PATHS, (0, 0, 0))
 }
 
-const HELD: &[Row] = &[
-    (Step::Until(7), [0, 0, 0, 0, 0]),
-    (Step::Packet(UDP, A1, 1, NEW), [1, 0, 0, 0, 0]),
-    (Step::Packet(UDP, A1, 1, STATE), [0, 1, 0, 0, 0]),
-    (Step::Packet(UDP, A1, 1, STATE), [0, 1, 0, 0, 0]),
+const HELD: &[WorkRow] = &[
+    (WorkStep::Until(7), [0, 0, 0, 0, 0]),
+    (WorkStep::Packet(UDP, A1, 1, NEW), [1, 0, 0, 0, 0]),
+    (WorkStep::Packet(UDP, A1, 1, STATE), [0, 1, 0, 0, 0]),
+    (WorkStep::Packet(UDP, A1, 1, STATE), [0, 1, 0, 0, 0]),
 ];
 
 #[test]
@@ -137,18 +137,18 @@ const SECOND: Sent = Sent::Answer(SYN_ACK);
 const THIRD: Sent = Sent::Tcp(80, ACK);
 
 /// The second connection of the source is killed alone, and a third state is one too many
-const KILLED: &[Row] = &[
-    (Step::Until(0), [0, 0, 0, 0, 0]),
-    (Step::Packet(FIRST, A1, 1, NEW), [1, 0, 0, 0, 0]),
-    (Step::Packet(SECOND, A1, 1, STATE), [0, 1, 0, 0, 0]),
-    (Step::Packet(THIRD, A1, 1, STATE), [0, 1, 0, 0, 0]),
-    (Step::Packet(FIRST, A1, 2, NEW), [1, 0, 0, 0, 0]),
-    (Step::Packet(SECOND, A1, 2, STATE), [0, 1, 0, 0, 0]),
+const KILLED: &[WorkRow] = &[
+    (WorkStep::Until(0), [0, 0, 0, 0, 0]),
+    (WorkStep::Packet(FIRST, A1, 1, NEW), [1, 0, 0, 0, 0]),
+    (WorkStep::Packet(SECOND, A1, 1, STATE), [0, 1, 0, 0, 0]),
+    (WorkStep::Packet(THIRD, A1, 1, STATE), [0, 1, 0, 0, 0]),
+    (WorkStep::Packet(FIRST, A1, 2, NEW), [1, 0, 0, 0, 0]),
+    (WorkStep::Packet(SECOND, A1, 2, STATE), [0, 1, 0, 0, 0]),
     (
-        Step::Packet(FIRST, A2, 1, Outcome::Drop(RuleNo(0), Limit::Max)),
+        WorkStep::Packet(FIRST, A2, 1, Outcome::Drop(RuleNo(0), Limit::Max)),
         [1, 0, 0, 0, 0],
     ),
-    (Step::Packet(THIRD, A1, 2, ALONE), [0, 2, 0, 0, 0]),
+    (WorkStep::Packet(THIRD, A1, 2, ALONE), [0, 2, 0, 0, 0]),
 ];
 
 const ALONE: Outcome = Outcome::Kill {
@@ -161,30 +161,30 @@ const ALONE: Outcome = Outcome::Kill {
 const SHAKEN: Outcome = Outcome::State(RuleNo(2));
 
 /// With it leave the other states of its source, and at no state of another source is looked
-const FLUSHED: &[Row] = &[
-    (Step::Until(0), [0, 0, 0, 0, 0]),
+const FLUSHED: &[WorkRow] = &[
+    (WorkStep::Until(0), [0, 0, 0, 0, 0]),
     (
-        Step::Packet(UDP, A1, 9, Outcome::New(RuleNo(1))),
+        WorkStep::Packet(UDP, A1, 9, Outcome::New(RuleNo(1))),
         [3, 0, 0, 0, 0],
     ),
     (
-        Step::Packet(UDP, A2, 9, Outcome::New(RuleNo(1))),
+        WorkStep::Packet(UDP, A2, 9, Outcome::New(RuleNo(1))),
         [3, 0, 0, 0, 0],
     ),
     (
-        Step::Packet(FIRST, A1, 1, Outcome::New(RuleNo(2))),
+        WorkStep::Packet(FIRST, A1, 1, Outcome::New(RuleNo(2))),
         [3, 0, 0, 0, 0],
     ),
-    (Step::Packet(SECOND, A1, 1, SHAKEN), [0, 1, 0, 0, 0]),
-    (Step::Packet(THIRD, A1, 1, SHAKEN), [0, 1, 0, 0, 0]),
+    (WorkStep::Packet(SECOND, A1, 1, SHAKEN), [0, 1, 0, 0, 0]),
+    (WorkStep::Packet(THIRD, A1, 1, SHAKEN), [0, 1, 0, 0, 0]),
     (
-        Step::Packet(FIRST, A1, 2, Outcome::New(RuleNo(2))),
+        WorkStep::Packet(FIRST, A1, 2, Outcome::New(RuleNo(2))),
         [3, 0, 0, 0, 0],
     ),
-    (Step::Packet(SECOND, A1, 2, SHAKEN), [0, 1, 0, 0, 0]),
-    (Step::Packet(THIRD, A1, 2, ALL), [0, 4, 0, 0, 0]),
+    (WorkStep::Packet(SECOND, A1, 2, SHAKEN), [0, 1, 0, 0, 0]),
+    (WorkStep::Packet(THIRD, A1, 2, ALL), [0, 4, 0, 0, 0]),
     (
-        Step::Packet(FIRST, A1, 3, Outcome::Block(RuleNo(0))),
+        WorkStep::Packet(FIRST, A1, 3, Outcome::Block(RuleNo(0))),
         [1, 0, 0, 0, 0],
     ),
 ];
@@ -207,19 +207,19 @@ fn a_packet_looks_at_its_state_and_at_those_it_kills(rt: HostRuntime) -> Result<
 
 /// Six states and four nodes may be held: a slice examines at most two states and one node. The
 /// first moment purges nothing
-const SHARES: &[Row] = &[
-    (Step::Until(100), [0, 0, 0, 0, 0]),
-    (Step::Packet(UDP, A1, 1, NEW), [1, 0, 0, 0, 0]),
-    (Step::Packet(UDP, A2, 1, NEW), [1, 0, 0, 0, 0]),
-    (Step::Packet(UDP, A1, 2, NEW), [1, 0, 0, 0, 0]),
-    (Step::Packet(UDP, A2, 2, NEW), [1, 0, 0, 0, 0]),
-    (Step::Packet(UDP, A1, 3, NEW), [1, 0, 0, 0, 0]),
-    (Step::Packet(UDP, A2, 3, NEW), [1, 0, 0, 0, 0]),
-    (Step::Until(100), [0, 0, 0, 0, 0]),
-    (Step::Until(101), [0, 2, 2, 2, 1]),
-    (Step::Until(103), [0, 2, 4, 2, 1]),
-    (Step::Until(200), [0, 2, 194, 2, 1]),
-    (Step::Until(210), [0, 0, 20, 0, 0]),
+const SHARES: &[WorkRow] = &[
+    (WorkStep::Until(100), [0, 0, 0, 0, 0]),
+    (WorkStep::Packet(UDP, A1, 1, NEW), [1, 0, 0, 0, 0]),
+    (WorkStep::Packet(UDP, A2, 1, NEW), [1, 0, 0, 0, 0]),
+    (WorkStep::Packet(UDP, A1, 2, NEW), [1, 0, 0, 0, 0]),
+    (WorkStep::Packet(UDP, A2, 2, NEW), [1, 0, 0, 0, 0]),
+    (WorkStep::Packet(UDP, A1, 3, NEW), [1, 0, 0, 0, 0]),
+    (WorkStep::Packet(UDP, A2, 3, NEW), [1, 0, 0, 0, 0]),
+    (WorkStep::Until(100), [0, 0, 0, 0, 0]),
+    (WorkStep::Until(101), [0, 2, 2, 2, 1]),
+    (WorkStep::Until(103), [0, 2, 4, 2, 1]),
+    (WorkStep::Until(200), [0, 2, 194, 2, 1]),
+    (WorkStep::Until(210), [0, 0, 20, 0, 0]),
 ];
 
 #[test]
@@ -229,16 +229,16 @@ fn a_slice_examines_at_most_its_share(rt: HostRuntime) -> Result<(), Fail> {
     works(&rt, rules, SHARES, (0, 0, 0))
 }
 
-const EMPTY: &[Row] = &[
-    (Step::Until(0), [0, 0, 0, 0, 0]),
-    (Step::Until(4_294_967_295), [0, 0, 8_589_934_590, 0, 0]),
+const EMPTY: &[WorkRow] = &[
+    (WorkStep::Until(0), [0, 0, 0, 0, 0]),
+    (WorkStep::Until(4_294_967_295), [0, 0, 8_589_934_590, 0, 0]),
 ];
 
 /// A state that lives for 60 seconds leaves
-const ONE_STATE: &[Row] = &[
-    (Step::Until(0), [0, 0, 0, 0, 0]),
-    (Step::Packet(UDP, A1, 1, NEW), [1, 0, 0, 0, 0]),
-    (Step::Until(4_294_967_295), [0, 1, 8_589_934_590, 1, 0]),
+const ONE_STATE: &[WorkRow] = &[
+    (WorkStep::Until(0), [0, 0, 0, 0, 0]),
+    (WorkStep::Packet(UDP, A1, 1, NEW), [1, 0, 0, 0, 0]),
+    (WorkStep::Until(4_294_967_295), [0, 1, 8_589_934_590, 1, 0]),
 ];
 
 #[test]
@@ -248,14 +248,14 @@ fn a_long_jump_is_short_where_nothing_is_held(rt: HostRuntime) -> Result<(), Fai
 }
 
 /// A state that lives for 2,147,483,647 seconds, and leaves in the last of them
-const STAYING: &[Row] = &[
-    (Step::Until(0), [0, 0, 0, 0, 0]),
-    (Step::Packet(UDP, A1, 1, NEW), [1, 0, 0, 0, 0]),
-    (Step::Until(2_147_483_646), [0, 1, 4_294_967_292, 1, 1]),
-    (Step::Packet(UDP, A2, 1, NEW), [1, 0, 0, 0, 0]),
-    (Step::Until(2_147_483_647), [0, 2, 2, 2, 2]),
-    (Step::Until(4_294_967_292), [0, 1, 4_294_967_290, 1, 1]),
-    (Step::Until(4_294_967_295), [0, 1, 6, 1, 1]),
+const STAYING: &[WorkRow] = &[
+    (WorkStep::Until(0), [0, 0, 0, 0, 0]),
+    (WorkStep::Packet(UDP, A1, 1, NEW), [1, 0, 0, 0, 0]),
+    (WorkStep::Until(2_147_483_646), [0, 1, 4_294_967_292, 1, 1]),
+    (WorkStep::Packet(UDP, A2, 1, NEW), [1, 0, 0, 0, 0]),
+    (WorkStep::Until(2_147_483_647), [0, 2, 2, 2, 2]),
+    (WorkStep::Until(4_294_967_292), [0, 1, 4_294_967_290, 1, 1]),
+    (WorkStep::Until(4_294_967_295), [0, 1, 6, 1, 1]),
 ];
 
 #[test]

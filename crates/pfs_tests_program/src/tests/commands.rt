@@ -10,7 +10,7 @@ use std::test::Fail;
 
 /// A last record after ten others, under rules, and how the replay ends.
 #[derive(Clone, Copy)]
-struct Row {
+struct CommandRow {
     rules: &'static str,
     record: &'static str,
     fault: ReplayFault,
@@ -22,8 +22,8 @@ const OVERLOAD: &str = "table <bad> { 203.0.113.9 }\n\
 const CONST: &str = "table <bad> const { 203.0.113.9 }\n\
     pass in proto tcp to any port 80 keep state (max-src-conn 1)\n";
 
-fn refused(rules: &'static str, record: &'static str, fault: ReplayFault) -> Row {
-    Row {
+fn refused(rules: &'static str, record: &'static str, fault: ReplayFault) -> CommandRow {
+    CommandRow {
         rules,
         record,
         fault,
@@ -31,11 +31,11 @@ fn refused(rules: &'static str, record: &'static str, fault: ReplayFault) -> Row
 }
 
 /// The fault of a field in the eleventh row.
-fn at(record: &'static str, column: u8) -> Row {
+fn at(record: &'static str, column: u8) -> CommandRow {
     refused(OVERLOAD, record, ReplayFault::Field(11, column))
 }
 
-fn tables() -> [Row; 4] {
+fn tables() -> [CommandRow; 4] {
     let fault = ReplayFault::Table(11);
     [
         refused(CONST, "108,expire,bad,,,5,,,", fault),
@@ -49,7 +49,7 @@ fn tables() -> [Row; 4] {
     ]
 }
 
-fn names() -> [Row; 4] {
+fn names() -> [CommandRow; 4] {
     [
         at("108,Expire,bad,,,5,,,", 2),
         at("108,expire,,,,5,,,", 3),
@@ -58,7 +58,7 @@ fn names() -> [Row; 4] {
     ]
 }
 
-fn empties() -> [Row; 5] {
+fn empties() -> [CommandRow; 5] {
     [
         at("108,expire,bad,udp,,5,,,", 4),
         at("108,expire,bad,,198.51.100.1,5,,,", 5),
@@ -68,7 +68,7 @@ fn empties() -> [Row; 5] {
     ]
 }
 
-fn seconds() -> [Row; 4] {
+fn seconds() -> [CommandRow; 4] {
     [
         at("108,expire,bad,,,,,,", 6),
         at("108,expire,bad,,,4294967296,,,", 6),
@@ -78,7 +78,7 @@ fn seconds() -> [Row; 4] {
 }
 
 /// The records in front, and their lines under either rules but for what became of the source.
-fn tell_refused(rt: &(impl Abort + AllocGlobal), rows: &[Row]) -> Result<(), Fail> {
+fn tell_refused(rt: &(impl Abort + AllocGlobal), rows: &[CommandRow]) -> Result<(), Fail> {
     for row in rows {
         let mut trace = String::new(rt.alloc());
         write!(trace, "{HEADER}")?;
@@ -115,14 +115,14 @@ const SHAKEN: &[&str] = &[
 ];
 
 /// The rules, the two expiries, what became of the source at its two last handshakes, and how the replay ends.
-type Told = (
+type CommandTold = (
     &'static str,
     [&'static str; 2],
     [&'static str; 2],
     ReplayFault,
 );
 
-const TOLD: &[Told] = &[
+const TOLD: &[CommandTold] = &[
     (
         CONST,
         ["108,expire,bad,,,5,,,", "109,expire,bad,,,5,,,"],
@@ -144,7 +144,7 @@ const TOLD: &[Told] = &[
 ];
 
 /// One such replay, over each kind of store.
-fn tell_shaken(rt: &(impl Abort + AllocGlobal), told: &Told) -> Result<(), Fail> {
+fn tell_shaken(rt: &(impl Abort + AllocGlobal), told: &CommandTold) -> Result<(), Fail> {
     let (rules, [first, second], [added, held], fault) = *told;
     let mut trace = String::new(rt.alloc());
     write!(trace, "{HEADER}")?;

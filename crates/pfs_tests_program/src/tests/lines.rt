@@ -14,10 +14,10 @@ use std::test::Fail;
 const WIDTHS: &[usize] = &[1, 2, 3, 4, 5, 7, 64, 8192];
 
 /// How a replay ended, and its writer.
-type Ran = (Result<(), ReplayFault>, Shown);
+type LinesRan = (Result<(), ReplayFault>, Shown);
 
 /// A replay by lines of a trace whose reader gives so many bytes at each of so many reads, and then fails.
-fn by_lines(alloc: Global, trace: Pieces) -> Ran {
+fn by_lines(alloc: Global, trace: Pieces) -> LinesRan {
     let mut rules = Feed::new(RULES, 999);
     let mut trace = Feed::new(trace, 999);
     let mut out = Sink::line_buffered(shown_writer(alloc));
@@ -26,7 +26,7 @@ fn by_lines(alloc: Global, trace: Pieces) -> Ran {
 }
 
 /// The same of rules and a trace in one text.
-fn joined_by_lines(alloc: Global, input: Pieces) -> Ran {
+fn joined_by_lines(alloc: Global, input: Pieces) -> LinesRan {
     let mut input = Feed::new(input, 999);
     let mut out = Sink::line_buffered(shown_writer(alloc));
     let told = replay_joined(alloc, &mut input, &mut Tally::none(), &mut out);
@@ -52,7 +52,7 @@ fn whole(text: &[u8], len: usize, end: u8) -> usize {
 }
 
 /// Before a read failed, the lines of all records that were read whole had been written and flushed.
-fn seen(rt: &impl Abort, ran: &Ran, rows: usize, place: (usize, usize)) {
+fn seen(rt: &impl Abort, ran: &LinesRan, rows: usize, place: (usize, usize)) {
     let (told, out) = ran;
     same!(rt; *told, Err(ReplayFault::Read), place);
     let len = lines_len(REPORT, rows);

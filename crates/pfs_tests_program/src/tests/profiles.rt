@@ -6,13 +6,13 @@ use std::process::Abort;
 use std::test::Fail;
 
 /// Rules, records after the header, and the report.
-pub(crate) struct Row {
+pub(crate) struct ProfileRow {
     pub(crate) rules: &'static [u8],
     pub(crate) records: &'static [u8],
     pub(crate) report: &'static [u8],
 }
 
-pub(crate) fn tell_each(rt: &(impl Abort + AllocGlobal), rows: &[Row]) -> Result<(), Fail> {
+pub(crate) fn tell_each(rt: &(impl Abort + AllocGlobal), rows: &[ProfileRow]) -> Result<(), Fail> {
     for row in rows {
         let trace = trace_of(rt.alloc(), row.records)?;
         tell_over_stores(rt, row.rules, &trace, Ok(()), row.report)?;
@@ -21,9 +21,9 @@ pub(crate) fn tell_each(rt: &(impl Abort + AllocGlobal), rows: &[Row]) -> Result
 }
 
 /// Connections are tracked fully, but those of rules with `sloppy`.
-const TCP: &[Row] = &[
+const TCP: &[ProfileRow] = &[
     // a FIN of who made it
-    Row {
+    ProfileRow {
         rules: b"set timeout { adaptive.start 0, adaptive.end 0 }\n\
             set profile openbsd-7.4\n\
             set timeout interval 1\n\
@@ -46,7 +46,7 @@ const TCP: &[Row] = &[
             end rows=7 states=0 nodes=0 entries=0\n",
     },
     // the same, sloppy
-    Row {
+    ProfileRow {
         rules: b"set timeout { adaptive.start 0, adaptive.end 0 }\n\
             set profile openbsd-7.4\n\
             set timeout interval 1\n\
@@ -67,7 +67,7 @@ const TCP: &[Row] = &[
             end rows=6 states=0 nodes=0 entries=0\n",
     },
     // SYN and ACK, and no answer
-    Row {
+    ProfileRow {
         rules: b"set timeout { adaptive.start 0, adaptive.end 0 }\n\
             set profile openbsd-7.4\n\
             set timeout interval 1\n\
@@ -84,7 +84,7 @@ const TCP: &[Row] = &[
             end rows=4 states=0 nodes=0 entries=0\n",
     },
     // SYN and ACK is no connection
-    Row {
+    ProfileRow {
         rules: b"set timeout { adaptive.start 0, adaptive.end 0 }\n\
             set profile openbsd-7.4\n\
             table <bad>\n\
@@ -108,7 +108,7 @@ const TCP: &[Row] = &[
             end rows=8 states=0 nodes=1 entries=1\n",
     },
     // picked up in the middle
-    Row {
+    ProfileRow {
         rules: b"set timeout { adaptive.start 0, adaptive.end 0 }\n\
             set profile openbsd-7.4\n\
             set timeout interval 1\n\
@@ -124,7 +124,7 @@ const TCP: &[Row] = &[
             end rows=4 states=1 nodes=0 entries=0\n",
     },
     // RST, then a SYN of the same ports
-    Row {
+    ProfileRow {
         rules: b"set timeout { adaptive.start 0, adaptive.end 0 }\n\
             set profile openbsd-7.4\n\
             pass in proto tcp to any port 80 keep state\n\
@@ -144,7 +144,7 @@ const TCP: &[Row] = &[
             end rows=6 states=1 nodes=0 entries=0\n",
     },
     // closed by both, then a SYN that is blocked
-    Row {
+    ProfileRow {
         rules: b"set timeout { adaptive.start 0, adaptive.end 0 }\n\
             set profile openbsd-7.4\n\
             table <shut>\n\
@@ -180,9 +180,9 @@ fn connections_are_tracked_fully(rt: HostRuntime) -> Result<(), Fail> {
 }
 
 /// The source node comes before `max`.
-const NODES: &[Row] = &[
+const NODES: &[ProfileRow] = &[
     // a node that max leaves
-    Row {
+    ProfileRow {
         rules: b"set timeout { adaptive.start 0, adaptive.end 0 }\n\
             set profile openbsd-7.4\n\
             set timeout src.track 100\n\
@@ -198,7 +198,7 @@ const NODES: &[Row] = &[
             end rows=4 states=1 nodes=1 entries=0\n",
     },
     // without the profile: max leaves no node
-    Row {
+    ProfileRow {
         rules: b"set timeout { adaptive.start 0, adaptive.end 0 }\n\
             set timeout src.track 100\n\
             pass in proto udp to any port 53 keep state (max 1, source-track rule)\n",
@@ -211,7 +211,7 @@ const NODES: &[Row] = &[
             end rows=3 states=1 nodes=1 entries=0\n",
     },
     // nodes of refused sources fill src-nodes
-    Row {
+    ProfileRow {
         rules: b"set timeout { adaptive.start 0, adaptive.end 0 }\n\
             set profile openbsd-7.4\n\
             set limit src-nodes 2\n\
@@ -228,7 +228,7 @@ const NODES: &[Row] = &[
             end rows=4 states=2 nodes=2 entries=0\n",
     },
     // max-src-nodes is asked before max
-    Row {
+    ProfileRow {
         rules: b"set timeout { adaptive.start 0, adaptive.end 0 }\n\
             set profile openbsd-7.4\n\
             pass in proto udp to any port 53 keep state (max 1, source-track rule, max-src-nodes 1)\n",
@@ -248,9 +248,9 @@ fn a_node_is_made_before_max_is_asked(rt: HostRuntime) -> Result<(), Fail> {
 }
 
 /// A flush goes by the side of the key.
-const FLUSHES: &[Row] = &[
+const FLUSHES: &[ProfileRow] = &[
     // flush by the side of the key
-    Row {
+    ProfileRow {
         rules: b"set timeout { adaptive.start 0, adaptive.end 0 }\n\
             set profile openbsd-7.4\n\
             table <bad>\n\
@@ -284,7 +284,7 @@ const FLUSHES: &[Row] = &[
             end rows=12 states=2 nodes=1 entries=1\n",
     },
     // without the profile: flush by the source
-    Row {
+    ProfileRow {
         rules: b"set timeout { adaptive.start 0, adaptive.end 0 }\n\
             table <bad>\n\
             pass in proto tcp to any port 80 keep state (max-src-conn 1, overload <bad> flush global)\n\
@@ -317,7 +317,7 @@ const FLUSHES: &[Row] = &[
             end rows=12 states=2 nodes=1 entries=1\n",
     },
     // flush of one rule
-    Row {
+    ProfileRow {
         rules: b"set timeout { adaptive.start 0, adaptive.end 0 }\n\
             set profile openbsd-7.4\n\
             table <bad>\n\
@@ -354,9 +354,9 @@ fn a_flush_goes_by_the_side_of_the_key(rt: HostRuntime) -> Result<(), Fail> {
 }
 
 /// A timeout of 0 of a rule is not given, and `max` scales its rule.
-const TIMEOUTS: &[Row] = &[
+const TIMEOUTS: &[ProfileRow] = &[
     // a timeout of 0 is not given
-    Row {
+    ProfileRow {
         rules: b"set timeout { adaptive.start 0, adaptive.end 0 }\n\
             set profile openbsd-7.4\n\
             set timeout { interval 1, udp.first 5 }\n\
@@ -370,7 +370,7 @@ const TIMEOUTS: &[Row] = &[
             end rows=3 states=0 nodes=0 entries=0\n",
     },
     // the seconds of a rate in place of src.track
-    Row {
+    ProfileRow {
         rules: b"set timeout { adaptive.start 0, adaptive.end 0 }\n\
             set profile openbsd-7.4\n\
             set timeout { interval 1, src.track 600, tcp.first 1 }\n\
@@ -384,7 +384,7 @@ const TIMEOUTS: &[Row] = &[
             end rows=3 states=0 nodes=0 entries=0\n",
     },
     // max scales its rule
-    Row {
+    ProfileRow {
         rules: b"set profile openbsd-7.4\n\
             set timeout { interval 1, udp.first 60 }\n\
             pass in proto udp to any port 53 keep state (max 10)\n",

@@ -13,7 +13,7 @@ const ALL_UDP: &[u8] = b"set timeout { adaptive.start 0, adaptive.end 0 }\npass 
 
 /// Rules, records after the header, what is written, and how it ends.
 #[derive(Clone, Copy)]
-struct Row {
+struct ReportRow {
     rules: &'static [u8],
     records: &'static [u8],
     report: &'static [u8],
@@ -21,8 +21,8 @@ struct Row {
 }
 
 /// Rules and records that end in a report.
-fn whole(rules: &'static [u8], records: &'static [u8], report: &'static [u8]) -> Row {
-    Row {
+fn whole(rules: &'static [u8], records: &'static [u8], report: &'static [u8]) -> ReportRow {
+    ReportRow {
         rules,
         records,
         report,
@@ -31,8 +31,8 @@ fn whole(rules: &'static [u8], records: &'static [u8], report: &'static [u8]) ->
 }
 
 /// Records that stop at a fault, under rules that pass all UDP.
-fn stopped(records: &'static [u8], report: &'static [u8], fault: ReplayFault) -> Row {
-    Row {
+fn stopped(records: &'static [u8], report: &'static [u8], fault: ReplayFault) -> ReportRow {
+    ReportRow {
         rules: ALL_UDP,
         records,
         report,
@@ -42,7 +42,7 @@ fn stopped(records: &'static [u8], report: &'static [u8], fault: ReplayFault) ->
 
 /// One packet of 198.51.100.1 by no rule, the run with a refused third state, a
 /// maximum that is asked before the limit, the last rule that matches, and a faulty trace.
-fn rows() -> [Row; 9] {
+fn rows() -> [ReportRow; 9] {
     [
         whole(UNSCALED, b"", b"end rows=0 states=0 nodes=0 entries=0\n"),
         whole(

@@ -1,12 +1,12 @@
 //! Replays with `set route`: a packet is asked at both interfaces of its way.
 
-use super::profiles::{Row, tell_each};
+use super::profiles::{ProfileRow, tell_each};
 use std::test::Fail;
 
 /// A packet that comes in and leaves.
-const WAYS: &[Row] = &[
+const WAYS: &[ProfileRow] = &[
     // a connection, seen outside
-    Row {
+    ProfileRow {
         rules: b"set timeout { adaptive.start 0, adaptive.end 0 }\n\
             set profile openbsd-7.4\n\
             set route { 0.0.0.0/0 em0, 192.0.2.0/24 em1 }\n\
@@ -24,7 +24,7 @@ const WAYS: &[Row] = &[
             end rows=4 states=2 nodes=0 entries=0\n",
     },
     // a connection, seen inside
-    Row {
+    ProfileRow {
         rules: b"set timeout { adaptive.start 0, adaptive.end 0 }\n\
             set profile openbsd-7.4\n\
             set route { 0.0.0.0/0 em0, 192.0.2.0/24 em1 }\n\
@@ -40,7 +40,7 @@ const WAYS: &[Row] = &[
             end rows=3 states=2 nodes=0 entries=0\n",
     },
     // what the second interface refuses leaves the first one's state
-    Row {
+    ProfileRow {
         rules: b"set timeout { adaptive.start 0, adaptive.end 0 }\n\
             set profile openbsd-7.4\n\
             set route { 0.0.0.0/0 em0, 192.0.2.0/24 em1 }\n\
@@ -60,7 +60,7 @@ const WAYS: &[Row] = &[
             end rows=5 states=5 nodes=0 entries=0\n",
     },
     // to the firewall itself
-    Row {
+    ProfileRow {
         rules: b"set timeout { adaptive.start 0, adaptive.end 0 }\n\
             set profile openbsd-7.4\n\
             set route { 0.0.0.0/0 em0, 192.0.2.0/24 em1, 192.0.2.1 lo0 }\n\
@@ -74,7 +74,7 @@ const WAYS: &[Row] = &[
             end rows=3 states=1 nodes=0 entries=0\n",
     },
     // synproxy asks the second interface for the SYN of its own
-    Row {
+    ProfileRow {
         rules: b"set timeout { adaptive.start 0, adaptive.end 0 }\n\
             set profile openbsd-7.4\n\
             set route { 0.0.0.0/0 em0, 192.0.2.0/24 em1 }\n\

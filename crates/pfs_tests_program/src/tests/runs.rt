@@ -1,6 +1,6 @@
 //! Replays over any readers and writer, and over texts in memory.
 
-use pfs_cli::{ReplayFault, Stop, Tally, replay, replay_joined, write_report_over};
+use pfs_cli::{RecordsStop, ReplayFault, Tally, replay, replay_joined, write_report_over};
 use pfs_conf::load;
 use pfs_store::{IndexStore, PlainStore};
 use pfs_streams::{Feed, Sink};
@@ -68,17 +68,19 @@ pub fn tell_joined(
 }
 
 /// How a replay of a trace ends, by how its report does.
-fn ended(told: Result<(), Stop>) -> Result<(), ReplayFault> {
+fn ended(told: Result<(), RecordsStop>) -> Result<(), ReplayFault> {
     match told {
         Ok(()) => Ok(()),
-        Err(Stop::Fault(TraceFault::Columns(row))) => Err(ReplayFault::Columns(row)),
-        Err(Stop::Fault(TraceFault::Field(row, column))) => Err(ReplayFault::Field(row, column)),
-        Err(Stop::Fault(TraceFault::TimeFell(row))) => Err(ReplayFault::TimeFell(row)),
-        Err(Stop::Fault(TraceFault::Table(row))) => Err(ReplayFault::Table(row)),
-        Err(Stop::Fault(TraceFault::TooManyRows)) => Err(ReplayFault::TooManyRows),
-        Err(Stop::Source) => Err(ReplayFault::Read),
-        Err(Stop::Memory) => Err(ReplayFault::Memory),
-        Err(Stop::Write) => Err(ReplayFault::Write),
+        Err(RecordsStop::Fault(TraceFault::Columns(row))) => Err(ReplayFault::Columns(row)),
+        Err(RecordsStop::Fault(TraceFault::Field(row, column))) => Err(ReplayFault::Field(
+            row, column,
+        )),
+        Err(RecordsStop::Fault(TraceFault::TimeFell(row))) => Err(ReplayFault::TimeFell(row)),
+        Err(RecordsStop::Fault(TraceFault::Table(row))) => Err(ReplayFault::Table(row)),
+        Err(RecordsStop::Fault(TraceFault::TooManyRows)) => Err(ReplayFault::TooManyRows),
+        Err(RecordsStop::Source) => Err(ReplayFault::Read),
+        Err(RecordsStop::Memory) => Err(ReplayFault::Memory),
+        Err(RecordsStop::Write) => Err(ReplayFault::Write),
     }
 }
 

@@ -1,12 +1,12 @@
 //! Replays under `set syncookies`, under the profile of OpenBSD 7.4.
 
-use super::profiles::{Row, tell_each};
+use super::profiles::{ProfileRow, tell_each};
 use std::test::Fail;
 
 /// Each SYN from outside gets a cookie.
-const ALWAYS: &[Row] = &[
+const ALWAYS: &[ProfileRow] = &[
     // a connection
-    Row {
+    ProfileRow {
         rules: b"set timeout { adaptive.start 0, adaptive.end 0 }\n\
             set profile openbsd-7.4\n\
             set syncookies always\n\
@@ -27,7 +27,7 @@ const ALWAYS: &[Row] = &[
             end rows=6 states=1 nodes=0 entries=0\n",
     },
     // what was not answered by one is asked of the rules
-    Row {
+    ProfileRow {
         rules: b"set timeout { adaptive.start 0, adaptive.end 0 }\n\
             set profile openbsd-7.4\n\
             set syncookies always\n\
@@ -44,7 +44,7 @@ const ALWAYS: &[Row] = &[
             end rows=4 states=1 nodes=0 entries=0\n",
     },
     // also to who is blocked
-    Row {
+    ProfileRow {
         rules: b"set timeout { adaptive.start 0, adaptive.end 0 }\n\
             set profile openbsd-7.4\n\
             set syncookies always\n\
@@ -58,7 +58,7 @@ const ALWAYS: &[Row] = &[
             end rows=3 states=0 nodes=0 entries=0\n",
     },
     // a rule without state drops
-    Row {
+    ProfileRow {
         rules: b"set timeout { adaptive.start 0, adaptive.end 0 }\n\
             set profile openbsd-7.4\n\
             set syncookies always\n\
@@ -70,7 +70,7 @@ const ALWAYS: &[Row] = &[
             end rows=2 states=0 nodes=0 entries=0\n",
     },
     // no rule at all
-    Row {
+    ProfileRow {
         rules: b"set timeout { adaptive.start 0, adaptive.end 0 }\n\
             set profile openbsd-7.4\n\
             set syncookies always\n",
@@ -81,7 +81,7 @@ const ALWAYS: &[Row] = &[
             end rows=2 states=0 nodes=0 entries=0\n",
     },
     // good for two secrets
-    Row {
+    ProfileRow {
         rules: b"set timeout { adaptive.start 0, adaptive.end 0 }\n\
             set profile openbsd-7.4\n\
             set syncookies always\n\
@@ -102,7 +102,7 @@ const ALWAYS: &[Row] = &[
             end rows=6 states=2 nodes=0 entries=0\n",
     },
     // a connection by cookie does not count
-    Row {
+    ProfileRow {
         rules: b"set timeout { adaptive.start 0, adaptive.end 0 }\n\
             set profile openbsd-7.4\n\
             set syncookies always\n\
@@ -134,7 +134,7 @@ const ALWAYS: &[Row] = &[
             end rows=12 states=3 nodes=1 entries=0\n",
     },
     // a packet out, one with ACK, and one of another protocol get none
-    Row {
+    ProfileRow {
         rules: b"set timeout { adaptive.start 0, adaptive.end 0 }\n\
             set profile openbsd-7.4\n\
             set syncookies always\n\
@@ -148,7 +148,7 @@ const ALWAYS: &[Row] = &[
             end rows=3 states=3 nodes=0 entries=0\n",
     },
     // also where a state has its key
-    Row {
+    ProfileRow {
         rules: b"set timeout { adaptive.start 0, adaptive.end 0 }\n\
             set profile openbsd-7.4\n\
             set syncookies always\n\
@@ -165,7 +165,7 @@ const ALWAYS: &[Row] = &[
             end rows=4 states=1 nodes=0 entries=0\n",
     },
     // an ACK with SYN or RST brings none, one with FIN does
-    Row {
+    ProfileRow {
         rules: b"set timeout { adaptive.start 0, adaptive.end 0 }\n\
             set profile openbsd-7.4\n\
             set syncookies always\n\
@@ -182,7 +182,7 @@ const ALWAYS: &[Row] = &[
             end rows=4 states=1 nodes=0 entries=0\n",
     },
     // it is taken also where a limit refuses the state
-    Row {
+    ProfileRow {
         rules: b"set timeout { adaptive.start 0, adaptive.end 0 }\n\
             set profile openbsd-7.4\n\
             set syncookies always\n\
@@ -200,7 +200,7 @@ const ALWAYS: &[Row] = &[
             end rows=5 states=1 nodes=0 entries=0\n",
     },
     // the state stays for tcp.first from the ACK on
-    Row {
+    ProfileRow {
         rules: b"set timeout { adaptive.start 0, adaptive.end 0 }\n\
             set profile openbsd-7.4\n\
             set syncookies always\n\
@@ -220,7 +220,7 @@ const ALWAYS: &[Row] = &[
             end rows=5 states=0 nodes=0 entries=0\n",
     },
     // the secret turns 15 seconds after the first one
-    Row {
+    ProfileRow {
         rules: b"set timeout { adaptive.start 0, adaptive.end 0 }\n\
             set profile openbsd-7.4\n\
             set syncookies always\n\
@@ -239,7 +239,7 @@ const ALWAYS: &[Row] = &[
             end rows=5 states=1 nodes=0 entries=0\n",
     },
     // a later one of its key replaces it
-    Row {
+    ProfileRow {
         rules: b"set timeout { adaptive.start 0, adaptive.end 0 }\n\
             set profile openbsd-7.4\n\
             set syncookies always\n\
@@ -254,7 +254,7 @@ const ALWAYS: &[Row] = &[
             end rows=3 states=1 nodes=0 entries=0\n",
     },
     // a connection by cookie does not count for a rate
-    Row {
+    ProfileRow {
         rules: b"set timeout { adaptive.start 0, adaptive.end 0 }\n\
             set profile openbsd-7.4\n\
             set syncookies always\n\
@@ -288,9 +288,9 @@ const ALWAYS: &[Row] = &[
 ];
 
 /// Those that come while many states are half open get one, or none ever does.
-const ADAPTIVE: &[Row] = &[
+const ADAPTIVE: &[ProfileRow] = &[
     // adaptive begins above its start
-    Row {
+    ProfileRow {
         rules: b"set timeout { adaptive.start 0, adaptive.end 0 }\n\
             set profile openbsd-7.4\n\
             set limit states 100\n\
@@ -316,7 +316,7 @@ const ADAPTIVE: &[Row] = &[
             end rows=8 states=6 nodes=0 entries=0\n",
     },
     // a SYN that is answered is not half open
-    Row {
+    ProfileRow {
         rules: b"set timeout { adaptive.start 0, adaptive.end 0 }\n\
             set profile openbsd-7.4\n\
             set limit states 100\n\
@@ -358,7 +358,7 @@ const ADAPTIVE: &[Row] = &[
             end rows=16 states=8 nodes=0 entries=0\n",
     },
     // adaptive ends at a turn of the secret
-    Row {
+    ProfileRow {
         rules: b"set timeout { adaptive.start 0, adaptive.end 0 }\n\
             set profile openbsd-7.4\n\
             set limit states 100\n\
@@ -400,7 +400,7 @@ const ADAPTIVE: &[Row] = &[
             end rows=16 states=8 nodes=0 entries=0\n",
     },
     // a key counts once; what is out stays good while they are off
-    Row {
+    ProfileRow {
         rules: b"set timeout { adaptive.start 0, adaptive.end 0 }\n\
             set profile openbsd-7.4\n\
             set limit states 100\n\
@@ -446,7 +446,7 @@ const ADAPTIVE: &[Row] = &[
             end rows=18 states=8 nodes=0 entries=0\n",
     },
     // a state by cookie is not half open
-    Row {
+    ProfileRow {
         rules: b"set timeout { adaptive.start 0, adaptive.end 0 }\n\
             set profile openbsd-7.4\n\
             set limit states 100\n\
@@ -484,7 +484,7 @@ const ADAPTIVE: &[Row] = &[
             end rows=14 states=8 nodes=0 entries=0\n",
     },
     // never
-    Row {
+    ProfileRow {
         rules: b"set timeout { adaptive.start 0, adaptive.end 0 }\n\
             set profile openbsd-7.4\n\
             set syncookies never\n\

@@ -1,11 +1,11 @@
 //! Replays of rules with `synproxy state`, under the profile of OpenBSD 7.4.
 
-use super::profiles::{Row, tell_each};
+use super::profiles::{ProfileRow, tell_each};
 use std::test::Fail;
 
-const SYNPROXIES: &[Row] = &[
+const SYNPROXIES: &[ProfileRow] = &[
     // a connection
-    Row {
+    ProfileRow {
         rules: b"set timeout { adaptive.start 0, adaptive.end 0 }\n\
             set profile openbsd-7.4\n\
             pass in proto tcp to any port 80 synproxy state\n\
@@ -25,7 +25,7 @@ const SYNPROXIES: &[Row] = &[
             end rows=6 states=1 nodes=0 entries=0\n",
     },
     // forged SYN packets are held for tcp.first from their SYN on
-    Row {
+    ProfileRow {
         rules: b"set timeout { adaptive.start 0, adaptive.end 0 }\n\
             set profile openbsd-7.4\n\
             set timeout interval 1\n\
@@ -44,7 +44,7 @@ const SYNPROXIES: &[Row] = &[
             end rows=5 states=0 nodes=0 entries=0\n",
     },
     // a packet out, and one with ACK, make an ordinary state
-    Row {
+    ProfileRow {
         rules: b"set timeout { adaptive.start 0, adaptive.end 0 }\n\
             set profile openbsd-7.4\n\
             pass proto tcp all flags any synproxy state\n",
@@ -55,7 +55,7 @@ const SYNPROXIES: &[Row] = &[
             end rows=2 states=2 nodes=0 entries=0\n",
     },
     // limits on states are asked at the SYN, those on connections at the ACK
-    Row {
+    ProfileRow {
         rules: b"set timeout { adaptive.start 0, adaptive.end 0 }\n\
             set profile openbsd-7.4\n\
             table <bad>\n\
@@ -75,7 +75,7 @@ const SYNPROXIES: &[Row] = &[
             end rows=6 states=1 nodes=1 entries=1\n",
     },
     // what is neither SYN nor ACK
-    Row {
+    ProfileRow {
         rules: b"set timeout { adaptive.start 0, adaptive.end 0 }\n\
             set profile openbsd-7.4\n\
             pass in proto tcp to any port 80 synproxy state\n\
@@ -97,7 +97,7 @@ const SYNPROXIES: &[Row] = &[
             end rows=7 states=1 nodes=0 entries=0\n",
     },
     // a datagram makes an ordinary state
-    Row {
+    ProfileRow {
         rules: b"set timeout { adaptive.start 0, adaptive.end 0 }\n\
             set profile openbsd-7.4\n\
             pass in proto udp to any port 53 synproxy state\n",
@@ -108,7 +108,7 @@ const SYNPROXIES: &[Row] = &[
             end rows=2 states=1 nodes=0 entries=0\n",
     },
     // the server's SYN with ACK changes neither the timeout nor the last moment, the next packet both
-    Row {
+    ProfileRow {
         rules: b"set timeout { adaptive.start 0, adaptive.end 0 }\n\
             set profile openbsd-7.4\n\
             set timeout interval 1\n\
@@ -128,7 +128,7 @@ const SYNPROXIES: &[Row] = &[
             end rows=5 states=0 nodes=0 entries=0\n",
     },
     // a connection that both peers use stays for tcp.established
-    Row {
+    ProfileRow {
         rules: b"set timeout { adaptive.start 0, adaptive.end 0 }\n\
             set profile openbsd-7.4\n\
             set timeout interval 1\n\
@@ -150,7 +150,7 @@ const SYNPROXIES: &[Row] = &[
             end rows=6 states=0 nodes=0 entries=0\n",
     },
     // a connection counts once, at the maker's ACK
-    Row {
+    ProfileRow {
         rules: b"set timeout { adaptive.start 0, adaptive.end 0 }\n\
             set profile openbsd-7.4\n\
             table <bad>\n\
@@ -172,7 +172,7 @@ const SYNPROXIES: &[Row] = &[
             end rows=7 states=1 nodes=1 entries=1\n",
     },
     // a rule with sloppy tracks so once both handshakes are done
-    Row {
+    ProfileRow {
         rules: b"set timeout { adaptive.start 0, adaptive.end 0 }\n\
             set profile openbsd-7.4\n\
             set timeout interval 1\n\

@@ -1,12 +1,12 @@
 //! Replays with tags, and with rules that ask for the interface by which a packet came in.
 
-use super::profiles::{Row, tell_each};
+use super::profiles::{ProfileRow, tell_each};
 use std::test::Fail;
 
 /// A tag goes along to the second interface, and stays, whichever rule decides.
-const TAGS: &[Row] = &[
+const TAGS: &[ProfileRow] = &[
     // a tag goes to the second interface
-    Row {
+    ProfileRow {
         rules: b"set timeout { adaptive.start 0, adaptive.end 0 }\n\
             set profile openbsd-7.4\n\
             set route { 0.0.0.0/0 em0, 192.0.2.0/24 em1 }\n\
@@ -23,7 +23,7 @@ const TAGS: &[Row] = &[
             end rows=3 states=3 nodes=0 entries=0\n",
     },
     // a tag stays, whichever rule decides
-    Row {
+    ProfileRow {
         rules: b"set timeout { adaptive.start 0, adaptive.end 0 }\n\
             set profile openbsd-7.4\n\
             set route { 0.0.0.0/0 em0, 192.0.2.0/24 em1 }\n\
@@ -38,9 +38,9 @@ const TAGS: &[Row] = &[
 ];
 
 /// The interface by which a packet came in: that of its way, or none that is known.
-const RECEIVED: &[Row] = &[
+const RECEIVED: &[ProfileRow] = &[
     // ! received-on holds where no interface is known
-    Row {
+    ProfileRow {
         rules: b"set timeout { adaptive.start 0, adaptive.end 0 }\n\
             set profile openbsd-7.4\n\
             pass out ! received-on em0\n\
@@ -50,7 +50,7 @@ const RECEIVED: &[Row] = &[
             end rows=1 states=1 nodes=0 entries=0\n",
     },
     // received-on
-    Row {
+    ProfileRow {
         rules: b"set timeout { adaptive.start 0, adaptive.end 0 }\n\
             set profile openbsd-7.4\n\
             set route { 0.0.0.0/0 em0, 192.0.2.0/24 em1 }\n\

@@ -2,7 +2,7 @@
 
 use super::runs::{tell_joined, tell_over_stores};
 use pfs_addr_values::Addr;
-use pfs_tests_cases::{Came, Case, HEADER, Row};
+use pfs_tests_cases::{Case, CaseRow, HEADER, RowEvent};
 use std::process::Abort;
 use std::test::Fail;
 
@@ -33,7 +33,7 @@ fn octets_of(source: Addr) -> Result<[u8; 4], Fail> {
 /// A record of what the source sends, from its port to one of the server.
 fn write_sent(
     trace: &mut String,
-    row: &Row,
+    row: &CaseRow,
     proto: &str,
     to: u16,
     flags: &str,
@@ -46,7 +46,7 @@ fn write_sent(
 }
 
 /// A record of the server's answer to the first packet of a handshake.
-fn write_answer(trace: &mut String, row: &Row) -> Result<(), Fail> {
+fn write_answer(trace: &mut String, row: &CaseRow) -> Result<(), Fail> {
     let (time, _, source, port, _) = *row;
     write!(trace, "{time},out,em0,tcp,192.0.2.1,80,")?;
     write_source(trace, source)?;
@@ -54,41 +54,41 @@ fn write_answer(trace: &mut String, row: &Row) -> Result<(), Fail> {
     Ok(())
 }
 
-fn write_records(trace: &mut String, row: &Row) -> Result<(), Fail> {
+fn write_records(trace: &mut String, row: &CaseRow) -> Result<(), Fail> {
     let time = row.0;
     match row.1 {
-        Came::Udp(to) => write_sent(trace, row, "udp", to, ""),
-        Came::Syn => write_sent(trace, row, "tcp", 80, "S"),
-        Came::SynAck => write_answer(trace, row),
-        Came::Ack => write_sent(trace, row, "tcp", 80, "A"),
-        Came::Fin => write_sent(trace, row, "tcp", 80, "FA"),
-        Came::Reset => write_sent(trace, row, "tcp", 80, "R"),
-        Came::Shake(_) => {
+        RowEvent::Udp(to) => write_sent(trace, row, "udp", to, ""),
+        RowEvent::Syn => write_sent(trace, row, "tcp", 80, "S"),
+        RowEvent::SynAck => write_answer(trace, row),
+        RowEvent::Ack => write_sent(trace, row, "tcp", 80, "A"),
+        RowEvent::Fin => write_sent(trace, row, "tcp", 80, "FA"),
+        RowEvent::Reset => write_sent(trace, row, "tcp", 80, "R"),
+        RowEvent::Shake(_) => {
             write_sent(trace, row, "tcp", 80, "S")?;
             write_answer(trace, row)?;
             write_sent(trace, row, "tcp", 80, "A")
         }
-        Came::Ping => {
+        RowEvent::Ping => {
             write!(trace, "{time},in,em0,icmp,198.51.100.1,,192.0.2.1,,\n")?;
             Ok(())
         }
-        Came::Expire(seconds) => {
+        RowEvent::Expire(seconds) => {
             write!(trace, "{time},expire,bad,,,{seconds},,,\n")?;
             Ok(())
         }
-        Came::Add(table, entry) => {
+        RowEvent::Add(table, entry) => {
             write!(trace, "{time},add,{table},,{entry},,,,\n")?;
             Ok(())
         }
-        Came::Delete(table, entry) => {
+        RowEvent::Delete(table, entry) => {
             write!(trace, "{time},delete,{table},,{entry},,,,\n")?;
             Ok(())
         }
-        Came::Kill(from, to) => {
+        RowEvent::Kill(from, to) => {
             write!(trace, "{time},kill,,,{from},,{to},,\n")?;
             Ok(())
         }
-        Came::Ask => {
+        RowEvent::Ask => {
             write!(trace, "{time},held,,,,,,,\n")?;
             Ok(())
         }
@@ -96,9 +96,9 @@ fn write_records(trace: &mut String, row: &Row) -> Result<(), Fail> {
 }
 
 /// The lines of a row, of which the first has this number, and the number of the next line.
-fn write_lines(report: &mut String, number: u64, row: &Row) -> Result<u64, Fail> {
+fn write_lines(report: &mut String, number: u64, row: &CaseRow) -> Result<u64, Fail> {
     let mut number = number;
-    if let Came::Shake(rule) = row.1 {
+    if let RowEvent::Shake(rule) = row.1 {
         write!(
             report,
             "{number} new @{rule}\n{} state @{rule}\n",

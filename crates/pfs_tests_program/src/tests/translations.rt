@@ -1,12 +1,12 @@
 //! Replays with `nat-to` and `rdr-to`: states with two keys.
 
-use super::profiles::{Row, tell_each};
+use super::profiles::{ProfileRow, tell_each};
 use std::test::Fail;
 
 /// The destination is translated: by `match` at once, by `pass` when it has decided.
-const DESTINATIONS: &[Row] = &[
+const DESTINATIONS: &[ProfileRow] = &[
     // rdr-to by match: rules behind it see what it made
-    Row {
+    ProfileRow {
         rules: b"set timeout { adaptive.start 0, adaptive.end 0 }\n\
             set profile openbsd-7.4\n\
             match in on em0 proto tcp to 192.0.2.1 port 80 rdr-to 10.0.0.5 port 8080\n\
@@ -22,7 +22,7 @@ const DESTINATIONS: &[Row] = &[
             end rows=3 states=1 nodes=0 entries=0\n",
     },
     // rdr-to by pass: no rule sees what it makes
-    Row {
+    ProfileRow {
         rules: b"set timeout { adaptive.start 0, adaptive.end 0 }\n\
             set profile openbsd-7.4\n\
             pass in proto tcp to 192.0.2.1 port 80 rdr-to 10.0.0.5\n\
@@ -36,7 +36,7 @@ const DESTINATIONS: &[Row] = &[
             end rows=3 states=1 nodes=0 entries=0\n",
     },
     // rdr-to on its way through
-    Row {
+    ProfileRow {
         rules: b"set timeout { adaptive.start 0, adaptive.end 0 }\n\
             set profile openbsd-7.4\n\
             set route { 0.0.0.0/0 em0, 10.0.0.0/8 em1, 192.0.2.1 lo0 }\n\
@@ -53,7 +53,7 @@ const DESTINATIONS: &[Row] = &[
             end rows=3 states=2 nodes=0 entries=0\n",
     },
     // two public addresses of one server, one port of a client
-    Row {
+    ProfileRow {
         rules: b"set timeout { adaptive.start 0, adaptive.end 0 }\n\
             set profile openbsd-7.4\n\
             pass in proto tcp to 192.0.2.0/24 port 80 rdr-to 10.0.0.5\n",
@@ -68,9 +68,9 @@ const DESTINATIONS: &[Row] = &[
 ];
 
 /// The source is translated: to a port that is free.
-const SOURCES: &[Row] = &[
+const SOURCES: &[ProfileRow] = &[
     // nat-to: ports, until none is left for a remote end
-    Row {
+    ProfileRow {
         rules: b"set timeout { adaptive.start 0, adaptive.end 0 }\n\
             set profile openbsd-7.4\n\
             set route { 0.0.0.0/0 em0, 10.0.0.0/8 em1, 192.0.2.1 lo0 }\n\
@@ -93,7 +93,7 @@ const SOURCES: &[Row] = &[
             end rows=6 states=7 nodes=0 entries=0\n",
     },
     // nat-to: a port is free again when its state is gone
-    Row {
+    ProfileRow {
         rules: b"set timeout { adaptive.start 0, adaptive.end 0 }\n\
             set profile openbsd-7.4\n\
             set route { 0.0.0.0/0 em0, 10.0.0.0/8 em1, 192.0.2.1 lo0 }\n\
@@ -111,7 +111,7 @@ const SOURCES: &[Row] = &[
             end rows=3 states=2 nodes=0 entries=0\n",
     },
     // nat-to static-port: the same port twice
-    Row {
+    ProfileRow {
         rules: b"set timeout { adaptive.start 0, adaptive.end 0 }\n\
             set profile openbsd-7.4\n\
             set route { 0.0.0.0/0 em0, 10.0.0.0/8 em1, 192.0.2.1 lo0 }\n\
@@ -126,7 +126,7 @@ const SOURCES: &[Row] = &[
             end rows=3 states=5 nodes=0 entries=0\n",
     },
     // nat-to: a packet that a capture shows behind it
-    Row {
+    ProfileRow {
         rules: b"set timeout { adaptive.start 0, adaptive.end 0 }\n\
             set profile openbsd-7.4\n\
             pass out nat-to 192.0.2.1\n",
@@ -137,7 +137,7 @@ const SOURCES: &[Row] = &[
             end rows=2 states=1 nodes=0 entries=0\n",
     },
     // nat-to: a limit on a source sees it before the translation
-    Row {
+    ProfileRow {
         rules: b"set timeout { adaptive.start 0, adaptive.end 0 }\n\
             set profile openbsd-7.4\n\
             set route { 0.0.0.0/0 em0, 10.0.0.0/8 em1, 192.0.2.1 lo0 }\n\
@@ -152,7 +152,7 @@ const SOURCES: &[Row] = &[
             end rows=3 states=2 nodes=2 entries=0\n",
     },
     // a translation gives its rule the family
-    Row {
+    ProfileRow {
         rules: b"set timeout { adaptive.start 0, adaptive.end 0 }\n\
             set profile openbsd-7.4\n\
             pass out nat-to 192.0.2.1\n",

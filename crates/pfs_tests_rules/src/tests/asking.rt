@@ -2,7 +2,7 @@
 
 use pfs_addr_values::{Meter, Packet};
 use pfs_conf::{Config, RuleNo};
-use pfs_eval::{Book, NoSides, Sides, Tables};
+use pfs_eval::{CompiledRuleset, NoSides, Sides, Tables};
 use std::alloc::Global;
 use std::test::Fail;
 
@@ -21,7 +21,7 @@ pub struct Decided {
 #[derive(Drop)]
 pub struct Rules {
     tables: Tables,
-    book: Book,
+    compiled: CompiledRuleset,
 }
 
 impl Rules {
@@ -29,7 +29,7 @@ impl Rules {
     pub fn of(alloc: Global, config: &Config) -> Result<Rules, Fail> {
         Ok(Rules {
             tables: Tables::new(alloc, config)?,
-            book: Book::new(alloc, config)?,
+            compiled: CompiledRuleset::new(alloc, config)?,
         })
     }
 
@@ -43,7 +43,7 @@ impl Rules {
         let mut visits = Meter::new();
         let mut packet = *packet;
         let decision = self
-            .book
+            .compiled
             .decide(&self.tables, sides, &mut packet, &mut visits);
         let decided = Decided {
             rule: decision.rule,

@@ -4,7 +4,7 @@ ghost use Rattle.std.specs.Prelude.{◌<◌};
 
 use super::asking::Rules;
 use super::packets::packet_on;
-use super::plain::{Evaluation, Marks, Step};
+use super::plain::{Evaluation, PlainMarks, PlainStep};
 use pfs_addr_values::{Addr, Dir, Packet, Proto, TagNo};
 use pfs_conf::load;
 use pfs_tests_cases::{CaseError, SYN, SYN_ACK, same};
@@ -70,13 +70,13 @@ fn ipv6(network: u8) -> Addr {
 
 /// What an item asks: for each parameter, by its place in the text, a choice.
 #[derive(Clone, Copy, Debug, PartialEq, Eq)]
-struct Asked {
+struct DrawnPacket {
     choices: [u32; PARAMETERS],
 }
 
-impl Asked {
+impl DrawnPacket {
     /// The same, but for one parameter.
-    fn changed(self, numbers: &mut Numbers) -> Asked {
+    fn changed(self, numbers: &mut Numbers) -> DrawnPacket {
         let changed = numbers.below(9) as usize;
         let choice = numbers.below(6);
         let mut asked = self;
@@ -138,8 +138,8 @@ fn words(parameter: usize, choice: u32) -> &'static [u8] {
 }
 
 /// What a rule does besides.
-fn marks(numbers: &mut Numbers) -> Marks {
-    Marks {
+fn marks(numbers: &mut Numbers) -> PlainMarks {
+    PlainMarks {
         is_match: numbers.once_in(4),
         tag: one_of_three(numbers.below(8)),
         tagged: one_of_three(numbers.below(9)),
@@ -152,7 +152,7 @@ fn one_of_three(tag: u32) -> Option<u32> {
 }
 
 /// Appends what a rule asks of tags, and the tag that it gives.
-fn write_marks(marks: &Marks, text: &mut Vec<u8>) -> Result<(), AllocError> {
+fn write_marks(marks: &PlainMarks, text: &mut Vec<u8>) -> Result<(), AllocError> {
     if let Some(tag) = marks.tag {
         text.extend_from_slice(b" tag")?;
         text.extend_from_slice(name(tag))?;
@@ -181,16 +181,16 @@ fn name(tag: u32) -> &'static [u8] {
 #[derive(Drop)]
 struct Ruleset {
     text: Vec<u8>,
-    items: Vec<Item>,
+    items: Vec<DrawnItem>,
     open: usize,
 }
 
 /// An item, and the rules of a text that has its filter alone, as a rule.
 #[derive(Drop)]
-struct Item {
+struct DrawnItem {
     depth: usize,
     quick: bool,
-    marks: Option<Marks>,
+    marks: Option<PlainMarks>,
     alone: Rules,
 }
 
@@ -217,15 +217,15 @@ impl Ruleset {
     fn push(
         &mut self,
         alloc: Global,
-        asked: &Asked,
+        asked: &DrawnPacket,
         quick: bool,
-        marks: Option<Marks>,
+        marks: Option<PlainMarks>,
     ) -> Result<(), Fail> {
         let mut alone = Vec::from_slice(alloc, HEAD)?;
         alone.extend_from_slice(b"block")?;
         asked.write(&mut alone, false)?;
         alone.extend_from_slice(b"\n")?;
-        let item = Item {
+        let item = DrawnItem {
             depth: self.open,
             quick,
             marks,
@@ -242,9 +242,9 @@ impl Ruleset {
     /// Appends the text of an item.
     fn write(
         &mut self,
-        asked: &Asked,
+        asked: &DrawnPacket,
         quick: bool,
-        marks: &Option<Marks>,
+        marks: &Option<PlainMarks>,
     ) -> Result<(), AllocError> {
         self.text.extend_from_slice(verb(marks))?;
         asked.write(&mut self.text, quick)?;
@@ -259,7 +259,7 @@ impl Ruleset {
 }
 
 /// The word with which an item begins.
-fn verb(marks: &Option<Marks>) -> &'static [u8] {
+fn verb(marks: &Option<PlainMarks>) -> &'static [u8] {
     match marks {
         None => b"anchor",
         Some(marks) if marks.is_match => b"match",
@@ -270,7 +270,7 @@ fn verb(marks: &Option<Marks>) -> &'static [u8] {
 /// A ruleset of some items, nested at random, most of which differ from their neighbour in one parameter.
 fn generate(alloc: Global, numbers: &mut Numbers) -> Result<Ruleset, Fail> {
     let mut ruleset = Ruleset::new(alloc)?;
-    let mut asked = Asked {
+    let mut asked = DrawnPacket {
         choices: [4; PARAMETERS],
     };
     for _ in 0..4 + numbers.below(16) {
@@ -295,11 +295,11 @@ fn generate(alloc: Global, numbers: &mut Numbers) -> Result<Ruleset, Fail> {
 }
 
 /// The plain evaluation of a packet.
-fn evaluated(items: &[Item], packet: &Packet) -> Evaluation {
+fn evaluated(items: &[DrawnItem], packet: &Packet) -> Evaluation {
     let mut evaluation = Evaluation::new();
     for (place, item) in items.iter().enumerate() {
         let (decided, _) = item.alone.ask(packet);
-        let step = Step {
+        let step = PlainStep {
             depth: item.depth,
             quick: item.quick,
             holds: decided.is_some(),
@@ -311,7 +311,7 @@ fn evaluated(items: &[Item], packet: &Packet) -> Evaluation {
 }
 
 /// The number by which a tag is known: that of the first rule that gives it.
-fn known(items: &[Item], tag: Option<u32>) -> Option<TagNo> {
+fn known(items: &[DrawnItem], tag: Option<u32>) -> Option<TagNo> {
     let tag = tag?;
     let place = items.iter().position(|item| item
         .marks

@@ -5,7 +5,7 @@ pub const DEPTHS: usize = 6;
 
 /// What a plain evaluation needs of an item.
 #[derive(Clone, Copy, Debug, PartialEq, Eq)]
-pub struct Step {
+pub struct PlainStep {
     /// The number of anchors around it.
     pub depth: usize,
     /// Whether it has `quick`.
@@ -13,12 +13,12 @@ pub struct Step {
     /// Whether its filter holds.
     pub holds: bool,
     /// What it does besides, if it is a rule, and no anchor.
-    pub marks: Option<Marks>,
+    pub marks: Option<PlainMarks>,
 }
 
 /// What a rule asks of a packet's tag, and does with it. A tag is known by a number of its own here.
 #[derive(Clone, Copy, Debug, PartialEq, Eq)]
-pub struct Marks {
+pub struct PlainMarks {
     /// Whether it is a `match` rule.
     pub is_match: bool,
     /// The tag that it gives.
@@ -29,7 +29,7 @@ pub struct Marks {
     pub negated: bool,
 }
 
-impl Marks {
+impl PlainMarks {
     /// Whether what it asks holds of a packet with this tag.
     fn hold_of(&self, tag: Option<u32>) -> bool {
         self.tagged.is_none() || (tag == self.tagged) != self.negated
@@ -73,7 +73,7 @@ impl Evaluation {
     }
 
     /// After one more item, which is at a place.
-    pub fn behind(self, place: usize, step: &Step) -> Evaluation {
+    pub fn behind(self, place: usize, step: &PlainStep) -> Evaluation {
         let left = self.after_leaving(step.depth);
         if left.is_over || left.hidden.is_some_and(|anchor| step.depth > anchor) {
             return left;
@@ -110,7 +110,7 @@ impl Evaluation {
     }
 
     /// After a rule whose filter holds.
-    fn asked(self, place: usize, quick: bool, marks: &Marks) -> Evaluation {
+    fn asked(self, place: usize, quick: bool, marks: &PlainMarks) -> Evaluation {
         if !marks.hold_of(self.tag) {
             return self;
         }

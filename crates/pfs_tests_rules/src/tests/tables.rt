@@ -71,7 +71,7 @@ fn come_to(rt: &impl Abort, tables: &mut Tables, room: Room) -> Result<(), Fail>
     assert!(rt; !is_new || tables.has_room(TableNo(0)));
     same!(rt; tables.add_host(TableNo(0), A1, 5)?, answer);
     same!(rt; tables.add_host(TableNo(0), A1, 5)?, again);
-    same!(rt; tables.add_host(TableNo(0), held, 5)?, Added::Held);
+    same!(rt; tables.add_host(TableNo(0), held, 5)?, Added::AlreadyThere);
     same!(rt; tables.entries(), entries);
     same!(rt; tables.matches(TableNo(0), A1), is_new);
     Ok(())
@@ -82,7 +82,7 @@ fn a_host_is_added_while_there_is_room(rt: HostRuntime) -> Result<(), Fail> {
     let mut full = one_table(&rt, "set limit table-entries 1\n")?;
     come_to(&rt, &mut full, (Added::Full, Added::Full, 1))?;
     let mut roomy = one_table(&rt, "set limit table-entries 2\n")?;
-    come_to(&rt, &mut roomy, (Added::New, Added::Held, 2))
+    come_to(&rt, &mut roomy, (Added::New, Added::AlreadyThere, 2))
 }
 
 fn wide_hosts_come(rt: &impl Abort, tables: &mut Tables) -> Result<(), Fail>
@@ -90,7 +90,7 @@ fn wide_hosts_come(rt: &impl Abort, tables: &mut Tables) -> Result<(), Fail>
 {
     let beside = parse_addr(b"2001:db8::2").ok_or("no address")?;
     same!(rt; tables.add_host(TableNo(0), S6, 5)?, Added::New);
-    same!(rt; tables.add_host(TableNo(0), S6, 6)?, Added::Held);
+    same!(rt; tables.add_host(TableNo(0), S6, 6)?, Added::AlreadyThere);
     assert!(rt; tables.matches(TableNo(0), S6) && !tables.matches(TableNo(0), beside));
     same!(rt; tables.add_host(TableNo(0), A1, 7)?, Added::New);
     same!(rt; tables.expire(TableNo(0), 5, 10, 5), 2);
@@ -107,97 +107,97 @@ fn a_host_of_ipv6_is_an_entry_of_128_bits(rt: HostRuntime) -> Result<(), Fail> {
 
 /// What is done to a table, or asked of it, with what must come of it.
 #[derive(Clone, Copy)]
-enum Step {
+enum TableStep {
     Add(&'static str, Entered),
     Delete(&'static str, u64),
     Matches(&'static [u8], bool),
 }
 
 /// The narrowest entry that is there decides, whatever was added and taken out before. 10.1.2.3 is a01:203:: by its first bits.
-const CHANGES: &[Step] = &[
-    Step::Matches(b"10.1.2.3", false),
-    Step::Add("10.0.0.0/8", Entered::New),
-    Step::Matches(b"10.1.2.3", true),
-    Step::Add("!10.1.0.0/16", Entered::New),
-    Step::Add("10.1.2.3", Entered::New),
-    Step::Matches(b"10.1.2.3", true),
-    Step::Matches(b"10.1.2.4", false),
-    Step::Matches(b"10.2.0.1", true),
-    Step::Matches(b"a01:203::", false),
-    Step::Add("a01:203::/32", Entered::New),
-    Step::Add("!a01:203::", Entered::New),
-    Step::Matches(b"a01:203::", false),
-    Step::Matches(b"a01:203::1", true),
-    Step::Delete("a01:203::", 0),
-    Step::Delete("a01:203::/33", 0),
-    Step::Delete("!a01:203::", 1),
-    Step::Matches(b"a01:203::", true),
-    Step::Matches(b"10.1.2.3", true),
-    Step::Delete("10.1.2.3", 1),
-    Step::Matches(b"10.1.2.3", false),
-    Step::Delete("!10.1.2.3/16", 1),
-    Step::Matches(b"10.1.2.3", true),
-    Step::Delete("10.0.0.0/8", 1),
-    Step::Matches(b"10.1.2.3", false),
-    Step::Matches(b"a01:203::", true),
-    Step::Delete("a01:203::/32", 1),
-    Step::Matches(b"a01:203::", false),
-    Step::Matches(b"203.0.113.9", true),
-    Step::Delete("203.0.113.9", 1),
-    Step::Matches(b"203.0.113.9", false),
+const CHANGES: &[TableStep] = &[
+    TableStep::Matches(b"10.1.2.3", false),
+    TableStep::Add("10.0.0.0/8", Entered::New),
+    TableStep::Matches(b"10.1.2.3", true),
+    TableStep::Add("!10.1.0.0/16", Entered::New),
+    TableStep::Add("10.1.2.3", Entered::New),
+    TableStep::Matches(b"10.1.2.3", true),
+    TableStep::Matches(b"10.1.2.4", false),
+    TableStep::Matches(b"10.2.0.1", true),
+    TableStep::Matches(b"a01:203::", false),
+    TableStep::Add("a01:203::/32", Entered::New),
+    TableStep::Add("!a01:203::", Entered::New),
+    TableStep::Matches(b"a01:203::", false),
+    TableStep::Matches(b"a01:203::1", true),
+    TableStep::Delete("a01:203::", 0),
+    TableStep::Delete("a01:203::/33", 0),
+    TableStep::Delete("!a01:203::", 1),
+    TableStep::Matches(b"a01:203::", true),
+    TableStep::Matches(b"10.1.2.3", true),
+    TableStep::Delete("10.1.2.3", 1),
+    TableStep::Matches(b"10.1.2.3", false),
+    TableStep::Delete("!10.1.2.3/16", 1),
+    TableStep::Matches(b"10.1.2.3", true),
+    TableStep::Delete("10.0.0.0/8", 1),
+    TableStep::Matches(b"10.1.2.3", false),
+    TableStep::Matches(b"a01:203::", true),
+    TableStep::Delete("a01:203::/32", 1),
+    TableStep::Matches(b"a01:203::", false),
+    TableStep::Matches(b"203.0.113.9", true),
+    TableStep::Delete("203.0.113.9", 1),
+    TableStep::Matches(b"203.0.113.9", false),
 ];
 
 /// A prefix is held with one sign; another length is another entry.
-const SIGNS: &[Step] = &[
-    Step::Add("10.1.2.3", Entered::New),
-    Step::Add("10.1.2.3/32", Entered::Held),
-    Step::Add("!10.1.2.3", Entered::Conflict),
-    Step::Matches(b"10.1.2.3", true),
-    Step::Delete("!10.1.2.3", 0),
-    Step::Add("!10.1.2.0/24", Entered::New),
-    Step::Add("!10.1.2.3/24", Entered::Held),
-    Step::Add("10.1.2.0/24", Entered::Conflict),
-    Step::Add("10.1.2.0", Entered::New),
-    Step::Add("10.1.2.0/25", Entered::New),
-    Step::Delete("10.1.2.0/26", 0),
-    Step::Delete("10.1.2.0/24", 0),
-    Step::Matches(b"10.1.2.0", true),
-    Step::Matches(b"10.1.2.200", false),
-    Step::Add("!2001:db8::", Entered::New),
-    Step::Add("2001:db8::", Entered::Conflict),
-    Step::Add("2001:DB8:0::/128", Entered::Conflict),
-    Step::Add("!2001:db8::/32", Entered::New),
+const SIGNS: &[TableStep] = &[
+    TableStep::Add("10.1.2.3", Entered::New),
+    TableStep::Add("10.1.2.3/32", Entered::AlreadyThere),
+    TableStep::Add("!10.1.2.3", Entered::Conflict),
+    TableStep::Matches(b"10.1.2.3", true),
+    TableStep::Delete("!10.1.2.3", 0),
+    TableStep::Add("!10.1.2.0/24", Entered::New),
+    TableStep::Add("!10.1.2.3/24", Entered::AlreadyThere),
+    TableStep::Add("10.1.2.0/24", Entered::Conflict),
+    TableStep::Add("10.1.2.0", Entered::New),
+    TableStep::Add("10.1.2.0/25", Entered::New),
+    TableStep::Delete("10.1.2.0/26", 0),
+    TableStep::Delete("10.1.2.0/24", 0),
+    TableStep::Matches(b"10.1.2.0", true),
+    TableStep::Matches(b"10.1.2.200", false),
+    TableStep::Add("!2001:db8::", Entered::New),
+    TableStep::Add("2001:db8::", Entered::Conflict),
+    TableStep::Add("2001:DB8:0::/128", Entered::Conflict),
+    TableStep::Add("!2001:db8::/32", Entered::New),
 ];
 
 /// Under a limit of two entries, one of which the text says.
-const FULL: &[Step] = &[
-    Step::Add("10.0.0.0/8", Entered::New),
-    Step::Add("10.1.2.3", Entered::Full),
-    Step::Add("10.0.0.0", Entered::Full),
-    Step::Add("10.9.9.9/8", Entered::Held),
-    Step::Add("!10.0.0.0/8", Entered::Conflict),
-    Step::Add("!203.0.113.9", Entered::Conflict),
-    Step::Delete("10.1.2.3", 0),
-    Step::Add("::/0", Entered::Full),
-    Step::Delete("203.0.113.9", 1),
-    Step::Add("::/0", Entered::New),
-    Step::Add("203.0.113.9", Entered::Full),
+const FULL: &[TableStep] = &[
+    TableStep::Add("10.0.0.0/8", Entered::New),
+    TableStep::Add("10.1.2.3", Entered::Full),
+    TableStep::Add("10.0.0.0", Entered::Full),
+    TableStep::Add("10.9.9.9/8", Entered::AlreadyThere),
+    TableStep::Add("!10.0.0.0/8", Entered::Conflict),
+    TableStep::Add("!203.0.113.9", Entered::Conflict),
+    TableStep::Delete("10.1.2.3", 0),
+    TableStep::Add("::/0", Entered::Full),
+    TableStep::Delete("203.0.113.9", 1),
+    TableStep::Add("::/0", Entered::New),
+    TableStep::Add("203.0.113.9", Entered::Full),
 ];
 
-fn take(rt: &impl Abort, tables: &mut Tables, step: &Step) -> Result<(), Fail>
+fn take(rt: &impl Abort, tables: &mut Tables, step: &TableStep) -> Result<(), Fail>
     requires { length tables.old.entries ≡ 1 }
     ensures { length tables.new.entries ≡ length tables.old.entries }
 {
     match *step {
-        Step::Add(text, became) => {
+        TableStep::Add(text, became) => {
             let told = tables.add_entry(TableNo(0), &entry(text)?, 5)?;
             same!(rt; told, became, text);
         }
-        Step::Delete(text, count) => {
+        TableStep::Delete(text, count) => {
             let told = tables.delete_entry(TableNo(0), &entry(text)?);
             same!(rt; told, count, text);
         }
-        Step::Matches(text, answer) => {
+        TableStep::Matches(text, answer) => {
             let addr = parse_addr(text).ok_or("no address")?;
             same!(rt; tables.matches(TableNo(0), addr), answer, addr);
         }
@@ -209,7 +209,7 @@ fn take(rt: &impl Abort, tables: &mut Tables, step: &Step) -> Result<(), Fail>
 fn follow(
     rt: &(impl Abort + AllocGlobal),
     first: &str,
-    steps: &[Step],
+    steps: &[TableStep],
     entries: u64,
 ) -> Result<(), Fail> {
     let mut tables = one_table(rt, first)?;
@@ -235,7 +235,7 @@ fn entries_grow_old(rt: &impl Abort, tables: &mut Tables) -> Result<(), Fail>
     let wide = entry("2001:db8::/32")?;
     same!(rt; tables.add_entry(TableNo(0), &net, 5)?, Entered::New);
     same!(rt; tables.add_entry(TableNo(0), &wide, 6)?, Entered::New);
-    same!(rt; tables.add_entry(TableNo(0), &net, 7)?, Entered::Held);
+    same!(rt; tables.add_entry(TableNo(0), &net, 7)?, Entered::AlreadyThere);
     same!(rt; tables.add_entry(TableNo(0), &other, 8)?, Entered::Conflict);
     same!(rt; tables.expire(TableNo(0), 3, 14, 10), 1);
     same!(rt; tables.expire(TableNo(0), 3, 15, 10), 1);

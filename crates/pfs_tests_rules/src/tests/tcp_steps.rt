@@ -21,9 +21,9 @@ type Ranks = ((u8, u8), (u8, u8));
 
 /// What an ACK does: in which ranks, whether backward too, the ranks that it gives its sender and its receiver, where a rank that
 /// is not given stays, and whether it completes a handshake.
-type Row = (Ranks, bool, (Option<u8>, Option<u8>), bool);
+type TcpRow = (Ranks, bool, (Option<u8>, Option<u8>), bool);
 
-const ACK: [Row; 5] = [
+const ACK: [TcpRow; 5] = [
     (((4, 4), (2, 2)), true, (None, Some(4)), true),
     (((0, 10), (2, 2)), true, (None, Some(4)), false),
     (((0, 10), (7, 7)), true, (None, Some(9)), false),
@@ -117,10 +117,10 @@ fn flags_of(number: u8) -> Flags {
 }
 
 /// A phase, and the ranks that it has.
-type Pair = (StatePhase, Seen);
+type PhasePair = (StatePhase, Seen);
 
 /// Whether each of the phases is this one just where its ranks are
-fn is_one_to_one(reached: &[Pair], pair: &Pair) -> bool {
+fn is_one_to_one(reached: &[PhasePair], pair: &PhasePair) -> bool {
     for (phase, seen) in reached {
         if (*phase == pair.0) != (*seen == pair.1) {
             return false;
@@ -138,7 +138,7 @@ fn every_reachable_phase_steps_by_the_table(rt: HostRuntime) -> Result<(), Fail>
         complete: false,
     };
     let first = StatePhase::first(false, Proto::Tcp);
-    let mut reached: Vec<Pair> = Vec::new(rt.alloc());
+    let mut reached: Vec<PhasePair> = Vec::new(rt.alloc());
     reached.push((first, closed))?;
     same!(rt; (first.slot(), first.done()), (TimeoutName::TcpFirst, false));
     for place in 0..100 {

@@ -213,14 +213,14 @@ fn syncookies_are_set(rt: HostRuntime) -> Result<(), Fail> {
 }
 
 /// A route by its address, its length and the name of its interface
-type Told = (Addr, u8, &'static [u8]);
+type ProfileTold = (Addr, u8, &'static [u8]);
 
 /// Which routes a text says, in order; a later one with the same prefix stands last
 #[test]
 fn routes_are_set(rt: HostRuntime) -> Result<(), Fail> {
     let text = b"set route { 0.0.0.0/0 em0, 192.0.2.77/24 em1, 192.0.2.0/25 em2 }\n\
         set route 192.0.2.1/24 lo0\nset profile openbsd-7.4\n";
-    let wanted: [Told; 3] = [
+    let wanted: [ProfileTold; 3] = [
         (Addr::V4([0, 0, 0, 0]), 0, b"em0"),
         (Addr::V4([192, 0, 2, 0]), 25, b"em2"),
         (Addr::V4([192, 0, 2, 0]), 24, b"lo0"),

@@ -5,7 +5,7 @@ use Rattle.std.specs.Vec.{vec_capacity}
 use Rattle.std.proofs.lemmas.Option.{get_or_from_slice_get}
 use Rattle.pfs_capture.specs.Captures.{seen_of}
 use Rattle.pfs_capture.specs.Runs.{judged_at}
-use Rattle.pfs_capture.specs.Turns.{Overflows, frame_taken}
+use Rattle.pfs_capture.specs.FrameTurns.{Overflows, frame_taken}
 use Rattle.pfs_capture.specs.declared.captures.Capture.{Capture}
 use Rattle.pfs_capture.proofs.Together.{failures-step}
 use Rattle.pfs_capture.proofs.traces.take_next.Goals as goal

@@ -1,6 +1,6 @@
 -- Answers of read_header: what is left of an empty trace, a failed read, other columns, and the header (`header`).
 use Rattle.std.proofs.Common.{◌≡◌, sym, subst, ◌∙◌, Err, true, false}
-use Rattle.pfs_cli.specs.declared.records.Stop.{Stop}
+use Rattle.pfs_cli.specs.declared.records.RecordsStop.{RecordsStop}
 use Rattle.csv.specs.Reading.{default_config, reader_state}
 use Rattle.csv.specs.Records.{fields_of}
 use Rattle.pfs_trace.specs.Columns.{is_header}
@@ -17,7 +17,7 @@ returns-in-Ok-false-clause-header g c xs s = λ conf.
 pub returns-in-Err-clause-header : goal.returns-in-Err-clause-header
 returns-in-Err-clause-header g c xs s = λ conf.
     let trace = events_of conf (records_left default_config (reader_state c.args.reader.now) xs) in
-    subst (λ (x : Stop). HasNoRows conf trace (Err x)) (sym c.in-Err.ensures.source.0) (no-lines conf trace, tt)
+    subst (λ (x : RecordsStop). HasNoRows conf trace (Err x)) (sym c.in-Err.ensures.source.0) (no-lines conf trace, tt)
 
 pub returns-else-has_columns-clause-header : goal.returns-else-has_columns-clause-header
 returns-else-has_columns-clause-header g c xs s = λ conf.

@@ -5,7 +5,7 @@ use Rattle.pfs_engine_machine.specs.Machine.{Machine}
 use Rattle.pfs_engine_machine.specs.declared.events.Way.{Way}
 use Rattle.pfs_cli_formats.specs.Lines.{row_text}
 use Rattle.pfs_cli.specs.Tallying.{tally_with}
-use Rattle.pfs_cli.specs.Turns.{WritesLine}
+use Rattle.pfs_cli.specs.RecordTurns.{WritesLine}
 use Rattle.pfs_cli.proofs.Tallied.{turn-answered, work-answered}
 use Rattle.pfs_cli.proofs.records.take_event.Goals as goal
 

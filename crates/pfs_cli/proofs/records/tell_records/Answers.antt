@@ -5,8 +5,8 @@ use Rattle.csv.specs.Reading.{ChangesHeaders, strip_bom}
 use Rattle.pfs_trace.specs.Traces.{Fields, Trace, events_of}
 use Rattle.pfs_trace.specs.Reading.{records_of}
 use Rattle.pfs_cli.specs.Tallies.{IsTallyOf, LeavesOfRun}
-use Rattle.pfs_cli.specs.Turns.{Tells}
-use Rattle.pfs_cli.specs.declared.records.Stop.TheVariants as stop
+use Rattle.pfs_cli.specs.RecordTurns.{Tells}
+use Rattle.pfs_cli.specs.declared.records.RecordsStop.TheVariants as stop
 use Rattle.pfs_cli.proofs.Ending.{tallied-nothing}
 use Rattle.pfs_cli.proofs.Telling.{Appends-nothing, at-start, rows-told}
 use Rattle.pfs_cli.proofs.records.tell_records.Goals as goal

@@ -7,8 +7,8 @@ use Rattle.pfs_trace.specs.Reading.{records_left}
 use Rattle.pfs_trace.specs.Traces.{events_from}
 use Rattle.pfs_streams.specs.Sinks.{bytes_held}
 use Rattle.pfs_streams.proofs.Flushing.{not-flushed}
-use Rattle.pfs_cli.specs.Turns.{WritesLine}
-use Rattle.pfs_cli.specs.declared.records.Stop.{Stop}
+use Rattle.pfs_cli.specs.RecordTurns.{WritesLine}
+use Rattle.pfs_cli.specs.declared.records.RecordsStop.{RecordsStop}
 use Rattle.pfs_cli.proofs.Ending.{EndsTallied, tallied-end, tallied-limit, tallied-record, tallied-source}
 use Rattle.pfs_cli.proofs.Tallied.{TalliesRecord-rules}
 use Rattle.pfs_cli.proofs.Telling.{EndsRows, so_far-start, so_far-more, ends-source, ends-end, ends-limit, ends-record, TakesRecord-rules}
@@ -56,7 +56,7 @@ returns-in-Err-clause-tells g c xs s =
     let trace = events_from c.args.engine.now.config 0 None (records_left default_config (reader_state c.args.reader.now) xs) in
     let before = bytes_held g.W.Write.contents c.args.out.now in
     let now = bytes_held g.W.Write.contents c.loop-rows.out in
-    subst (λ (x : Stop). EndsRows c.args.engine.now.config trace before now (Err x)) (sym c.in-Err.ensures.source.0)
+    subst (λ (x : RecordsStop). EndsRows c.args.engine.now.config trace before now (Err x)) (sym c.in-Err.ensures.source.0)
     (ends-source g.S.Read.remaining c.args.engine.now.config trace before now c.loop-rows.rows c.loop-rows.engine.machine c.loop-rows.reader (c.loop-rows.invariant.so_far xs s).0)
 
 pub returns-in-Ok-false-clause-tells : goal.returns-in-Ok-false-clause-tells
@@ -91,7 +91,7 @@ returns-in-Err-clause-tallies g c xs s =
     let trace = events_from c.args.engine.now.config 0 None (records_left default_config (reader_state c.args.reader.now) xs) in
     let before = bytes_held g.W.Write.contents c.args.out.now in
     let now = bytes_held g.W.Write.contents c.loop-rows.out in
-    subst (λ (x : Stop). EndsTallied g.H.Store.counts c.args.engine.now.config trace before now (Err x) c.loop-rows.tally) (sym c.in-Err.ensures.source.0)
+    subst (λ (x : RecordsStop). EndsTallied g.H.Store.counts c.args.engine.now.config trace before now (Err x) c.loop-rows.tally) (sym c.in-Err.ensures.source.0)
     (tallied-source g.H.Store.counts g.S.Read.remaining c.args.engine.now.config trace before now c.loop-rows.rows c.loop-rows.engine.machine c.loop-rows.reader c.loop-rows.tally (c.loop-rows.invariant.so_far xs s))
 
 pub returns-in-Ok-false-clause-tallies : goal.returns-in-Ok-false-clause-tallies

@@ -1,6 +1,6 @@
 -- Answers of write_report: nothing is written or tallied where a store could not be made (`tells`, `tallies`).
 use Rattle.std.proofs.Common.{[], Err, inr, refl, true}
-use Rattle.pfs_cli.specs.declared.records.Stop.TheVariants as stop
+use Rattle.pfs_cli.specs.declared.records.RecordsStop.TheVariants as stop
 use Rattle.pfs_cli.proofs.Ending.{tallied-nothing}
 use Rattle.pfs_cli.proofs.Telling.{Appends-nothing}
 use Rattle.pfs_cli.proofs.reports.write_report.Goals as goal

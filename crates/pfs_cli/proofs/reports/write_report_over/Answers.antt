@@ -2,7 +2,7 @@
 -- it could not be made (`tells`); and its tally (`tallies`).
 use Rattle.std.proofs.Common.{[], Err, inr, refl}
 use Rattle.pfs_trace.specs.Reading.{records_of}
-use Rattle.pfs_cli.specs.declared.records.Stop.TheVariants as stop
+use Rattle.pfs_cli.specs.declared.records.RecordsStop.TheVariants as stop
 use Rattle.pfs_cli.proofs.Ending.{tallied-nothing, tallied-under}
 use Rattle.pfs_cli.proofs.Telling.{Appends-nothing, ends-under}
 use Rattle.pfs_cli.proofs.reports.write_report_over.Goals as goal

@@ -2,7 +2,7 @@
 use Rattle.std.proofs.Common.{sym, ◌∙◌}
 use Rattle.std.proofs.lemmas.Result.{err_from_is_err_and}
 use Rattle.pfs_conf_tokens.specs.Keys.{ends_line}
-use Rattle.pfs_conf_tokens.specs.Giving.{refusal_at}
+use Rattle.pfs_conf_tokens.specs.TokenResults.{refusal_at}
 use Rattle.pfs_conf_tokens.proofs.Laws.{until_goes_on, until_stops, until_fails}
 use Rattle.pfs_conf.specs.Reading.{clause_at}
 use Rattle.pfs_conf.proofs.OnlineLaws.{clause_shrinks}

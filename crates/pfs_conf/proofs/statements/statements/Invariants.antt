@@ -3,8 +3,8 @@ use Rattle.std.proofs.Common.{◌≡◌, length}
 use Rattle.pfs_conf_tokens.specs.Reading.{ends_text, up_to_all}
 use Rattle.pfs_conf.specs.Statements.{nothing}
 use Rattle.pfs_conf.specs.Reading.{statement_at}
-use Rattle.pfs_conf.specs.Giving.{IsAtDepth}
-use Rattle.pfs_conf.specs.Within.{AreLexed}
+use Rattle.pfs_conf.specs.ReaderResults.{IsAtDepth}
+use Rattle.pfs_conf.specs.PhraseBounds.{AreLexed}
 use Rattle.pfs_conf.proofs.statements.statements.Given as goal
 
 abbrev pub invariant-loop-alloc : goal.invariant-loop-alloc

@@ -2,7 +2,7 @@
 use Rattle.std.proofs.Common.{sym, ◌∙◌}
 use Rattle.std.proofs.lemmas.Result.{err_from_is_err_and}
 use Rattle.pfs_conf_tokens.specs.Reading.{closes_parens, next_of}
-use Rattle.pfs_conf_tokens.specs.Giving.{refusal_at}
+use Rattle.pfs_conf_tokens.specs.TokenResults.{refusal_at}
 use Rattle.pfs_conf_tokens.proofs.Laws.{until_goes_on, until_stops, until_fails}
 use Rattle.pfs_conf_filters.specs.Reading.{log_item_at}
 use Rattle.pfs_conf_filters.proofs.OnlineLaws.{next_log_item_shrinks}

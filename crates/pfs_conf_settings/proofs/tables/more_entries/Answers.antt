@@ -4,7 +4,7 @@ use Rattle.pfs_conf_tokens.specs.Tokens.{Tok}
 use Rattle.pfs_conf_tokens.specs.Reading.{closes_braces, next_of, Refused}
 use Rattle.pfs_conf_tokens.proofs.Laws.{until_goes_on, until_stops}
 use Rattle.pfs_conf_values.specs.Entries.{TextEntry}
-use Rattle.pfs_conf_settings.specs.Extending.{Extends}
+use Rattle.pfs_conf_settings.specs.AdditionResults.{Extends}
 use Rattle.pfs_conf_settings.specs.Tables.{lined_entry_at}
 use Rattle.pfs_conf_settings.proofs.Stopping.{extends_fails}
 use Rattle.pfs_conf_settings.proofs.TableLaws.{next_entry_shrinks}

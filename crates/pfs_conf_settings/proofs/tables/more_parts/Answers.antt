@@ -5,7 +5,7 @@ use Rattle.pfs_conf_tokens.specs.Keys.{ends_line}
 use Rattle.pfs_conf_tokens.specs.Reading.{Refused}
 use Rattle.pfs_conf_tokens.proofs.Laws.{up_to_goes_on, up_to_stops}
 use Rattle.pfs_conf_settings.specs.declared.tables.Parts.{Parts}
-use Rattle.pfs_conf_settings.specs.Extending.{Extends}
+use Rattle.pfs_conf_settings.specs.AdditionResults.{Extends}
 use Rattle.pfs_conf_settings.specs.Tables.{part_at}
 use Rattle.pfs_conf_settings.proofs.Stopping.{up_to_extends_fails}
 use Rattle.pfs_conf_settings.proofs.TableLaws.{part_shrinks}

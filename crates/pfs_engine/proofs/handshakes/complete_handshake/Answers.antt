@@ -6,12 +6,12 @@ use Rattle.pfs_conf_values.specs.declared.actions.Scope.{Scope}
 use Rattle.pfs_conf_values.specs.declared.actions.StateOptions.{StateOptions}
 use Rattle.pfs_store_contract.specs.Handshakes.{goes_with, stays_at_kill}
 use Rattle.pfs_store_contract.specs.Leaving.{world_without}
-use Rattle.pfs_engine_machine.specs.Machine.{Held}
-use Rattle.pfs_engine.specs.Held.{HeldView, tables_held, view_of}
+use Rattle.pfs_engine_machine.specs.Machine.{MachineContents}
+use Rattle.pfs_engine.specs.Contents.{ContentsView, tables_held, view_of}
 use Rattle.pfs_engine.specs.Packets.{answer_of_touch}
 use Rattle.pfs_engine.proofs.Killing.{told_of_kill}
 use Rattle.pfs_engine.proofs.handshakes.complete_handshake.Goals as goal
-use Rattle.pfs_engine.specs.Rooms.{HasRoomFor}
+use Rattle.pfs_engine.specs.OverloadRoom.{HasRoomFor}
 use Rattle.pfs_eval.specs.Holdings.{Holdings}
 
 pub invariant_of-held : goal.invariant_of-held
@@ -33,7 +33,7 @@ returns-clause-told g c =
     let t = c.args.touched.now in
     let o = c.in-Some.options.now in
     let made = c.held.invariant in
-    let h : Held = record { world = w; tables = inside.tables.entries } in
+    let h : MachineContents = record { world = w; tables = inside.tables.entries } in
     let at : options_at inside.config t.rule.0 ≡ Some o = sym c.options.ensures.value ∙ ap option_copied c.in-Some.is in
     let options : options_of inside.config t.rule.0 ≡ o = ap (λ (x : Option StateOptions). unwrap_or x no_options) at in
     let flush = c.flush_of.ensures in
@@ -43,8 +43,8 @@ returns-clause-told g c =
     (subst (λ (f : Option Scope). c.kill-killed.result ≡ length (filter (goes_with inside.config.profile f c.args.found.number.0 t.dir t.rule t.source) w.states)) flush (c.kill-killed.ensures.answer inside.config made.store))
     (subst (λ (f : Option Scope). g.S.Store.world c.kill-killed.new.store ≡ world_without inside.config w (stays_at_kill inside.config.profile f c.args.found.number.0 t.dir t.rule t.source) c.args.now) flush (c.kill-killed.ensures.world inside.config made.store)) in
     record {
-      told = told ∙ ap (λ (v : HeldView _). answer_of_touch v.config v.held c.args.found.number.0 c.args.now t) c.held.view_is;
-      config = ap (λ (v : HeldView _). v.config) c.held.view_is;
+      told = told ∙ ap (λ (v : ContentsView _). answer_of_touch v.config v.held c.args.found.number.0 c.args.now t) c.held.view_is;
+      config = ap (λ (v : ContentsView _). v.config) c.held.view_is;
     }
 
 pub add_source-added-requires : goal.add_source-added-requires
@@ -56,6 +56,6 @@ add_source-added-requires g c =
     let options : options_of inside.config t.rule.0 ≡ o = ap (λ (x : Option StateOptions). unwrap_or x no_options) at in
     let limited : tables_held (view_of inside.config inside.store (g.S.Store.world inside.store) inside.tables) ≡ inside.tables =
     ap (λ (n : ℕ). record inside.tables { limit = n }) (sym c.held.invariant.limit) in
-    let room = subst (λ (v : HeldView _). HasRoomFor (tables_held v) (options_of v.config t.rule.0).overload) (sym c.held.view_is) (c.requires.room c.if-not-touched.false) in
+    let room = subst (λ (v : ContentsView _). HasRoomFor (tables_held v) (options_of v.config t.rule.0).overload) (sym c.held.view_is) (c.requires.room c.if-not-touched.false) in
     subst (λ (x : Holdings). HasRoomFor x o.overload) limited
     (subst (λ (x : StateOptions). HasRoomFor (tables_held (view_of inside.config inside.store (g.S.Store.world inside.store) inside.tables)) x.overload) options room)

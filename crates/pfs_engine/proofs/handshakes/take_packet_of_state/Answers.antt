@@ -13,12 +13,12 @@ use Rattle.pfs_store_contract.specs.Touching.{world_after_touch}
 use Rattle.pfs_store_contract.specs.Worlds.{World, holds_number, state_numbered}
 use Rattle.pfs_store_contract.specs.declared.records.State.{State}
 use Rattle.pfs_store_contract.specs.declared.records.Touched.{Touched}
-use Rattle.pfs_engine_machine.specs.Kept.{Rise}
+use Rattle.pfs_engine_machine.specs.MachineInvariants.{Rise}
 use Rattle.pfs_engine_machine.specs.Looks.{AreLooks, AreLooksBehind, states_beside}
-use Rattle.pfs_engine_machine.specs.Machine.{Held, answer_of_key, held_of}
+use Rattle.pfs_engine_machine.specs.Machine.{MachineContents, answer_of_key, held_of}
 use Rattle.pfs_engine_machine.specs.Sides.{state_for}
-use Rattle.pfs_engine.specs.Held.{HeldView, tables_held, view_of}
-use Rattle.pfs_engine.specs.Rooms.{HasRoomFor}
+use Rattle.pfs_engine.specs.Contents.{ContentsView, tables_held, view_of}
+use Rattle.pfs_engine.specs.OverloadRoom.{HasRoomFor}
 use Rattle.pfs_engine.proofs.Belonging.{beside_after, going_on, opened, rises_after, room_after, told_after}
 use Rattle.pfs_engine.proofs.Numbered.{number-held, numbered-found}
 use Rattle.pfs_engine.proofs.handshakes.take_packet_of_state.Goals as goal
@@ -31,12 +31,12 @@ renew-touched-requires-clause-held g c =
     let inside = c.held.inside in
     let was = c.args.held.now in
     let same = opened was c.make_room.new.held inside.config inside.store (g.S.Store.world inside.store) inside.tables c.held.view_is c.in_ok-make_room.ensures.same in
-    subst (λ (h : Held). holds_number h.world.states c.args.found.number.0 ≡ true) (sym same.1)
+    subst (λ (h : MachineContents). holds_number h.world.states c.args.found.number.0 ≡ true) (sym same.1)
     (number-held was.config was.held c.args.packet.now c.args.now c.args.found.number c.requires.kept c.requires.found.number)
 
 pub renew-touched-requires-clause-reached : goal.renew-touched-requires-clause-reached
 renew-touched-requires-clause-reached g c =
-    ap (λ (v : HeldView _). g.S.Store.reaches v.store c.args.found) c.held.view_is ∙ (ap (λ x. g.S.Store.reaches x c.args.found) c.in_ok-make_room.ensures.store ∙ c.requires.found.reached)
+    ap (λ (v : ContentsView _). g.S.Store.reaches v.store c.args.found) c.held.view_is ∙ (ap (λ x. g.S.Store.reaches x c.args.found) c.in_ok-make_room.ensures.store ∙ c.requires.found.reached)
 
 pub complete_handshake-requires-clause-reached : goal.complete_handshake-requires-clause-reached
 complete_handshake-requires-clause-reached g c = c.renew-touched.ensures.reached
@@ -47,7 +47,7 @@ complete_handshake-requires-clause-numbers g c =
     let w = g.S.Store.world inside.store in
     let was = c.args.held.now in
     let same = opened was c.make_room.new.held inside.config inside.store w inside.tables c.held.view_is c.in_ok-make_room.ensures.same in
-    let rises = subst (λ (h : Held). Rise 0 h.world.states h.world.made) (sym same.1) c.requires.kept.numbers in
+    let rises = subst (λ (h : MachineContents). Rise 0 h.world.states h.world.made) (sym same.1) c.requires.kept.numbers in
     rises_after (g.S.Store.config inside.store) w (g.S.Store.world c.renew-touched.new.self) c.args.packet.now c.args.now (state_numbered c.args.found.number.0 w) rises c.renew-touched.ensures.world
 
 pub complete_handshake-requires-clause-room : goal.complete_handshake-requires-clause-room
@@ -60,11 +60,11 @@ complete_handshake-requires-clause-room g c =
     let t = c.renew-touched.result in
     let same = opened was c.make_room.new.held inside.config inside.store w inside.tables c.held.view_is c.in_ok-make_room.ensures.same in
     let number_is = numbered-found was.config was.held p c.args.now c.args.found.number c.requires.kept c.requires.found.number in
-    let answer = subst (λ (h : Held). Some t ≡ option_map (renewal_of store_conf h.world p c.args.now) (state_numbered c.args.found.number.0 h.world)) same.1 c.renew-touched.ensures.answer
+    let answer = subst (λ (h : MachineContents). Some t ≡ option_map (renewal_of store_conf h.world p c.args.now) (state_numbered c.args.found.number.0 h.world)) same.1 c.renew-touched.ensures.answer
     ∙ ap (option_map (renewal_of store_conf was.held.world p c.args.now)) number_is in
     let room = room_after was.config store_conf was.held p c.args.now c.args.found.number t c.args.found.rule (tables_held c.make_room.new.held) c.requires.kept c.requires.found.number c.requires.found.rule answer c.in_ok-make_room.ensures.room in
     λ done. subst (λ (k : Conf). HasRoomFor (tables_held (view_of inside.config inside.store w inside.tables)) (options_of k t.rule.0).overload) (sym same.0)
-    (subst (λ (v : HeldView _). HasRoomFor (tables_held v) (options_of was.config t.rule.0).overload) (sym c.held.view_is) (room done))
+    (subst (λ (v : ContentsView _). HasRoomFor (tables_held v) (options_of was.config t.rule.0).overload) (sym c.held.view_is) (room done))
 
 pub returns-clause-answered : goal.returns-clause-answered
 returns-clause-answered g c = λ cookie.
@@ -76,9 +76,9 @@ returns-clause-answered g c = λ cookie.
     let t = c.renew-touched in
     let same = opened was c.make_room.new.held inside.config inside.store w inside.tables c.held.view_is c.in_ok-make_room.ensures.same in
     let m = held_of w inside.tables.entries in
-    let found = subst (λ (h : Held). option_map state_number (state_for h.world p) ≡ Some c.args.found.number) (sym same.1) c.requires.found.number in
+    let found = subst (λ (h : MachineContents). option_map state_number (state_for h.world p) ≡ Some c.args.found.number) (sym same.1) c.requires.found.number in
     let number_is : state_numbered c.args.found.number.0 w ≡ state_for w p =
-    subst (λ (h : Held). state_numbered c.args.found.number.0 h.world ≡ state_for h.world p) (sym same.1)
+    subst (λ (h : MachineContents). state_numbered c.args.found.number.0 h.world ≡ state_for h.world p) (sym same.1)
     (numbered-found was.config was.held p c.args.now c.args.found.number c.requires.kept c.requires.found.number) in
     let world = t.ensures.world ∙ ap (world_touched store_conf w p c.args.now) number_is in
     let answer = t.ensures.answer ∙ ap (option_map (renewal_of store_conf w p c.args.now)) number_is in
@@ -99,9 +99,9 @@ returns-clause-looks g c =
     let t = c.renew-touched in
     let same = opened was c.make_room.new.held inside.config inside.store w inside.tables c.held.view_is c.in_ok-make_room.ensures.same in
     let number_is = numbered-found was.config was.held p c.args.now c.args.found.number c.requires.kept c.requires.found.number in
-    let is = subst (λ (h : Held). g.S.Store.world t.new.self ≡ world_touched store_conf h.world p c.args.now (state_numbered c.args.found.number.0 h.world)) same.1 t.ensures.world
+    let is = subst (λ (h : MachineContents). g.S.Store.world t.new.self ≡ world_touched store_conf h.world p c.args.now (state_numbered c.args.found.number.0 h.world)) same.1 t.ensures.world
     ∙ ap (world_touched store_conf was.held.world p c.args.now) number_is in
-    let answer = subst (λ (h : Held). Some t.result ≡ option_map (renewal_of store_conf h.world p c.args.now) (state_numbered c.args.found.number.0 h.world)) same.1 t.ensures.answer
+    let answer = subst (λ (h : MachineContents). Some t.result ≡ option_map (renewal_of store_conf h.world p c.args.now) (state_numbered c.args.found.number.0 h.world)) same.1 t.ensures.answer
     ∙ ap (option_map (renewal_of store_conf was.held.world p c.args.now)) number_is in
     let beside = beside_after inside.config.profile store_conf was.held.world (g.S.Store.world t.new.self) p c.args.now c.args.found.number t.result c.requires.found.number is answer in
     let further = c.complete_handshake.ensures.looks in
@@ -130,10 +130,10 @@ returns-clause-going g c = λ routes cookie.
     let roomy = c.in_ok-make_room.ensures.same in
     let same = opened was c.make_room.new.held inside.config inside.store w inside.tables c.held.view_is roomy in
     let number_is = numbered-found was.config was.held p c.args.now c.args.found.number c.requires.kept c.requires.found.number in
-    let answer = subst (λ (h : Held). Some t.result ≡ option_map (renewal_of store_conf h.world p c.args.now) (state_numbered c.args.found.number.0 h.world)) same.1 t.ensures.answer
+    let answer = subst (λ (h : MachineContents). Some t.result ≡ option_map (renewal_of store_conf h.world p c.args.now) (state_numbered c.args.found.number.0 h.world)) same.1 t.ensures.answer
     ∙ ap (option_map (renewal_of store_conf was.held.world p c.args.now)) number_is in
     let key = c.key_beyond-key.ensures (subst HasRoutes (sym roomy.config) routes)
-    ∙ ap (λ (h : Held). option_and_then (onward_key p.dir) (state_numbered c.args.found.number.0 h.world)) roomy.held
+    ∙ ap (λ (h : MachineContents). option_and_then (onward_key p.dir) (state_numbered c.args.found.number.0 h.world)) roomy.held
     ∙ ap (option_and_then (onward_key p.dir)) number_is in
     elim c.if-may_go_on.branch [
       | then-may_go_on x ↦ x.going-is ∙ ap (λ (q : PacketView). Some q) (x.sent_on.ensures ∙ going_on was.config store_conf was.held p cookie c.args.now c.args.found.number t.result c.key_beyond-key.result c.requires.found.number answer key)

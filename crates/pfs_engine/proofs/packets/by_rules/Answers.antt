@@ -1,7 +1,7 @@
 -- Answers of by_rules: the keys of a state are free where no rule translates (`fresh`).
 use Rattle.std.proofs.Common.{◌≡◌, ◌∙◌, ap, subst, sym, true, ℕ, false, Some, None, Option, IfOk}
 use Rattle.pfs_addr_values.specs.Packets.{PacketView}
-use Rattle.pfs_engine_machine.specs.Machine.{packet_ruled, Held, answer_of_loss, answer_of_rule, deciding_rule, losing_rule, answer_of_rules}
+use Rattle.pfs_engine_machine.specs.Machine.{packet_ruled, MachineContents, answer_of_loss, answer_of_rule, deciding_rule, losing_rule, answer_of_rules}
 use Rattle.pfs_engine_machine.specs.Guards.{asked}
 use Rattle.pfs_engine_machine.specs.Sides.{are_free}
 use Rattle.pfs_engine_machine.proofs.Leading.{led_on}
@@ -12,7 +12,7 @@ use Rattle.std.proofs.lemmas.Bool.{false≢true}
 use Rattle.pfs_conf_values.specs.declared.items.RuleNo.{RuleNo}
 use Rattle.pfs_engine_machine.specs.Visits.{AreVisits}
 use Rattle.pfs_engine_machine.specs.declared.events.Outcome.{Outcome}
-use Rattle.pfs_engine.specs.Held.{HeldView}
+use Rattle.pfs_engine.specs.Contents.{ContentsView}
 use Rattle.pfs_engine.specs.Packets.{NeedsNoneBy, NeedsNoneUnlessLost}
 use Rattle.pfs_engine.specs.Ways.{HasRoutes}
 
@@ -38,13 +38,13 @@ returns-in-None-Some-clause-answered g c =
     let path : answer_of_rule was.config was.held p c.decide-decision.new.packet c.args.cookie c.args.now (Some rule.0) ≡ answer_of_rules was.config was.held p c.args.cookie c.args.now =
     λ i. answer_of_loss was.config was.held p (going i) c.args.cookie c.args.now (sym decides i) (sym lost i) in
     let a = c.by_action.ensures.answered in
-    record { ok = subst (λ (x : Outcome × Held). IfOk r (λ o. (o, after.held) ≡ x)) path a.ok; err = a.err; config = a.config }
+    record { ok = subst (λ (x : Outcome × MachineContents). IfOk r (λ o. (o, after.held) ≡ x)) path a.ok; err = a.err; config = a.config }
 
 pub returns-in-None-Some-clause-going : goal.returns-in-None-Some-clause-going
 returns-in-None-Some-clause-going g c = λ routes.
     let was = c.args.held.now in
     let p = c.args.packet.now in
-    let here = ap (λ (v : HeldView _). v.config) c.held.view_is in
+    let here = ap (λ (v : ContentsView _). v.config) c.held.view_is in
     let going = c.decide-decision.ensures.packet ∙ ap (packet_ruled was.config was.held) c.asked-ruled.ensures in
     elim c.if-may_go_on.branch [
       | then-may_go_on x ↦ x.going-is ∙ ap (λ (q : PacketView). Some q) (x.with_flags.ensures ∙ (λ i. record (going i) { flags = x.flags.ensures i }))

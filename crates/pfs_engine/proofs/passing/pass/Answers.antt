@@ -2,7 +2,7 @@
 use Rattle.std.proofs.Common.{◌≡◌, ◌≤◌, ◌∙◌, ap, arith, refl, sym}
 use Rattle.pfs_conf_values.specs.Configs.{Conf}
 use Rattle.pfs_engine_machine.specs.Guards.{guard_rested, guard_turned}
-use Rattle.pfs_engine_machine.specs.Machine.{Held}
+use Rattle.pfs_engine_machine.specs.Machine.{MachineContents}
 use Rattle.pfs_store_contract.specs.Passages.{purged_both}
 use Rattle.pfs_store_contract.specs.Seconds.{purged_of, seconds, world_after_purges}
 use Rattle.pfs_store_contract.specs.declared.records.Purged.{Purged}
@@ -32,14 +32,14 @@ loop-turn-preserved g c =
     let same = c.purge.ensures.held in
     let order : at ≤ turn = omega (arith, next.later) in
     let is : after.held.world ≡ world_after_purges conf w (seconds at turn) =
-    ap (λ (h : Held). h.world) same.held ∙ ap (λ (k : Conf). world_after_purges k w (seconds at turn)) i.config in
+    ap (λ (h : MachineContents). h.world) same.held ∙ ap (λ (k : Conf). world_after_purges k w (seconds at turn)) i.config in
     let made : c.turn.new.self ≡ guard_turned conf (guard_rested conf after.held.world c.loop-turn.guard) =
     c.turn.ensures ∙ ap (λ (k : Conf). guard_turned k (guard_rested k after.held.world c.loop-turn.guard)) (same.config ∙ i.config) in
     let more = c.greatest-purged.ensures ∙ ap (purged_both c.loop-turn.purged) (c.purge.ensures.answer ∙ ap (λ (k : Conf). purged_of g.S.Store.counts k w (seconds at turn)) i.config) in
     record {
       order = next.within;
       config = same.config ∙ i.config;
-      tables = ap (λ (h : Held). h.tables) same.held ∙ i.tables;
+      tables = ap (λ (h : MachineContents). h.tables) same.held ∙ i.tables;
       all = world-left conf w after.held.world at turn to order next.within is ∙ i.all;
       guard = guard-left conf w after.held.world c.loop-turn.guard c.turn.new.self at to turn next is made ∙ i.guard;
       purged = ap (λ (p : Purged). purged_both p (purged_of g.S.Store.counts conf after.held.world (seconds turn to))) more

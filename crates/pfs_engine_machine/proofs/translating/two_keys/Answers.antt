@@ -1,6 +1,6 @@
 -- Answers of two_keys: keys are kept apart through the acts of a run (`keys`), and answers find the state that was made (`answers`).
 use Rattle.pfs_engine_machine.proofs.Replies.{answers-belong}
-use Rattle.pfs_engine_machine.proofs.Within.{stays-alone}
+use Rattle.pfs_engine_machine.proofs.WithinLimits.{stays-alone}
 use Rattle.pfs_engine_machine.proofs.translating.two_keys.Goals as goal
 
 pub returns-clause-keys : goal.returns-clause-keys

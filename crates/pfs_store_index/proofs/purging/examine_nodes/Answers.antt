@@ -5,11 +5,11 @@ use Rattle.std.proofs.lemmas.Bool.Decides.{nat_tests}
 use Rattle.pfs_conf_values.specs.Configs.{Conf}
 use Rattle.pfs_store_contract.specs.Counts.{node_states}
 use Rattle.pfs_store_contract.specs.Purging.{is_over, node_numbers}
-use Rattle.pfs_store_index.specs.Quiet.{NodeStays}
+use Rattle.pfs_store_index.specs.QuietPurges.{NodeStays}
 use Rattle.pfs_store_contract.specs.declared.records.Node.{Node}
 use Rattle.pfs_store_contract.specs.declared.records.State.{State}
 use Rattle.pfs_store_records.specs.Walks.{IsStop, StopsWalkAt}
-use Rattle.pfs_store_records.specs.declared.nodes.Tally.{Tally}
+use Rattle.pfs_store_records.specs.declared.nodes.NodeTally.{NodeTally}
 use Rattle.pfs_store_index.specs.Rounds.{waiting}
 use Rattle.pfs_store_index.proofs.Retained.{node_number}
 use Rattle.pfs_store_index.proofs.RisingWalks.{all-in}
@@ -18,9 +18,9 @@ use Rattle.pfs_store_index.proofs.Untils.{hold-next, less_kept, nodes-passed}
 use Rattle.pfs_store_index.proofs.purging.examine_nodes.Goals as goal
 
 -- the node at which the walk stopped
-stop : (leaves : Node → Bool) (ns : List Node) (last most stayed share : ℕ) (o : Option Tally) (t : Tally) → o ≡ Some t
-    → StopsWalkAt node_number leaves ns last most stayed share (option_map (λ (u : Tally). u.node) o) → IsStop node_number leaves ns last most stayed share t.node
-stop leaves ns last most stayed share o t q h = subst (λ (p : Option Tally). StopsWalkAt node_number leaves ns last most stayed share (option_map (λ (u : Tally). u.node) p)) q h
+stop : (leaves : Node → Bool) (ns : List Node) (last most stayed share : ℕ) (o : Option NodeTally) (t : NodeTally) → o ≡ Some t
+    → StopsWalkAt node_number leaves ns last most stayed share (option_map (λ (u : NodeTally). u.node) o) → IsStop node_number leaves ns last most stayed share t.node
+stop leaves ns last most stayed share o t q h = subst (λ (p : Option NodeTally). StopsWalkAt node_number leaves ns last most stayed share (option_map (λ (u : NodeTally). u.node) p)) q h
 
 none_of : (n : ℕ) → (n == 0) ≡ true → n ≡ 0
 none_of n h = grind (arith, nat_tests)
@@ -79,9 +79,9 @@ returns-in-None-clause-until g c =
     nodes-passed c.args.indexes.now.config c.args.indexes.now.states _ _ _ _ _ _ _ _ c.pass_nodes-passed.ensures.passing c.pass_nodes-passed.ensures.until
 
 -- where it stopped at none
-none : (leaves : Node → Bool) (ns : List Node) (last most stayed share : ℕ) (o : Option Tally) → o ≡ None
-    → StopsWalkAt node_number leaves ns last most stayed share (option_map (λ (u : Tally). u.node) o) → StopsWalkAt node_number leaves ns last most stayed share None
-none leaves ns last most stayed share o q h = subst (λ (p : Option Tally). StopsWalkAt node_number leaves ns last most stayed share (option_map (λ (u : Tally). u.node) p)) q h
+none : (leaves : Node → Bool) (ns : List Node) (last most stayed share : ℕ) (o : Option NodeTally) → o ≡ None
+    → StopsWalkAt node_number leaves ns last most stayed share (option_map (λ (u : NodeTally). u.node) o) → StopsWalkAt node_number leaves ns last most stayed share None
+none leaves ns last most stayed share o q h = subst (λ (p : Option NodeTally). StopsWalkAt node_number leaves ns last most stayed share (option_map (λ (u : NodeTally). u.node) p)) q h
 
 pub returns-in-None-clause-examined : goal.returns-in-None-clause-examined
 returns-in-None-clause-examined g c =

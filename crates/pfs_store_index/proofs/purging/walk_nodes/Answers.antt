@@ -2,7 +2,7 @@
 use Rattle.std.proofs.Common.{◌≡◌, ◌∙◌, List, refl, ap, subst, filter, length, take, arith}
 use Rattle.pfs_conf_values.specs.Configs.{Conf}
 use Rattle.pfs_store_contract.specs.Purging.{is_over, node_numbers, node_stays}
-use Rattle.pfs_store_index.specs.Quiet.{NodeStays}
+use Rattle.pfs_store_index.specs.QuietPurges.{NodeStays}
 use Rattle.pfs_store_contract.specs.declared.records.State.{State}
 use Rattle.pfs_store_index.specs.Rounds.{nodes_survive, waiting}
 use Rattle.pfs_store_index.specs.Staying.{NodesHold}

@@ -1,7 +1,7 @@
 -- Invariant of turned: the slices to come make of this round what all make of the first one.
 use Rattle.std.proofs.Common.{◌≡◌, ◌≤◌, filter}
 use Rattle.std.specs.Map.{keys_of}
-use Rattle.pfs_store_index.specs.Quiet.{round_after_slices}
+use Rattle.pfs_store_index.specs.QuietPurges.{round_after_slices}
 use Rattle.pfs_store_records.specs.Records.{between}
 use Rattle.pfs_store_index.proofs.rounds.turned.Given as goal
 

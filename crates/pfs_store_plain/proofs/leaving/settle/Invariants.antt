@@ -1,7 +1,7 @@
 -- Invariant of settle: the nodes so far are settled, the others as before, no score past the greatest.
 use Rattle.std.proofs.Common.{◌≡◌, ◌++◌, take, drop, map, filter}
 use Rattle.pfs_store_contract.specs.Leaving.{node_after_leaving}
-use Rattle.pfs_store_plain.specs.Rooms.{AreScores}
+use Rattle.pfs_store_plain.specs.PlainRoom.{AreScores}
 use Rattle.pfs_store_plain.proofs.leaving.settle.Given as goal
 
 -- those so far are settled, and no score is past the greatest

@@ -1,7 +1,7 @@
 -- Invariant of rescore: the nodes so far are rescored, the others as before, with no handshake after now.
 use Rattle.std.proofs.Common.{◌≡◌, ◌≤◌, ◌++◌, take, drop, map, length}
 use Rattle.std.specs.List.{AllWithin}
-use Rattle.pfs_store_plain.specs.Rooms.{AreScores}
+use Rattle.pfs_store_plain.specs.PlainRoom.{AreScores}
 use Rattle.pfs_store_contract.specs.Touching.{node_after_handshake}
 use Rattle.pfs_store_contract.specs.declared.records.Node.{Node}
 use Rattle.pfs_store_plain.proofs.touching.rescore.Given as goal

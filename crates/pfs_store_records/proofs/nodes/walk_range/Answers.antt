@@ -1,15 +1,15 @@
 -- Answers of walk_range: one more that stays, and each end: a leaver, the range's end, the share's (`passing`, `until`, `leaver`).
 use Rattle.std.proofs.Common.{◌≡◌, ◌∙◌, Some, false, arith, sym}
-use Rattle.pfs_store_records.specs.Keeping.{Anywhere, number_of_node, tally_in, values_at}
+use Rattle.pfs_store_records.specs.RecordPlaces.{Anywhere, number_of_node, tally_in, values_at}
 use Rattle.pfs_store_records.specs.Retaining.{IsKeptUntil, is_past}
-use Rattle.pfs_store_records.specs.declared.nodes.Tally.{Tally}
+use Rattle.pfs_store_records.specs.declared.nodes.NodeTally.{NodeTally}
 use Rattle.pfs_store_records.proofs.Passing.{OfValue, each-value, each-value-more, is-passing, kept-less, next-node-there, one-value, stops-next, stops-none, stops-used}
 use Rattle.pfs_store_records.proofs.Walking.{each-empty, walking-init, walking-step}
 use Rattle.pfs_store_records.proofs.nodes.walk_range.Goals as goal
 
 pub loop-stayed-init : goal.loop-stayed-init
 loop-stayed-init c = record {
-  walking = walking-init (OfValue (λ (t : Tally). is_past c.args.now t ≡ false) (tally_in c.args.slab.now)) c.args.order.now.entries c.between-rest.result c.args.round.cursor c.args.round.mark c.requires.range c.between-rest.ensures.between;
+  walking = walking-init (OfValue (λ (t : NodeTally). is_past c.args.now t ≡ false) (tally_in c.args.slab.now)) c.args.order.now.entries c.between-rest.result c.args.round.cursor c.args.round.mark c.requires.range c.between-rest.ensures.between;
   until = each-empty (OfValue (IsKeptUntil _) (tally_in c.args.slab.now)) c.args.round.cursor c.args.order.now.entries;
   share = omega arith;
   looks = omega arith;
@@ -28,9 +28,9 @@ loop-stayed-preserved c =
     let kept : IsKeptUntil c.min-until.result c.look-tally.result.now =
     kept-less c.kept_until.result c.min-until.result c.look-tally.result.now (omega (arith, c.min-until.ensures)) c.kept_until.ensures in
     record {
-      walking = walking-step (OfValue (λ (t : Tally). is_past c.args.now t ≡ false) (tally_in c.args.slab.now)) c.args.order.now.entries c.next.new.self c.args.round.cursor c.loop-stayed.last c.args.round.mark c.loop-stayed.stayed c.in-Some.number c.in-Some.place
+      walking = walking-step (OfValue (λ (t : NodeTally). is_past c.args.now t ≡ false) (tally_in c.args.slab.now)) c.args.order.now.entries c.next.new.self c.args.round.cursor c.loop-stayed.last c.args.round.mark c.loop-stayed.stayed c.in-Some.number c.in-Some.place
           c.requires.kept.ordered w
-          (one-value (λ (t : Tally). is_past c.args.now t ≡ false) (tally_in c.args.slab.now) (c.in-Some.number, c.in-Some.place) c.look-tally.result.now v stays);
+          (one-value (λ (t : NodeTally). is_past c.args.now t ≡ false) (tally_in c.args.slab.now) (c.in-Some.number, c.in-Some.place) c.look-tally.result.now v stays);
       until = each-value-more (IsKeptUntil c.loop-stayed.until) (IsKeptUntil c.min-until.result)
           (λ t h. kept-less c.loop-stayed.until c.min-until.result t (omega (arith, c.min-until.ensures)) h)
           (tally_in c.args.slab.now) c.args.round.cursor c.loop-stayed.last c.args.round.mark c.in-Some.number c.in-Some.place c.look-tally.result.now c.next.new.self c.args.order.now.entries

@@ -4,7 +4,7 @@ use Rattle.std.specs.List.{find}
 use Rattle.pfs_addr_values.specs.declared.addresses.Addr.{Addr}
 use Rattle.pfs_store_contract.specs.declared.records.NodeScope.{NodeScope}
 use Rattle.pfs_store_records.specs.Tallies.{is_tally}
-use Rattle.pfs_store_records.specs.declared.nodes.Tally.{Tally}
+use Rattle.pfs_store_records.specs.declared.nodes.NodeTally.{NodeTally}
 use Rattle.pfs_store_records.specs.Changes.{IsFew, IsScored, at_node, met_by}
 use Rattle.pfs_store_records.proofs.TallyLaws.{met-faithful, unmet}
 use Rattle.pfs_store_records.proofs.OneNode.{IsFaithful, find-at, scored-found}
@@ -13,11 +13,11 @@ use Rattle.pfs_store_records.proofs.tallying.meet_at.Goals as goal
 use Rattle.pfs_store_records.proofs.tallying.meet_at.Goals.{then-completed, else-completed}
 
 -- the changed tally is found
-found-changed : (sc : NodeScope) (a : Addr) (f : Tally → Tally) → IsFaithful f → (r : Tally) (ts : List Tally) → Some r ≡ option_map f (find (is_tally sc a) ts)
+found-changed : (sc : NodeScope) (a : Addr) (f : NodeTally → NodeTally) → IsFaithful f → (r : NodeTally) (ts : List NodeTally) → Some r ≡ option_map f (find (is_tally sc a) ts)
     → find (is_tally sc a) (map (at_node (Some sc) a f) ts) ≡ Some r
 found-changed sc a f k r ts h = go (find (is_tally sc a) ts) refl h
   where
-    go : (o : Option Tally) → find (is_tally sc a) ts ≡ o → Some r ≡ option_map f o → find (is_tally sc a) (map (at_node (Some sc) a f) ts) ≡ Some r
+    go : (o : Option NodeTally) → find (is_tally sc a) ts ≡ o → Some r ≡ option_map f o → find (is_tally sc a) (map (at_node (Some sc) a f) ts) ≡ Some r
     go None l e = absurd cc
     go (Some t) l e = find-at sc a f k t ts l ∙ sym e
 

@@ -1,6 +1,6 @@
 -- Answers of Engine::add: what an engine keeps, also after an entry was added, with its clause `keeps`.
 use Rattle.pfs_engine_machine.specs.declared.events.Command.TheVariants as command
-use Rattle.pfs_engine.proofs.Keeping.{keeps, whole_answered}
+use Rattle.pfs_engine.proofs.KeptByCalls.{keeps, whole_answered}
 use Rattle.pfs_engine.proofs.engine.Engine.add.Goals as goal
 
 pub invariant_of-self : goal.invariant_of-self

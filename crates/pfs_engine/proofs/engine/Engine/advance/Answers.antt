@@ -2,7 +2,7 @@
 use Rattle.std.proofs.Common.{◌≤◌, ◌∙◌, ℕ, Some, ap, subst, sym}
 use Rattle.std.specs.Option.{ForSome}
 use Rattle.pfs_engine.specs.Views.{IsWhole, View, machine_at}
-use Rattle.pfs_engine.proofs.Keeping.{whole_advanced}
+use Rattle.pfs_engine.proofs.KeptByCalls.{whole_advanced}
 use Rattle.pfs_engine.proofs.engine.Engine.advance.Goals as goal
 
 pub invariant_of-self : goal.invariant_of-self

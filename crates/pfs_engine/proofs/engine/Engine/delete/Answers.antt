@@ -1,6 +1,6 @@
 -- Answers of Engine::delete: what an engine keeps, also after an entry left, with its clause `keeps`.
 use Rattle.pfs_engine_machine.specs.declared.events.Command.TheVariants as command
-use Rattle.pfs_engine.proofs.Keeping.{keeps, whole_told}
+use Rattle.pfs_engine.proofs.KeptByCalls.{keeps, whole_told}
 use Rattle.pfs_engine.proofs.engine.Engine.delete.Goals as goal
 
 pub invariant_of-self : goal.invariant_of-self

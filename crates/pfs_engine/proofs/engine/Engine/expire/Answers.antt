@@ -1,6 +1,6 @@
 -- Answers of Engine::expire: what an engine keeps, also after old entries left, with its clause `keeps`.
 use Rattle.pfs_engine_machine.specs.declared.events.Command.TheVariants as command
-use Rattle.pfs_engine.proofs.Keeping.{keeps, whole_told}
+use Rattle.pfs_engine.proofs.KeptByCalls.{keeps, whole_told}
 use Rattle.pfs_engine.proofs.engine.Engine.expire.Goals as goal
 
 pub invariant_of-self : goal.invariant_of-self

@@ -1,5 +1,5 @@
 -- Answers of Engine::kill: what an engine keeps, also after states left, with its clause `keeps`.
-use Rattle.pfs_engine.proofs.Keeping.{keeps, whole_killed}
+use Rattle.pfs_engine.proofs.KeptByCalls.{keeps, whole_killed}
 use Rattle.pfs_engine.proofs.engine.Engine.kill.Goals as goal
 
 pub invariant_of-self : goal.invariant_of-self

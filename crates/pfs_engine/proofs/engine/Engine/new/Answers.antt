@@ -1,5 +1,5 @@
 -- Answers of Engine::new: what an engine keeps, and its limits, hold before the first event.
-use Rattle.pfs_engine.proofs.Keeping.{whole_start}
+use Rattle.pfs_engine.proofs.KeptByCalls.{whole_start}
 use Rattle.pfs_engine.proofs.engine.Engine.new.Goals as goal
 
 pub invariant_of-result : goal.invariant_of-result

@@ -4,7 +4,7 @@ use Rattle.std.proofs.lemmas.Option.{slice_get-get_or}
 use Rattle.pfs_conf_values.specs.Configs.{Conf}
 use Rattle.pfs_engine_machine.specs.declared.events.Event.{Event}
 use Rattle.pfs_engine_machine.specs.declared.events.Outcome.{Outcome}
-use Rattle.pfs_engine_machine.specs.Kept.{IsWithinLimits}
+use Rattle.pfs_engine_machine.specs.MachineInvariants.{IsWithinLimits}
 use Rattle.pfs_engine_machine.specs.Machine.{Machine, machine_after, outcomes_of}
 use Rattle.pfs_engine_machine.specs.Runs.{IsRefusedAt, IsStopped, packets_in}
 use Rattle.pfs_engine.specs.Views.{View}

@@ -1,7 +1,7 @@
 -- Invariant of Engine::run: outcomes and machine are those of the events so far; the others are in order.
 use Rattle.std.proofs.Common.{◌≡◌, ◌≤◌, ◌+◌, ◌++◌, length, take, drop}
 use Rattle.pfs_addr_values.specs.Packets.{run_limit}
-use Rattle.pfs_engine_machine.specs.Kept.{IsWithinLimits}
+use Rattle.pfs_engine_machine.specs.MachineInvariants.{IsWithinLimits}
 use Rattle.pfs_engine_machine.specs.Runs.{AreAllowed, IsInOrder, packets_in}
 use Rattle.pfs_engine_machine.specs.Machine.{machine_after, outcomes_of}
 use Rattle.pfs_engine.proofs.engine.Engine.run.Given as goal

@@ -1,13 +1,13 @@
 -- Answers of Engine::step: what comes of a packet (`ok`); memory is refused only where what comes needs it, and never at a skip (`err`).
 use Rattle.std.proofs.Common.{◌≡◌, IfOk, IsOk, OnErr, OnOk, subst}
 use Rattle.pfs_conf_values.specs.Configs.{Conf}
-use Rattle.pfs_engine_machine.specs.Kept.{moment_of}
+use Rattle.pfs_engine_machine.specs.MachineInvariants.{moment_of}
 use Rattle.pfs_engine_machine.specs.Refusals.{IsFree}
 use Rattle.pfs_engine_machine.specs.Runs.{NeedsMemory, without_memory}
 use Rattle.pfs_engine_machine.specs.declared.events.Arrival.TheVariants as arrival
 use Rattle.pfs_engine.specs.Calls.{answer_at_last, guard_at_last, met_held}
 use Rattle.pfs_engine.proofs.Free.{refused_at, refused_in}
-use Rattle.pfs_engine.proofs.Keeping.{stepped}
+use Rattle.pfs_engine.proofs.KeptByCalls.{stepped}
 use Rattle.pfs_engine.proofs.engine.Engine.step.Goals as goal
 
 pub returns-in-Packet-clause-err : goal.returns-in-Packet-clause-err

@@ -1,13 +1,13 @@
 -- Answers of Engine::take: what an engine keeps, and its clauses `answered`, `limited` and `free`.
 use Rattle.std.proofs.Common.{◌<◌, ℕ, IsOk, ap, arith, subst, sym}
 use Rattle.pfs_addr_values.specs.Packets.{run_limit}
-use Rattle.pfs_engine_machine.specs.Kept.{moment_of}
+use Rattle.pfs_engine_machine.specs.MachineInvariants.{moment_of}
 use Rattle.pfs_engine_machine.specs.Refusals.{IsFree}
 use Rattle.pfs_engine.specs.Calls.{answer_at_last, met_held}
 use Rattle.pfs_engine.specs.Packets.{NeedsNoneBehindGuard}
 use Rattle.pfs_engine.specs.Views.{View}
 use Rattle.pfs_engine.proofs.Free.{needs_none_behind_guard}
-use Rattle.pfs_engine.proofs.Keeping.{answered_by, limited, taken_at_last, whole_packet}
+use Rattle.pfs_engine.proofs.KeptByCalls.{answered_by, limited, taken_at_last, whole_packet}
 use Rattle.pfs_engine.proofs.engine.Engine.take.Goals as goal
 
 pub invariant_of-self : goal.invariant_of-self

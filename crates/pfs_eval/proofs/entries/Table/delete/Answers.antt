@@ -2,7 +2,7 @@
 use Rattle.std.proofs.Common.{◌∙◌, ap, arith, filter, length, not, rules, subst, sym, List}
 use Rattle.indexmap.proofs.CallerLemmas.{filter-RetainsPairs}
 use Rattle.pfs_eval.specs.Entries.{Entry, is_entry}
-use Rattle.pfs_eval.specs.Holdings.{AreKept, HeldEntries}
+use Rattle.pfs_eval.specs.Holdings.{AreEntriesKept, HeldEntries}
 use Rattle.pfs_eval.proofs.Leaving.{kept-filtered, left-of}
 use Rattle.pfs_eval.proofs.entries.Table.delete.Goals as goal
 
@@ -10,7 +10,7 @@ pub invariant_of-self : goal.invariant_of-self
 invariant_of-self c =
     let test = λ (e : Entry). not (is_entry c.args.entry.now e) in
     let kept = filter-RetainsPairs _ test _ (λ k v b w g call. search rules) _ _ c.retain.ensures.filtered in
-    subst (λ (es : List Entry). AreKept es c.self.inside.lengths c.self.inside.bloom) (sym kept) (kept-filtered test c.self.inside.map.entries c.self.inside.lengths c.self.inside.bloom c.self.invariant)
+    subst (λ (es : List Entry). AreEntriesKept es c.self.inside.lengths c.self.inside.bloom) (sym kept) (kept-filtered test c.self.inside.map.entries c.self.inside.lengths c.self.inside.bloom c.self.invariant)
 
 pub returns-clause-answer : goal.returns-clause-answer
 returns-clause-answer c =

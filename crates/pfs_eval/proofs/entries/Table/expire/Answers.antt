@@ -2,7 +2,7 @@
 use Rattle.std.proofs.Common.{◌∙◌, ap, arith, not, rules, subst, sym, List}
 use Rattle.indexmap.proofs.CallerLemmas.{filter-RetainsPairs}
 use Rattle.pfs_eval.specs.Entries.{Entry}
-use Rattle.pfs_eval.specs.Holdings.{AreKept, HeldEntries}
+use Rattle.pfs_eval.specs.Holdings.{AreEntriesKept, HeldEntries}
 use Rattle.pfs_eval.specs.Tables.{is_old, old_count, young}
 use Rattle.pfs_eval.proofs.Leaving.{kept-filtered, left-of}
 use Rattle.pfs_eval.proofs.entries.Table.expire.Goals as goal
@@ -11,7 +11,7 @@ pub invariant_of-self : goal.invariant_of-self
 invariant_of-self c =
     let test = λ (e : Entry). not (is_old c.args.first c.args.now c.args.seconds e.1) in
     let kept = filter-RetainsPairs _ test _ (λ k v b w g call. search rules) _ _ c.retain.ensures.filtered in
-    subst (λ (es : List Entry). AreKept es c.self.inside.lengths c.self.inside.bloom) (sym kept) (kept-filtered test c.self.inside.map.entries c.self.inside.lengths c.self.inside.bloom c.self.invariant)
+    subst (λ (es : List Entry). AreEntriesKept es c.self.inside.lengths c.self.inside.bloom) (sym kept) (kept-filtered test c.self.inside.map.entries c.self.inside.lengths c.self.inside.bloom c.self.invariant)
 
 pub returns-clause-answer : goal.returns-clause-answer
 returns-clause-answer c =

@@ -1,6 +1,6 @@
 -- Answers of Tables::add_entry: an entry whose prefix is not held is not there (`absent`), and new (`answer`, `only_new`).
 use Rattle.std.proofs.Common.{sym, ◌∙◌}
-use Rattle.pfs_eval.proofs.Rooms.{entered-new, not-held-at, on_err}
+use Rattle.pfs_eval.proofs.OneTableChanged.{entered-new, not-held-at, on_err}
 use Rattle.pfs_eval.proofs.tables.Tables.add_entry.Goals as goal
 
 pub put-requires-clause-absent : goal.put-requires-clause-absent

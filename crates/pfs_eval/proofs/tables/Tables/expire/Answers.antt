@@ -6,7 +6,7 @@ use Rattle.pfs_eval.specs.Holdings.{Holdings}
 use Rattle.pfs_eval.specs.Tables.{entries_expired, expired_count, is_old, old_count}
 use Rattle.pfs_eval.proofs.Distinct.{distinct-at, distinct-filter, distinct-set}
 use Rattle.pfs_eval.proofs.Leaving.{count-left, entries-left}
-use Rattle.pfs_eval.proofs.Rooms.{entries_at-held, room-more, room_of, within-held}
+use Rattle.pfs_eval.proofs.OneTableChanged.{entries_at-held, room-more, room_of, within-held}
 use Rattle.pfs_eval.proofs.tables.Tables.expire.Goals as goal
 
 pub overflow_sub-self : goal.overflow_sub-self

@@ -4,7 +4,7 @@ use Rattle.std.specs.Prelude.{All}
 use Rattle.pfs_eval.specs.Entries.{AreDistinct}
 use Rattle.pfs_eval.specs.Holdings.{Holdings}
 use Rattle.pfs_eval.specs.Tables.{entry_count}
-use Rattle.pfs_eval.proofs.Rooms.{entries-same, others-kept, room-set, within-held}
+use Rattle.pfs_eval.proofs.OneTableChanged.{entries-same, others-kept, room-set, within-held}
 use Rattle.pfs_eval.proofs.tables.Tables.make_room.Goals as goal
 
 pub invariant_of-self : goal.invariant_of-self

@@ -6,7 +6,7 @@ use Rattle.pfs_conf_values.specs.declared.tables.TableDef.{TableDef}
 use Rattle.pfs_eval.specs.Entries.{AreDistinct, entry_of_text}
 use Rattle.pfs_eval.specs.Tables.{config_entries, entry_count}
 use Rattle.pfs_eval.proofs.Distinct.{distinct-tables}
-use Rattle.pfs_eval.proofs.Rooms.{entries_of}
+use Rattle.pfs_eval.proofs.OneTableChanged.{entries_of}
 use Rattle.pfs_eval.proofs.TextTables.{count-config, table-more, taken-more, text-entries}
 use Rattle.pfs_eval.proofs.tables.Tables.new.Goals as goal
 

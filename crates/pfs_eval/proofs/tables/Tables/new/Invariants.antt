@@ -2,7 +2,7 @@
 use Rattle.std.proofs.Common.{◌≡◌, map, take}
 use Rattle.pfs_conf_values.specs.declared.tables.TableDef.{TableDef}
 use Rattle.pfs_eval.specs.Entries.{entry_of_text}
-use Rattle.pfs_eval.proofs.Rooms.{entries_of}
+use Rattle.pfs_eval.proofs.OneTableChanged.{entries_of}
 use Rattle.pfs_eval.proofs.tables.Tables.new.Given as goal
 
 abbrev pub invariant-loop-number : goal.invariant-loop-number

@@ -6,7 +6,7 @@ use Rattle.pfs_eval.specs.Entries.{AreDistinct}
 use Rattle.pfs_eval.specs.Holdings.{Holdings}
 use Rattle.pfs_eval.specs.Tables.{entry_count, put_last}
 use Rattle.pfs_eval.proofs.Distinct.{distinct-at, distinct-set}
-use Rattle.pfs_eval.proofs.Rooms.{count-added, entries-added, entries-same, on_err, others-kept, within-held}
+use Rattle.pfs_eval.proofs.OneTableChanged.{count-added, entries-added, entries-same, on_err, others-kept, within-held}
 use Rattle.pfs_eval.proofs.tables.Tables.put.Goals as goal
 
 pub invariant_of-self : goal.invariant_of-self

@@ -9,7 +9,7 @@ use Rattle.pfs_store_contract.specs.Calls.{onward_key}
 use Rattle.pfs_store_contract.specs.declared.records.State.{State}
 use Rattle.pfs_store_records.specs.Records.{states_of}
 use Rattle.pfs_store_index.specs.Holdings.{Holding}
-use Rattle.pfs_store_index.specs.Ties.{entry_of, has_apart, has_inside, has_key}
+use Rattle.pfs_store_index.specs.IndexInvariants.{entry_of, has_apart, has_inside, has_key}
 use Rattle.pfs_store_index.proofs.InsideLaws.{IsEntryOf, apart-entry, entry-is, inside-alike, inside-none, inside-other, inside-same, no-entry, none-held}
 use Rattle.pfs_store_index.proofs.indexes.Indexes.entry_inside.Goals as goal
 

@@ -6,7 +6,7 @@ use Rattle.pfs_addr_values.specs.Sameness.{same_key}
 use Rattle.pfs_store_contract.specs.Plain.{AreCounts}
 use Rattle.pfs_store_records.specs.Records.{states_of}
 use Rattle.pfs_store_index.specs.Filed.{filed_under, is_pair}
-use Rattle.pfs_store_index.specs.Ties.{entry_of, has_apart, has_key, inner_in, key_in}
+use Rattle.pfs_store_index.specs.IndexInvariants.{entry_of, has_apart, has_key, inner_in, key_in}
 use Rattle.pfs_store_index.proofs.Tying.{counts-none, distinct-none}
 use Rattle.pfs_store_index.proofs.indexes.Indexes.new.Goals as goal
 

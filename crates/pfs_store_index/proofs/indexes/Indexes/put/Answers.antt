@@ -20,7 +20,7 @@ use Rattle.pfs_store_records.specs.Records.{IsAbove, states_of}
 use Rattle.pfs_store_records.specs.Tallies.{nodes_of}
 use Rattle.pfs_store_index.specs.Holdings.{Holding}
 use Rattle.pfs_store_index.specs.Filed.{HasFiled, SameFiled, filed_under, ordered_source, pair_cmp, pairs_on}
-use Rattle.pfs_store_index.specs.Ties.{IsCounted, is_inner}
+use Rattle.pfs_store_index.specs.IndexInvariants.{IsCounted, is_inner}
 use Rattle.pfs_store_records.specs.Changes.{IsFew}
 use Rattle.pfs_store_index.proofs.Comings.{few-counted, nodes-came, pair-fresh}
 use Rattle.pfs_store_records.proofs.Searches.{all-weaker, count-le}

@@ -2,7 +2,7 @@
 use Rattle.std.proofs.Common.{◌∙◌, ◌==◌, Some, ap, option_map, sym}
 use Rattle.std.specs.List.{find}
 use Rattle.pfs_store_contract.specs.declared.records.State.{State}
-use Rattle.pfs_store_records.specs.Aside.{rekeyed}
+use Rattle.pfs_store_records.specs.ApartKeys.{rekeyed}
 use Rattle.pfs_store_index.specs.Holdings.{Holding, is_reached}
 use Rattle.pfs_store_index.proofs.Reached.{reached-stands}
 use Rattle.pfs_store_index.proofs.Renewing.{IsKeptAs, kept-as}

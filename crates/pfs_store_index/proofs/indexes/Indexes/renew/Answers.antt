@@ -10,12 +10,12 @@ use Rattle.pfs_store_contract.specs.Counts.{node_scope_of}
 use Rattle.pfs_store_contract.specs.Touching.{completes_at, connections_in, is_asking, is_taken, nodes_touched, numbered_state_after, score_in}
 use Rattle.pfs_store_contract.specs.Worlds.{IsUpToNow, lists}
 use Rattle.pfs_store_contract.specs.declared.records.State.{State}
-use Rattle.pfs_store_records.specs.Aside.{rekeyed}
+use Rattle.pfs_store_records.specs.ApartKeys.{rekeyed}
 use Rattle.pfs_store_records.specs.Changes.{HasTally, IsFew, at_node, connections_at, met_by, score_at}
 use Rattle.pfs_store_records.specs.Records.{Placed, states_of}
 use Rattle.pfs_store_records.specs.Tallies.{is_tally, nodes_of}
 use Rattle.pfs_store_index.specs.Holdings.{Holding, is_reached}
-use Rattle.pfs_store_index.specs.Ties.{IsCounted}
+use Rattle.pfs_store_index.specs.IndexInvariants.{IsCounted}
 use Rattle.pfs_store_records.proofs.OneNode.{tally-at}
 use Rattle.pfs_store_records.proofs.Searches.{all-weaker}
 use Rattle.pfs_store_records.proofs.TallyLaws.{met-faithful}

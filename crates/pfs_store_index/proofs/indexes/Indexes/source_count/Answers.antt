@@ -3,9 +3,9 @@ use Rattle.std.proofs.Common.{◌∙◌, ap, is_some, sym}
 use Rattle.pfs_store_contract.specs.Counts.{has_node, node_states}
 use Rattle.pfs_store_records.specs.Records.{states_of}
 use Rattle.pfs_store_records.specs.Tallies.{is_tally}
-use Rattle.pfs_store_records.specs.declared.nodes.Tally.{Tally}
+use Rattle.pfs_store_records.specs.declared.nodes.NodeTally.{NodeTally}
 use Rattle.pfs_store_index.specs.Holdings.{Holding}
-use Rattle.pfs_store_index.specs.Ties.{IsCounted}
+use Rattle.pfs_store_index.specs.IndexInvariants.{IsCounted}
 use Rattle.pfs_store_index.proofs.Comings.{has_node-tally}
 use Rattle.pfs_store_records.proofs.OneNode.{scope_is, source_is}
 use Rattle.pfs_store_records.proofs.Searches.{found-all, found-passes}
@@ -21,7 +21,7 @@ returns-in-Some-clause-value g c =
     let f = sym c.in-Some.ensures in
     let k = found-all (IsCounted c.self.inside.config (states_of c.self.inside.records)) (is_tally c.args.scope c.args.source) t c.self.inside.nodes c.self.invariant.counted f in
     let i = found-passes (is_tally c.args.scope c.args.source) t c.self.inside.nodes f in
-    ap (λ (u : Tally). u.states) k ∙ (λ j. node_states c.self.inside.config (scope_is c.args.scope c.args.source t i j) (source_is c.args.scope c.args.source t i j) (states_of c.self.inside.records))
+    ap (λ (u : NodeTally). u.states) k ∙ (λ j. node_states c.self.inside.config (scope_is c.args.scope c.args.source t i j) (source_is c.args.scope c.args.source t i j) (states_of c.self.inside.records))
     ∙ ap (λ (h : Holding). node_states h.config c.args.scope c.args.source h.states) c.self.view_is
 
 pub returns-in-None-clause-some : goal.returns-in-None-clause-some

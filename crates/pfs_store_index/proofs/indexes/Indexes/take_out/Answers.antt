@@ -10,7 +10,7 @@ use Rattle.pfs_store_records.specs.Tallies.{nodes_of}
 use Rattle.pfs_store_index.specs.Holdings.{Holding}
 use Rattle.pfs_store_records.specs.Changes.{at_node, left_of}
 use Rattle.pfs_store_index.specs.Filed.{LosesFiled, filed_under}
-use Rattle.pfs_store_index.specs.Ties.{left_at}
+use Rattle.pfs_store_index.specs.IndexInvariants.{left_at}
 use Rattle.pfs_store_index.proofs.Leavings.{nodes-left, rule-held, state_number}
 use Rattle.pfs_store_index.proofs.Removals.{find-in}
 use Rattle.pfs_store_index.proofs.Tying.{rule-within, tied-left}

@@ -1,7 +1,7 @@
 -- Answers of IndexStore::pass_over: what is known after it (`states`, `nodes`).
 use Rattle.std.proofs.Common.{subst}
 use Rattle.pfs_conf_values.specs.Configs.{Conf}
-use Rattle.pfs_store_index.specs.Quiet.{AreNodesKnown, AreStatesKnown}
+use Rattle.pfs_store_index.specs.QuietPurges.{AreNodesKnown, AreStatesKnown}
 use Rattle.pfs_store_index.proofs.store.IndexStore.pass_over.Goals as goal
 
 pub returns-clause-states : goal.returns-clause-states

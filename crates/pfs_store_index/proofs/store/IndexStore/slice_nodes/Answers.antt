@@ -3,10 +3,10 @@ use Rattle.std.proofs.Common.{◌≡◌, ◌∙◌, ◌≤◌, ℕ, List, length
 use Rattle.std.specs.Map.{keys_of}
 use Rattle.pfs_store_contract.specs.Purging.{node_numbers, node_share, round}
 use Rattle.pfs_store_index.specs.Holdings.{Indexed}
-use Rattle.pfs_store_index.specs.Quiet.{NodeSliceStays}
+use Rattle.pfs_store_index.specs.QuietPurges.{NodeSliceStays}
 use Rattle.pfs_store_index.specs.Rounds.{waiting}
 use Rattle.pfs_store_index.specs.Staying.{NodesHold}
-use Rattle.pfs_store_index.specs.declared.passages.Told.{Told}
+use Rattle.pfs_store_index.specs.declared.passages.SliceTold.{SliceTold}
 use Rattle.pfs_store_index.proofs.Retained.{node_number}
 use Rattle.pfs_store_index.proofs.RisingWalks.{all-fewer}
 use Rattle.pfs_store_index.proofs.Storing.{few-numbers, stored-nodes}
@@ -36,14 +36,14 @@ returns-clause-until g c =
     let steps = c.walk_nodes-steps in
     let kept = steps.new.indexes.nodes in
     let share : c.share_of-share.result ≡ node_share h.config = search rules in
-    let until : c.told.result.until ≡ steps.result.until = ap (λ (t : Told). t.until) c.told.ensures in
+    let until : c.told.result.until ≡ steps.result.until = ap (λ (t : SliceTold). t.until) c.told.ensures in
     subst (λ (p : Indexed). NodeSliceStays p.config p.world c.told.result.until kept) c.self.view_is
     (subst (λ (q : ℕ × List ℕ × ℕ). NodesHold h.config h.states (take q.0 q.1) q.2 kept) (λ i. (share i, pending g c i, sym until i)) steps.ensures.until)
 
 pub returns-clause-over : goal.returns-clause-over
 returns-clause-over g c = λ o.
     let steps = c.walk_nodes-steps in
-    let over = ap (λ (t : Told). t.over) c.told.ensures in
+    let over = ap (λ (t : SliceTold). t.over) c.told.ensures in
     sym (ap (waiting steps.result.round.cursor steps.result.round.mark) (numbers-after g c)) ∙ over-empty _ (sym c.is_over.ensures ∙ sym over ∙ o)
 
 pub returns-clause-most : goal.returns-clause-most

@@ -5,8 +5,8 @@ use Rattle.pfs_store_index.specs.Rounds.{waiting}
 use Rattle.pfs_store_index.specs.Stored.{IsNumbered, IsStored}
 use Rattle.pfs_store_index.specs.Holdings.{Indexed}
 use Rattle.pfs_store_contract.specs.Purging.{is_among, round, state_numbers, state_share, state_slice}
-use Rattle.pfs_store_index.specs.Quiet.{SliceStays, StateStays}
-use Rattle.pfs_store_index.specs.declared.passages.Told.{Told}
+use Rattle.pfs_store_index.specs.QuietPurges.{SliceStays, StateStays}
+use Rattle.pfs_store_index.specs.declared.passages.SliceTold.{SliceTold}
 use Rattle.pfs_store_contract.specs.declared.records.State.{State}
 use Rattle.std.specs.List.{AllByRecursion}
 use Rattle.pfs_store_index.proofs.Leavings.{state_number}
@@ -52,7 +52,7 @@ returns-clause-until g c =
     let steps = c.walk_states-steps in
     let kept = steps.new.indexes.states in
     let share : c.share_of-share.result ≡ state_share h.config = search rules in
-    let until : c.told.result.until ≡ steps.result.until = ap (λ (t : Told). t.until) c.told.ensures in
+    let until : c.told.result.until ≡ steps.result.until = ap (λ (t : SliceTold). t.until) c.told.ensures in
     subst (λ (p : Indexed). SliceStays p.config p.world c.told.result.until kept) c.self.view_is
     (subst (λ (q : ℕ × List ℕ × ℕ). AllByRecursion (λ (s : State). is_among (take q.0 q.1) s.number ≡ true → StateStays h.config h.states q.2 s) kept)
     (λ i. (share i, pending g c i, sym until i)) steps.ensures.until)
@@ -60,7 +60,7 @@ returns-clause-until g c =
 pub returns-clause-over : goal.returns-clause-over
 returns-clause-over g c = λ o.
     let steps = c.walk_states-steps in
-    let over = ap (λ (t : Told). t.over) c.told.ensures in
+    let over = ap (λ (t : SliceTold). t.over) c.told.ensures in
     sym (ap (waiting steps.result.round.cursor steps.result.round.mark) (numbers-after g c)) ∙ over-empty _ (sym c.is_over.ensures ∙ sym over ∙ o)
 
 pub returns-clause-most : goal.returns-clause-most

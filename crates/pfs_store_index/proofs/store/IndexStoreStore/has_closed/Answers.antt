@@ -4,7 +4,7 @@ use Rattle.std.specs.List.{find}
 use Rattle.pfs_track.specs.StatePhases.{has_closed}
 use Rattle.pfs_store_contract.specs.Worlds.{state_numbered}
 use Rattle.pfs_store_contract.specs.declared.records.State.{State}
-use Rattle.pfs_store_records.specs.Aside.{rekeyed}
+use Rattle.pfs_store_records.specs.ApartKeys.{rekeyed}
 use Rattle.pfs_store_index.specs.Holdings.{Indexed, is_reached}
 use Rattle.pfs_store_index.proofs.store.IndexStoreStore.has_closed.Goals as goal
 

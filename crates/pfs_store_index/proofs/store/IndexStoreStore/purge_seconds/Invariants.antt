@@ -2,7 +2,7 @@
 use Rattle.std.proofs.Common.{◌≡◌, ◌≤◌, ◌-◌, true}
 use Rattle.pfs_store_contract.specs.Passages.{done_after, done_of, purged_of_none}
 use Rattle.pfs_store_contract.specs.Seconds.{seconds}
-use Rattle.pfs_store_index.specs.Quiet.{IsPassage}
+use Rattle.pfs_store_index.specs.QuietPurges.{IsPassage}
 use Rattle.pfs_store_index.proofs.store.IndexStoreStore.purge_seconds.Given as goal
 
 abbrev pub invariant-loop-at : goal.invariant-loop-at

@@ -7,16 +7,16 @@ use Rattle.slab.proofs.SlabLemmas.{Updates-with_value}
 use Rattle.pfs_addr_values.specs.declared.addresses.Addr.{Addr}
 use Rattle.pfs_store_contract.specs.declared.records.NodeScope.{NodeScope}
 use Rattle.pfs_store_records.specs.Changes.{at_node, changed_by}
-use Rattle.pfs_store_records.specs.Keeping.{same_source, source_of_node, tally_in, values_at}
+use Rattle.pfs_store_records.specs.RecordPlaces.{same_source, source_of_node, tally_in, values_at}
 use Rattle.pfs_store_records.specs.Tallies.{IsOrderly, IsTallied, is_tally, put_tally}
-use Rattle.pfs_store_records.specs.declared.nodes.Tally.{Tally}
+use Rattle.pfs_store_records.specs.declared.nodes.NodeTally.{NodeTally}
 use Rattle.pfs_store_records.proofs.NodeLaws.{at_tally, get-absent, get-found, has_key, noted-written, orderly, updated-slab, view-tally}
 use Rattle.pfs_store_records.proofs.OneNode.{IsFaithful, none-at, put-at, tallied-at}
 use Rattle.pfs_store_records.proofs.TallyLaws.{changed-faithful, rising-tallies}
 use Rattle.pfs_store_records.proofs.nodes.Nodes.change.Goals as goal
 
 -- the changed tally has the scope and the source that were looked up
-source-kept : (f : Tally → Tally) → IsFaithful f → (v t u : Tally) (source : NodeScope × Addr) (o : Option Tally) → v ≡ f t → o ≡ Some t → o ≡ Some u → source_of_node u ≡ source → source_of_node v ≡ source
+source-kept : (f : NodeTally → NodeTally) → IsFaithful f → (v t u : NodeTally) (source : NodeScope × Addr) (o : Option NodeTally) → v ≡ f t → o ≡ Some t → o ≡ Some u → source_of_node u ≡ source → source_of_node v ≡ source
 source-kept f k v t u source o e h g s =
     let q : t ≡ u = cc (h, g) in
     ap source_of_node e ∙ (λ i. (k.scope t i, k.source t i)) ∙ ap source_of_node q ∙ s
@@ -33,7 +33,7 @@ tallied g c =
     let t = c.index-before.result.now in
     let e = c.changed-tally.ensures in
     tallied-at c.args.scope c.args.source c.changed-tally.result t c.args.self.now (found g c.before.before.before.before)
-    (ap (λ (u : Tally). u.node.scope) e ∙ k.scope t) (ap (λ (u : Tally). u.node.source) e ∙ k.source t) (ap (λ (u : Tally). u.node.number) e ∙ k.number t)
+    (ap (λ (u : NodeTally). u.node.scope) e ∙ k.scope t) (ap (λ (u : NodeTally). u.node.source) e ∙ k.source t) (ap (λ (u : NodeTally). u.node.number) e ∙ k.number t)
 
 -- the table leads from the changed tally to its place
 placed : (g : _) (c : goal.After-self-1 g) → get same_source c.self.inside.table (source_of_node c.changed-tally.result) ≡ Some c.in-Some.place.now
@@ -68,7 +68,7 @@ listed g c =
     let o : IsOrderly c.args.self.now = rw (sym c.self.view_is) (orderly (get same_source c.self.inside.table) (tally_in c.self.inside.slab) c.self.inside.order.entries c.self.invariant.kept) in
     view-tally (get same_source c.self.inside.table) (tally_in c.self.inside.slab) (tally_in (with_value c.self.inside.slab c.in-Some.place.now v)) v c.in-Some.place.now c.self.inside.order.entries l u c.self.invariant.kept
     ∙ ap (map (put_tally v)) c.self.view_is
-    ∙ put-at c.args.scope c.args.source v t (changed_by c.args.change) c.args.self.now (rising-tallies c.args.self.now o.rising) o.distinct (found g c.before.before.before.before) (ap (λ (x : Tally). x.node.number) e ∙ k.number t) (sym e)
+    ∙ put-at c.args.scope c.args.source v t (changed_by c.args.change) c.args.self.now (rising-tallies c.args.self.now o.rising) o.distinct (found g c.before.before.before.before) (ap (λ (x : NodeTally). x.node.number) e ∙ k.number t) (sym e)
 
 pub invariant_of-self : goal.invariant_of-self
 invariant_of-self g c =

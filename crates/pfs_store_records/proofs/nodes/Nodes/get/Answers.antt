@@ -1,7 +1,7 @@
 -- Answers of Nodes::get: the tally at the place that the table has for a scope and a source, or none.
 use Rattle.std.proofs.Common.{◌∙◌, sym}
 use Rattle.indexmap.specs.IndexMap.{get}
-use Rattle.pfs_store_records.specs.Keeping.{same_source, tally_in}
+use Rattle.pfs_store_records.specs.RecordPlaces.{same_source, tally_in}
 use Rattle.pfs_store_records.proofs.NodeLaws.{get-absent, get-found}
 use Rattle.pfs_store_records.proofs.nodes.Nodes.get.Goals as goal
 

@@ -1,7 +1,7 @@
 -- Answer of Nodes::len: there are as many nodes as numbers in order.
 use Rattle.std.proofs.Common.{length, ◌∙◌, ap, sym}
 use Rattle.indexmap.specs.IndexMap.{get}
-use Rattle.pfs_store_records.specs.Keeping.{NodeIsAt, number_of_node, same_source, tally_in}
+use Rattle.pfs_store_records.specs.RecordPlaces.{NodeIsAt, number_of_node, same_source, tally_in}
 use Rattle.pfs_store_records.proofs.Ordered.{length-held}
 use Rattle.pfs_store_records.proofs.nodes.Nodes.len.Goals as goal
 

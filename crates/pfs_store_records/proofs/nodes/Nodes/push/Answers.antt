@@ -1,7 +1,7 @@
 -- Answers of Nodes::push: a new node goes last and is counted (`ok`), or room is refused; all are `orderly`.
 use Rattle.std.proofs.Common.{◌≡◌, ◌∙◌, ◌++◌, ◌∷◌, [], None, Some, ap, arith, refl, sym}
 use Rattle.indexmap.specs.IndexMap.{get}
-use Rattle.pfs_store_records.specs.Keeping.{IsNoted, NodeIsAt, number_of_node, same_source, source_of_node, tally_in, values_at}
+use Rattle.pfs_store_records.specs.RecordPlaces.{IsNoted, NodeIsAt, number_of_node, same_source, source_of_node, tally_in, values_at}
 use Rattle.pfs_store_records.proofs.Ordered.{IsUpdated, below-keys, held-all, held-pushed}
 use Rattle.pfs_store_records.proofs.NodeLaws.{few-noted, grown-slab, none-noted, noted-pushed, noted-reserved, numbers-nodes, orderly, updated-slab, updated-table}
 use Rattle.pfs_store_records.proofs.nodes.Nodes.push.Goals as goal

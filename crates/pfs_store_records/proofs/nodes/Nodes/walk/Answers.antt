@@ -1,7 +1,7 @@
 -- Answers of Nodes::walk: a walk over slab and order is one over the tallies (`passing`, `until`, `leaver`).
 use Rattle.std.proofs.Common.{sym}
 use Rattle.indexmap.specs.IndexMap.{get}
-use Rattle.pfs_store_records.specs.Keeping.{same_source, tally_in}
+use Rattle.pfs_store_records.specs.RecordPlaces.{same_source, tally_in}
 use Rattle.pfs_store_records.proofs.NodeLaws.{kept-anywhere}
 use Rattle.pfs_store_records.proofs.nodes.Nodes.walk.Goals as goal
 

@@ -4,7 +4,7 @@ use Rattle.std.specs.List.{find}
 use Rattle.std.specs.Option.{option_and_then}
 use Rattle.pfs_store_contract.specs.Calls.{onward_key}
 use Rattle.pfs_store_contract.specs.declared.records.State.{State}
-use Rattle.pfs_store_records.specs.Aside.{whole_record, lying}
+use Rattle.pfs_store_records.specs.ApartKeys.{whole_record, lying}
 use Rattle.pfs_store_records.specs.Records.{Placed, states_of}
 use Rattle.pfs_store_records.proofs.Joining.{onward-none, onward-some}
 use Rattle.pfs_store_records.proofs.records.Records.onward_key.Goals as goal

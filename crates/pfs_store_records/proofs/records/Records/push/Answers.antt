@@ -1,7 +1,7 @@
 -- Answers of Records::push: the keys of a state lie aside before its record is there, and where it is refused no more.
 use Rattle.std.proofs.Common.{◌∙◌, ◌++◌, ◌∷◌, [], List, ap, map, subst, sym}
 use Rattle.pfs_store_contract.specs.Purging.{state_numbers}
-use Rattle.pfs_store_records.specs.Aside.{whole_record, keys_apart}
+use Rattle.pfs_store_records.specs.ApartKeys.{whole_record, keys_apart}
 use Rattle.pfs_store_records.specs.Records.{IsAbove, IsRising, Placed, placed_at, states_of}
 use Rattle.pfs_store_records.proofs.Joining.{none-aside, numbers-joined, push-joined, same-joined, undone}
 use Rattle.pfs_store_records.proofs.RecordLaws.{states-push}

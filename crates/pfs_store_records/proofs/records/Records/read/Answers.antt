@@ -3,7 +3,7 @@ use Rattle.std.proofs.Common.{◌∙◌, ◌==◌, List, Some, ap, option_map, s
 use Rattle.std.specs.List.{find}
 use Rattle.pfs_store_contract.specs.Worlds.{holds_number}
 use Rattle.pfs_store_contract.specs.declared.records.State.{State}
-use Rattle.pfs_store_records.specs.Aside.{lying, with_keys}
+use Rattle.pfs_store_records.specs.ApartKeys.{lying, with_keys}
 use Rattle.pfs_store_records.specs.Records.{Placed, states_of}
 use Rattle.pfs_store_records.proofs.Joining.{find-joined, holds-joined, numbered}
 use Rattle.pfs_store_records.proofs.records.Records.read.Goals as goal

@@ -1,7 +1,7 @@
 -- Answers of Records::record_at: the record at a place has all but the keys (`value`).
 use Rattle.std.proofs.Common.{◌∙◌, List, ap, subst, sym}
 use Rattle.std.specs.List.{list_any}
-use Rattle.pfs_store_records.specs.Aside.{IsKeptAt}
+use Rattle.pfs_store_records.specs.ApartKeys.{IsKeptAt}
 use Rattle.pfs_store_records.specs.Records.{Placed, stands_at}
 use Rattle.pfs_store_records.proofs.Joining.{kept-joined, stands-joined}
 use Rattle.pfs_store_records.proofs.records.Records.record_at.Goals as goal

@@ -1,7 +1,7 @@
 -- Answers of Records::remove: with the record its keys leave (`records`).
 use Rattle.std.proofs.Common.{◌∙◌, List, ap, filter, map, subst, sym}
 use Rattle.pfs_store_contract.specs.Worlds.{holds_number}
-use Rattle.pfs_store_records.specs.Aside.{whole_record}
+use Rattle.pfs_store_records.specs.ApartKeys.{whole_record}
 use Rattle.pfs_store_records.specs.Records.{IsRising, Placed, leaves_number, states_of}
 use Rattle.pfs_store_records.proofs.Joining.{filter-joined, held-removed-aside, holds-joined, numbers-joined}
 use Rattle.pfs_store_records.proofs.RecordLaws.{states-filter}

@@ -1,7 +1,7 @@
 -- Answers of Records::renew_at: the keys stay where a state is renewed.
 use Rattle.std.proofs.Common.{◌∙◌, List, ap, map, sym}
 use Rattle.std.specs.List.{list_any}
-use Rattle.pfs_store_records.specs.Aside.{whole_record}
+use Rattle.pfs_store_records.specs.ApartKeys.{whole_record}
 use Rattle.pfs_store_records.specs.Records.{Placed, renewed_at, stands_at, states_of}
 use Rattle.pfs_store_records.proofs.Joining.{held-numbers, numbers-renewed-at, renew-joined, stands-joined}
 use Rattle.pfs_store_records.proofs.records.Records.renew_at.Goals as goal

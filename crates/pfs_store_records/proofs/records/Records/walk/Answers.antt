@@ -1,6 +1,6 @@
 -- Answers of Records::walk: whether a state has expired does not depend on its keys; the one at which the walk stops gets them.
 use Rattle.std.proofs.Common.{List, None, Some, subst}
-use Rattle.pfs_store_records.specs.Aside.{lying, with_keys}
+use Rattle.pfs_store_records.specs.ApartKeys.{lying, with_keys}
 use Rattle.pfs_store_records.specs.Records.{Placed, states_of}
 use Rattle.pfs_store_records.specs.Walks.{IsWalk, StayUntil, end_of, state_has_expired}
 use Rattle.pfs_store_records.proofs.Joining.{end-keyless, expired-keyless, until-joined, walk-joined}
