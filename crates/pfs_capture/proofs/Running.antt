@@ -171,7 +171,7 @@ pub ends-asked : {R : Type 0} {room room2 : ℕ} (remaining : FeedView R → Opt
     → ((runs : List Run) → Aheads remaining cs runs → is_around f ≡ false → coming_of runs ≡ Stops f)
     → IsEnded run before now before2 now2 account (Err f)
 ends-asked remaining run before now before2 now2 turn account cs stop.Write h few reading stops = absurd (cc reading)
-ends-asked remaining run before now before2 now2 turn account cs stop.Told h few reading stops = absurd (cc reading)
+ends-asked remaining run before now before2 now2 turn account cs stop.Answers h few reading stops = absurd (cc reading)
 ends-asked remaining run before now before2 now2 turn account cs stop.Memory h few reading stops = absurd (cc reading)
 ends-asked remaining run before now before2 now2 turn account cs stop.Moment h few reading stops =
     let next = stops h.runs h.aheads refl in
@@ -313,7 +313,7 @@ ends-send remaining run before now after before2 now2 after2 turn account cs row
     ends-front remaining run before now after before2 now2 after2 turn account cs row answer t u h trace answers
     (front-begins (trace_text h.seen) t row (trace_text h.more) front h.row_more)
     (none-begins (answers_text h.seen) u answer (answers_text h.more) none h.answer_more)
-ends-send remaining run before now after before2 now2 after2 turn account cs row answer t u stop.Told h trace answers (same, front) =
+ends-send remaining run before now after before2 now2 after2 turn account cs row answer t u stop.Answers h trace answers (same, front) =
     ends-front remaining run before now after before2 now2 after2 turn account cs row answer t u h trace answers
     (whole-begins (trace_text h.seen) t row (trace_text h.more) same h.row_more)
     (front-begins (answers_text h.seen) u answer (answers_text h.more) front h.answer_more)
@@ -347,7 +347,7 @@ ends-headers : (run : Run) (before now before2 now2 : Option (List ℕ)) (t u : 
     → Sends (trace_text []) (answers_text []) t u (Err f) → IsEnded run before now before2 now2 no_frames (Err f)
 ends-headers run before now before2 now2 t u stop.Write trace answers (front, none) =
     (t, u, trace, answers, tells-front run run [] no_frames t u refl refl (front-begins [] t (trace_text []) (trace_text []) front refl) (none-begins [] u (answers_text []) (answers_text []) none refl))
-ends-headers run before now before2 now2 t u stop.Told trace answers (same, front) =
+ends-headers run before now before2 now2 t u stop.Answers trace answers (same, front) =
     (t, u, trace, answers, tells-front run run [] no_frames t u refl refl (whole-begins [] t (trace_text []) (trace_text []) same refl) (front-begins [] u (answers_text []) (answers_text []) front refl))
 ends-headers run before now before2 now2 t u (stop.File g) trace answers sends = absurd sends
 ends-headers run before now before2 now2 t u stop.Moment trace answers sends = absurd sends

@@ -65,13 +65,13 @@ is_around (stop.File f) = is_outside f
 is_around stop.Moment = false
 is_around stop.TooMany = false
 is_around stop.Write = true
-is_around stop.Told = true
+is_around stop.Answers = true
 is_around stop.Memory = true
 
 -- a fault of reading
 abbrev pub is_of_reading : TraceStop → Bool
 is_of_reading stop.Write = false
-is_of_reading stop.Told = false
+is_of_reading stop.Answers = false
 is_of_reading stop.Memory = false
 is_of_reading f = true
 

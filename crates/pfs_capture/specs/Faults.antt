@@ -26,7 +26,7 @@ stop_text (stop.File f) = file_text f
 stop_text stop.Moment = codes "its moment is not from 0 to 4294967295"
 stop_text stop.TooMany = codes "too many blocks"
 stop_text stop.Write = codes "write failed"
-stop_text stop.Told = codes "--told: write failed"
+stop_text stop.Answers = codes "--answers: write failed"
 stop_text stop.Memory = codes "no memory"
 
 -- the exit status of a fault: 1 for the capture, 4 for what is around it
@@ -35,5 +35,5 @@ stop_status (stop.File f) = if is_outside f then 4 else 1
 stop_status stop.Moment = 1
 stop_status stop.TooMany = 1
 stop_status stop.Write = 4
-stop_status stop.Told = 4
+stop_status stop.Answers = 4
 stop_status stop.Memory = 4

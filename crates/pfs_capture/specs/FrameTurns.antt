@@ -38,5 +38,5 @@ IsFront text whole = (k : ℕ) × (text ≡ take k whole)
 abbrev pub Sends : List ℕ → List ℕ → List ℕ → List ℕ → Result Unit TraceStop → Type 0
 Sends row answer t u (Ok x) = (t ≡ row) × (u ≡ answer)
 Sends row answer t u (Err stop.Write) = IsFront t row × (u ≡ [])
-Sends row answer t u (Err stop.Told) = (t ≡ row) × IsFront u answer
+Sends row answer t u (Err stop.Answers) = (t ≡ row) × IsFront u answer
 Sends row answer t u (Err f) = ⊥

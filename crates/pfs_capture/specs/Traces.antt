@@ -182,7 +182,7 @@ TellsRun run trace answers account (Err (stop.File f)) = MatchBool (is_outside f
 TellsRun run trace answers account (Err stop.Moment) = TellsAll run (Some stop.Moment) trace answers account
 TellsRun run trace answers account (Err stop.TooMany) = TellsAll run (Some stop.TooMany) trace answers account
 TellsRun run trace answers account (Err stop.Write) = TellsFront run trace answers account
-TellsRun run trace answers account (Err stop.Told) = TellsFront run trace answers account
+TellsRun run trace answers account (Err stop.Answers) = TellsFront run trace answers account
 TellsRun run trace answers account (Err stop.Memory) = TellsBefore run trace answers account
 
 -- nothing is written, not even the headers, where a file does not begin as a capture, or can't be read so far

@@ -18,7 +18,7 @@ pub enum TraceStop {
     /// A write of the trace took nothing or failed.
     Write,
     /// A write of what pf answered took nothing or failed.
-    Told,
+    Answers,
     /// Memory was refused.
     Memory,
 }
@@ -35,7 +35,7 @@ impl fmt::Display for TraceStop {
             TraceStop::Moment => write!(f, "its moment is not from 0 to 4294967295"),
             TraceStop::TooMany => write!(f, "too many blocks"),
             TraceStop::Write => write!(f, "write failed"),
-            TraceStop::Told => write!(f, "--told: write failed"),
+            TraceStop::Answers => write!(f, "--answers: write failed"),
             TraceStop::Memory => write!(f, "no memory"),
         }
     }
@@ -68,7 +68,7 @@ pub fn status(stop: &TraceStop) -> u8
     match stop {
         TraceStop::File(FileFault::Read | FileFault::Memory)
         | TraceStop::Write
-        | TraceStop::Told
+        | TraceStop::Answers
         | TraceStop::Memory => 4,
         TraceStop::File(_) | TraceStop::Moment | TraceStop::TooMany => 1,
     }

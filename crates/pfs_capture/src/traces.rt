@@ -68,12 +68,12 @@ pub fn write_trace<R: Read, W: Write, T: Write>(
     // No failure is reported of a reader or a writer that did not have it.
     ensures read { result ≡ Err (TraceStop.File fault.Read) → SomeFailed captures.new }
     ensures write { result ≡ Err TraceStop.Write → 0 < write_failures out.new }
-    ensures told { result ≡ Err TraceStop.Told → 0 < write_failures answers.new }
+    ensures told { result ≡ Err TraceStop.Answers → 0 < write_failures answers.new }
 
     // Whatever failed is named, so nothing failed before it.
     ensures first_read { (result ≡ Err (TraceStop.File fault.Read)) ⊎ (failures_of captures.new ≡ failures_of captures.old) }
     ensures first_write { (result ≡ Err TraceStop.Write) ⊎ (write_failures out.new ≡ write_failures out.old) }
-    ensures first_told { (result ≡ Err TraceStop.Told) ⊎ (write_failures answers.new ≡ write_failures answers.old) }
+    ensures first_told { (result ≡ Err TraceStop.Answers) ⊎ (write_failures answers.new ≡ write_failures answers.old) }
 
     // Nothing is flushed but by lines.
     ensures rows_at_once { NotFlushed out.old out.new }
@@ -115,9 +115,9 @@ fn send<W: Write, T: Write>(
         × Appends (bytes_held T.contents answers.old) (bytes_held T.contents answers.new) u
         × Sends row.now answer.now t u result }
     ensures write { result ≡ Err TraceStop.Write → 0 < write_failures out.new }
-    ensures told { result ≡ Err TraceStop.Told → 0 < write_failures answers.new }
+    ensures told { result ≡ Err TraceStop.Answers → 0 < write_failures answers.new }
     ensures first_write { (result ≡ Err TraceStop.Write) ⊎ (write_failures out.new ≡ write_failures out.old) }
-    ensures first_told { (result ≡ Err TraceStop.Told) ⊎ (write_failures answers.new ≡ write_failures answers.old) }
+    ensures first_told { (result ≡ Err TraceStop.Answers) ⊎ (write_failures answers.new ≡ write_failures answers.old) }
     ensures rows_at_once { NotFlushed out.old out.new }
     ensures answers_at_once { NotFlushed answers.old answers.new }
 {
@@ -127,7 +127,7 @@ fn send<W: Write, T: Write>(
     }
     match write_whole(answers, answer) {
         Ok(()) => Ok(()),
-        Err(_) => Err(TraceStop::Told),
+        Err(_) => Err(TraceStop::Answers),
     }
 }
 

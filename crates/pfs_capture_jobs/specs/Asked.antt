@@ -29,6 +29,10 @@ option_rule action id = record (new_rule id) { long = Some id; action = Some act
 abbrev pub named_rule : ArgAction → Text → Rule
 named_rule action id = record (option_rule action id) { value_names = 1 }
 
+-- the file for what pf answered, whose option was called "told" before
+abbrev pub answers_rule : Rule
+answers_rule = record (named_rule Set (codes "answers")) { aliases = codes "told" ∷ [] }
+
 -- the program, which has a version, with its options and the name of a capture
 abbrev pub sides_app : App
 sides_app =
@@ -36,7 +40,7 @@ sides_app =
 
 abbrev pub pfstrace_app : App
 pfstrace_app =
-    with_rule (with_rule (with_rule (with_rule sides_app (option_rule Set (codes "interface"))) (named_rule Set (codes "told"))) (flag_rule lines_flag)) (new_rule (codes "CAPTURE"))
+    with_rule (with_rule (with_rule (with_rule sides_app (option_rule Set (codes "interface"))) answers_rule) (flag_rule lines_flag)) (new_rule (codes "CAPTURE"))
 
 -- ---- the interface
 
@@ -84,7 +88,7 @@ given_text = option_map (λ s. s.now)
 -- the interface, its capture, the file for what pf answered, and whether rows are wanted at once
 abbrev pub IsAsked : List Row → InterfaceWords → Type 0
 IsAsked rows a =
-    (named_point rows ≡ Ok a.point) × (given_text a.capture ≡ first_of (codes "CAPTURE") rows) × (given_text a.told ≡ first_of (codes "told") rows) × ByLinesIn rows a.by_lines
+    (named_point rows ≡ Ok a.point) × (given_text a.capture ≡ first_of (codes "CAPTURE") rows) × (given_text a.answers ≡ first_of (codes "answers") rows) × ByLinesIn rows a.by_lines
 
 -- words are refused for this mistake where they have it, and for nothing else but memory
 abbrev pub IsRefused : {A : Type 0} → Mistake → Option A → WordsRefusal → Type 0

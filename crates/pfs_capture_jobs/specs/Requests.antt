@@ -25,9 +25,9 @@ abbrev pub first_capture : List InterfaceWords → Option (Bor Text)
 first_capture [] = None
 first_capture (a ∷ more) = or_name a.capture (first_capture more)
 
-abbrev pub first_told : List InterfaceWords → Option (Bor Text)
-first_told [] = None
-first_told (a ∷ more) = or_name a.told (first_told more)
+abbrev pub first_answers : List InterfaceWords → Option (Bor Text)
+first_answers [] = None
+first_answers (a ∷ more) = or_name a.answers (first_answers more)
 
 -- whether a name that is given stands for a standard stream
 abbrev pub is_dash : Option (Bor Text) → Bool
@@ -41,9 +41,9 @@ named_file name = option_and_then (λ s. file_of s.now) name
 -- of them wants it.
 abbrev pub wanted_output : List InterfaceWords → Result Output Mistake
 wanted_output asked =
-    if nat_lt 1 (count_by (λ a. is_some a.told) asked) then Err mistake.ToldTwice
-    else (if is_dash (first_told asked) then Err mistake.ToldOut
-    else Ok (record { told = first_told asked; by_lines = list_any (λ a. a.by_lines) asked }))
+    if nat_lt 1 (count_by (λ a. is_some a.answers) asked) then Err mistake.AnswersTwice
+    else (if is_dash (first_answers asked) then Err mistake.AnswersOut
+    else Ok (record { answers = first_answers asked; by_lines = list_any (λ a. a.by_lines) asked }))
 
 -- whether one capture is that of all interfaces; else each has one of its own, of which one may be standard input
 abbrev pub captures_shared : List InterfaceWords → Result Bool Mistake

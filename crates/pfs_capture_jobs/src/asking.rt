@@ -26,7 +26,7 @@ pub struct InterfaceWords<'a> {
     /// The capture's file, if one is named.
     pub capture: Option<&'a str>,
     /// The file for what pf answered, if one is wanted.
-    pub told: Option<&'a str>,
+    pub answers: Option<&'a str>,
     /// Whether each row is to be seen before more of the captures is read.
     pub by_lines: bool,
 }
@@ -59,7 +59,7 @@ fn asked_in<'a>(alloc: Global, found: &ArgMatches<'a>) -> Result<InterfaceWords<
         Ok(point) => Ok(InterfaceWords {
             point,
             capture: given(found, "CAPTURE"),
-            told: given(found, "told"),
+            answers: given(found, "answers"),
             by_lines: is_by_lines(found),
         }),
         Err(refusal) => Err(refusal),

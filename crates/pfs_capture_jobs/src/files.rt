@@ -4,14 +4,14 @@ use std::fs::{self, File};
 use std::io;
 
 /// Whether the file of the answers is the capture, by whatever path.
-pub fn is_capture(rt: &HostRuntime, told: Option<&str>, name: &str) -> bool {
-    let Some(told) = told else {
+pub fn is_capture(rt: &HostRuntime, answers: Option<&str>, name: &str) -> bool {
+    let Some(answers) = answers else {
         return false;
     };
-    if told == name {
+    if answers == name {
         return true;
     }
-    let Ok(one) = fs::canonicalize(rt, told) else {
+    let Ok(one) = fs::canonicalize(rt, answers) else {
         return false;
     };
     let Ok(other) = fs::canonicalize(rt, name) else {

@@ -4,7 +4,7 @@ ghost use Rattle.std.specs.Prelude.{◌≡◌, IfOk, codes, false};
 ghost use Rattle.clap.specs.Words.{app_of, new_rule, rule_of};
 ghost use Rattle.clap.specs.declared.builder.command.Command.TheViews.{out-Command};
 ghost use Rattle.clap.specs.declared.builder.action.ArgAction.TheVariants as action;
-ghost use Rattle.pfs_capture_jobs.specs.Asked.{named_rule, option_rule, pfstrace_app, sides_app};
+ghost use Rattle.pfs_capture_jobs.specs.Asked.{answers_rule, named_rule, option_rule, pfstrace_app, sides_app};
 
 use clap::{Arg, ArgAction, Command};
 use pfs_words::line_buffered;
@@ -20,7 +20,7 @@ pub fn pfstrace<'a>(alloc: Global) -> Result<Command<'a>, AllocError>
 {
     with_sides(alloc)?
         .arg(interface_name(alloc))?
-        .arg(told(alloc))?
+        .arg(answers(alloc)?)?
         .arg(line_buffered(
             alloc,
             "Writes each row before it reads more of the capture.",
@@ -104,17 +104,18 @@ fn interface_name<'a>(alloc: Global) -> Arg<'a>
     )
 }
 
-fn told<'a>(alloc: Global) -> Arg<'a>
-    ensures rule { rule_of result ≡ named_rule action.Set (codes "told") }
-    ensures local { result.global ≡ false }
+fn answers<'a>(alloc: Global) -> Result<Arg<'a>, AllocError>
+    ensures rule { IfOk result (λ a. rule_of a ≡ answers_rule) }
+    ensures local { IfOk result (λ a. a.global ≡ false) }
 {
     option(
         alloc,
-        "told",
+        "answers",
         ArgAction::Set,
         "Of a log of pflog(4), writes there for each record its row, what pf did, and by which rule. A file of this name is made anew.",
     )
     .value_name("FILE")
+    .alias("told")
 }
 
 fn capture<'a>(alloc: Global) -> Arg<'a>

@@ -19,12 +19,12 @@ pub enum Mistake {
     Outside,
     /// Both `--inside` and `--outside` are given of one interface.
     BothSides,
-    /// `--told` is given for two interfaces.
-    ToldTwice,
-    /// `--told` names standard output, which has the trace.
-    ToldOut,
-    /// `--told` names a file that is read as a capture.
-    ToldIsCapture,
+    /// `--answers` is given for two interfaces.
+    AnswersTwice,
+    /// `--answers` names standard output, which has the trace.
+    AnswersOut,
+    /// `--answers` names a file that is read as a capture.
+    AnswersAreCapture,
     /// Several captures are given, but not one for each interface.
     Captures,
     /// Two captures are standard input.
@@ -43,9 +43,9 @@ impl fmt::Display for Mistake {
             Mistake::Inside => write!(f, "--inside: no address and no prefix"),
             Mistake::Outside => write!(f, "--outside: no address and no prefix"),
             Mistake::BothSides => write!(f, "--inside and --outside: give one of them"),
-            Mistake::ToldTwice => write!(f, "--told: give it once"),
-            Mistake::ToldOut => write!(f, "--told: standard output has the trace"),
-            Mistake::ToldIsCapture => write!(f, "--told: this is the capture"),
+            Mistake::AnswersTwice => write!(f, "--answers: give it once"),
+            Mistake::AnswersOut => write!(f, "--answers: standard output has the trace"),
+            Mistake::AnswersAreCapture => write!(f, "--answers: this is the capture"),
             Mistake::Captures => write!(
                 f,
                 "--interface: give one capture for all, or one for each"

@@ -2,7 +2,7 @@
 
 ghost use Rattle.std.specs.Prelude.{◌≡◌, IfErr, IfOk, [], ◌∷◌, count_by, is_some, map, option_map, true};
 ghost use Rattle.std.specs.List.{list_any};
-ghost use Rattle.pfs_capture_jobs.specs.Requests.{AllAsk, AreOwn, AreSources, IsShared, OneRefused, RequestIn, RequestedBy, SourcesAre, SourcesRefused, captures_shared, first_capture, first_told, is_dash, named_file, wanted_output};
+ghost use Rattle.pfs_capture_jobs.specs.Requests.{AllAsk, AreOwn, AreSources, IsShared, OneRefused, RequestIn, RequestedBy, SourcesAre, SourcesRefused, captures_shared, first_capture, first_answers, is_dash, named_file, wanted_output};
 
 use crate::asking::{InterfaceWords, asked_of};
 use crate::refusals::{Mistake, WordsRefusal};
@@ -11,7 +11,7 @@ use pfs_words::{file_of, is_standard};
 use std::alloc::{AllocError, Global};
 
 /// What groups of words ask for, each behind the program's name. The refusal is that of the first group that is refused: clap's, with its
-/// message, or a mistake that clap does not know; else a mistake in all groups together: first of `--told`, then of the captures. It takes
+/// message, or a mistake that clap does not know; else a mistake in all groups together: first of `--answers`, then of the captures. It takes
 /// memory. (pfstrace(1))
 pub fn request<'a>(alloc: Global, groups: &'a [Vec<&str>]) -> Result<TraceRequest<'a>, WordsRefusal>
     ensures { RequestedBy (map (λ g. map (λ w. w.now) g.items) groups.entry.now) result }
@@ -81,25 +81,25 @@ fn sources_of<'a>(
 fn output_of<'a>(asked: &[InterfaceWords<'a>]) -> Result<Output<'a>, Mistake>
     ensures { result ≡ wanted_output asked.now }
 {
-    if count_told(asked) > 1 {
-        return Err(Mistake::ToldTwice);
+    if count_answers(asked) > 1 {
+        return Err(Mistake::AnswersTwice);
     }
-    let told = first_told(asked);
-    if is_dash(told) {
-        return Err(Mistake::ToldOut);
+    let answers = first_answers(asked);
+    if is_dash(answers) {
+        return Err(Mistake::AnswersOut);
     }
     Ok(Output {
-        told,
+        answers,
         by_lines: wants_lines(asked),
     })
 }
 
-#[tactic(auto, using(crate::proofs::FirstLaws::told_step))]
-fn first_told<'a>(asked: &[InterfaceWords<'a>]) -> Option<&'a str>
-    ensures { result ≡ first_told asked.now }
+#[tactic(auto, using(crate::proofs::FirstLaws::answers_step))]
+fn first_answers<'a>(asked: &[InterfaceWords<'a>]) -> Option<&'a str>
+    ensures { result ≡ first_answers asked.now }
 {
     for group in asked {
-        if let Some(name) = group.told {
+        if let Some(name) = group.answers {
             return Some(name);
         }
     }
@@ -202,10 +202,10 @@ fn named_file(name: Option<&str>) -> Option<&str>
     file_of(name?)
 }
 
-fn count_told(asked: &[InterfaceWords<'_>]) -> usize
-    ensures { result ≡ count_by (λ a. is_some a.told) asked.now }
+fn count_answers(asked: &[InterfaceWords<'_>]) -> usize
+    ensures { result ≡ count_by (λ a. is_some a.answers) asked.now }
 {
-    asked.iter().filter(|group| group.told.is_some()).count()
+    asked.iter().filter(|group| group.answers.is_some()).count()
 }
 
 fn count_named(asked: &[InterfaceWords<'_>]) -> usize

@@ -6,7 +6,7 @@ use pfs_capture::CapturePoint;
 #[derive(Clone, Copy)]
 pub struct Output<'a> {
     /// The file for what pf answered, if one is wanted.
-    pub told: Option<&'a str>,
+    pub answers: Option<&'a str>,
     /// Whether each row is to be seen before more of the captures is read.
     pub by_lines: bool,
 }

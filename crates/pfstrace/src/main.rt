@@ -43,8 +43,8 @@ fn trace_groups(rt: &HostRuntime, groups: &[Vec<&str>]) -> u8 {
 fn trace_request(rt: &HostRuntime, request: TraceRequest<'_>) -> u8 {
     let output = request.output;
     for source in &request.sources {
-        if is_capture(rt, output.told, source.name.unwrap_or("/dev/stdin")) {
-            return tell_mistake(rt, Mistake::ToldIsCapture);
+        if is_capture(rt, output.answers, source.name.unwrap_or("/dev/stdin")) {
+            return tell_mistake(rt, Mistake::AnswersAreCapture);
         }
     }
     match open_all(rt, request.sources) {
@@ -89,11 +89,11 @@ fn open(rt: &HostRuntime, name: Option<&str>) -> Result<Reader, TraceStop> {
 /// Writes the trace of captures, and what pf answered to the file of this name, if one is given; the status.
 fn trace_captures(rt: &HostRuntime, captures: &mut [Capture<Reader>], output: Output<'_>) -> u8 {
     let by_lines = output.by_lines;
-    let Some(name) = output.told else {
+    let Some(name) = output.answers else {
         return trace_into(rt, captures, by_lines, io::sink());
     };
     let Ok(file) = create_anew(rt, name) else {
-        let _ = eprintln!(rt; "--told: the file can't be written");
+        let _ = eprintln!(rt; "--answers: the file can't be written");
         return 4;
     };
     match BufWriter::new(rt.alloc(), file) {
@@ -128,7 +128,7 @@ fn trace_into<T: Write + Drop>(
     match ended {
         Err(stop) => tell_stop(rt, &stop, account.frames),
         Ok(()) if flushed.is_err() => tell_stop(rt, &TraceStop::Write, 0),
-        Ok(()) if answers_flushed.is_err() => tell_stop(rt, &TraceStop::Told, 0),
+        Ok(()) if answers_flushed.is_err() => tell_stop(rt, &TraceStop::Answers, 0),
         Ok(()) => 0,
     }
 }

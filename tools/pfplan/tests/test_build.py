@@ -249,9 +249,10 @@ class Unproved(WithToolchain):
             self.given("pfstrace", "--interface", "em0", "--inside", "192.0.2.0/24", "em0"),
             ["--interface", "em0", "--inside", "192.0.2.0/24", str(capture)],
         )
-        self.assertEqual(self.given("pfstrace", "--told", "new", "em0"), ["--told", "./new", str(capture)])
-        self.assertEqual(self.given("pfstrace", "--told=new", "--", "em0"), ["--told=./new", "--", str(capture)])
-        self.assertEqual(self.given("pfstrace", "--told", "-", "em0"), ["--told", "-", str(capture)])
+        for word in ("--answers", "--told"):
+            self.assertEqual(self.given("pfstrace", word, "new", "em0"), [word, "./new", str(capture)])
+            self.assertEqual(self.given("pfstrace", f"{word}=new", "--", "em0"), [f"{word}=./new", "--", str(capture)])
+            self.assertEqual(self.given("pfstrace", word, "-", "em0"), [word, "-", str(capture)])
         self.assertEqual(self.given("pfstrace", "--mac", "a", stdin="frames"), ["--mac", "a", "<frames>"])
         self.assertEqual(self.given("pfstrace", "--mac", stdin="frames"), ["--mac"])
         self.assertEqual(self.given("pfstrace", "--help", stdin="frames"), ["--help"])
@@ -265,8 +266,8 @@ class Unproved(WithToolchain):
 
     def test_the_capture_stays(self) -> None:
         capture = self.write("pflog", "frames")
-        done = self.call("bash", "-c", f"{TOP / 'pfstrace'} --unproved --told pflog < pflog")
-        self.assertEqual((done.status, done.err), (2, f"pfstrace: {FIRST}error: --told: this is the capture\n"))
+        done = self.call("bash", "-c", f"{TOP / 'pfstrace'} --unproved --answers pflog < pflog")
+        self.assertEqual((done.status, done.err), (2, f"pfstrace: {FIRST}error: --answers: this is the capture\n"))
         self.assertEqual((self.notes.exists(), capture.read_text("utf-8")), (False, "frames"))
 
     def test_an_answer_is_handed_on(self) -> None:

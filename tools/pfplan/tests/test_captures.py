@@ -121,7 +121,7 @@ class Captures(FolderCase):
         self.assertEqual(self.call(script, "--told", "told", "--out", "trace"), Done(0, "", ""))
         self.assertEqual((self.read("told"), self.read("trace")), (f"{ANSWERS}\n1,block,7,a,0\n", "time,dir\n5,in\n"))
         self.assertEqual(
-            (self.read("words"), self.left()), (f"--told {NAME}\n", [NAME, "pfstrace", "told", "trace", "words"])
+            (self.read("words"), self.left()), (f"--answers {NAME}\n", [NAME, "pfstrace", "told", "trace", "words"])
         )
 
     def test_it_fails(self) -> None:

@@ -74,7 +74,7 @@ def make_trace(
         check_capture(it, shown if len(captures) == 1 else it)
     check_program("pfstrace")
     with contextlib.ExitStack() as stack:
-        answers = ["--told", stack.enter_context(_answers(told))] if told else []
+        answers = ["--answers", stack.enter_context(_answers(told))] if told else []
         words = [program("pfstrace"), *answers, *_words(captures, seen)]
         with _running(words, shown, is_partial) as (lines, account):
             out.writelines(from_zero(lines) if is_zero else lines)

@@ -1,4 +1,4 @@
-"""What pf answered for the packets of a log, as `./pfstrace --told` writes it, with the rows of one packet put
+"""What pf answered for the packets of a log, as `./pfstrace --answers` writes it, with the rows of one packet put
 together.
 
 pf logs a packet more than once where `match` rules log it too, and may log that a rule passes it before a limit refuses
