@@ -1,4 +1,4 @@
--- How the groups of an IPv6 address are written around those that are left out.
+-- How the groups of an IPv6 address are written around those that are left out. (not promised)
 use Rattle.std.specs.Prelude.{ℕ, List, ◌++◌, codes}
 use Rattle.std.specs.Net.Text.{groups_text}
 

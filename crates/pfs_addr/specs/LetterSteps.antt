@@ -1,4 +1,4 @@
--- Flags as the reader of a text finds them, letter by letter.
+-- Flags as the reader of a text finds them, letter by letter. (not promised)
 use Rattle.std.specs.Prelude.{ℕ, List, false, ◌==◌, ◌||◌}
 use Rattle.pfs_addr_values.specs.FlagSets.{names_letter}
 use Rattle.pfs_addr_values.specs.declared.flag_sets.Flags.{Flags}

@@ -1,4 +1,4 @@
--- How the reading of a byte of an address goes on.
+-- How the reading of a byte of an address goes on. (not promised)
 use Rattle.std.specs.Prelude.{ℕ, List, [], ◌∷◌, Bool, true, not}
 use Rattle.pfs_addr_values.specs.Numbers.{is_digit}
 

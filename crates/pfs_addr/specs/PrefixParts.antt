@@ -1,4 +1,4 @@
--- The two parts of a prefix's text around its slash: an address, and a length without zeros in front.
+-- The two parts of a prefix's text around its slash: an address, and a length without zeros in front. (not promised)
 use Rattle.std.specs.Prelude.{ℕ, List, Bool, Option, Some, None, if◌then◌else◌, not, ◌&&◌, ◌==◌, ◌≡◌, ◌≤◌, nat_lt, length, slice_index}
 use Rattle.std.specs.Fmt.{decimal}
 use Rattle.pfs_addr_values.specs.Addresses.{IsAddr, IsAddrText, width_of}

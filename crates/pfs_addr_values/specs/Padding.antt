@@ -1,4 +1,4 @@
--- A law for the type Name: what a name is kept as follows from its bytes alone.
+-- A law for the type Name: what a name is kept as follows from its bytes alone. (not promised)
 use Rattle.std.proofs.Common.{ℕ, ◌≡◌, ◌-◌, ◌++◌, length, take, replicate, ap, sym, ◌∙◌}
 use Rattle.std.proofs.lemmas.List.{take-append-drop}
 use Rattle.pfs_addr_values.specs.Names.{IsPadded}

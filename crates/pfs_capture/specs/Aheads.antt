@@ -1,4 +1,4 @@
--- What lies ahead of captures that are read: it stays as it is while they are read on.
+-- What lies ahead of captures that are read: it stays as it is while they are read on. (not promised)
 use Rattle.std.specs.Prelude.{ℕ, zero, suc, ◌≡◌, ◌+◌, Bool, true, false, List, [], ◌∷◌, map, Option, Some, None, Result, Ok, Err, if◌then◌else◌, ⊤}
 use Rattle.pfs_streams.specs.Feeds.{FeedView}
 use Rattle.pfs_capture_files.specs.Faults.{is_outside}

@@ -1,4 +1,4 @@
--- What the next frame of a capture makes of an account, and what a turn writes.
+-- What the next frame of a capture makes of an account, and what a turn writes. (not promised)
 use Rattle.std.specs.Prelude.{ℕ, ◌≡◌, ◌⊎◌, ◌<◌, ◌+◌, List, [], length, take, Result, Ok, Err}
 use Rattle.pfs_capture.specs.Accounts.{frame_counted}
 use Rattle.pfs_capture.specs.Runs.{Judged}

@@ -1,4 +1,4 @@
--- What the header of a trace leaves to be read. (own)
+-- What the header of a trace leaves to be read. (own) (not promised)
 use Rattle.std.specs.Prelude.{◌≡◌, ℕ, List, [], Option, Some, None, Result, Ok, Err}
 use Rattle.csv.specs.Reading.{default_config, reader_state, source_of}
 use Rattle.csv.specs.declared.reader.Reader.{Reader}

@@ -1,4 +1,4 @@
--- How a joined text ends before its trace, and what is written of its trace. (own)
+-- How a joined text ends before its trace, and what is written of its trace. (own) (not promised)
 use Rattle.std.specs.Prelude.{ℕ, List, Result, true}
 use Rattle.pfs_conf_values.specs.Configs.{Conf}
 use Rattle.pfs_conf.specs.Reads.{Reads}

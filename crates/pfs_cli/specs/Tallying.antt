@@ -1,4 +1,4 @@
--- What one turn of a run adds to its tally. (own)
+-- What one turn of a run adds to its tally. (own) (not promised)
 use Rattle.std.specs.Prelude.{ℕ, ◌≡◌, ◌+◌, ◌-◌, ◌^◌, ◌⊎◌, min, max, Bool, List, Result, Ok, Err}
 use Rattle.pfs_conf_values.specs.Configs.{Conf}
 use Rattle.pfs_engine_machine.specs.declared.events.Event.{Event}

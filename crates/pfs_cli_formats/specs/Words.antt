@@ -1,4 +1,4 @@
--- The parts of a line, as the code writes them.
+-- The parts of a line, as the code writes them. (not promised)
 use Rattle.std.specs.Prelude.{◌++◌, List, [], ℕ, codes, Option, Some, None}
 use Rattle.std.specs.Fmt.{decimal}
 use Rattle.pfs_conf_values.specs.declared.items.RuleNo.{RuleNo}

@@ -1,4 +1,4 @@
--- What is returned, against what reading the tokens gives.
+-- What is returned, against what reading the tokens gives. (not promised)
 use Rattle.std.specs.Prelude.{◌≡◌, ◌≤◌, ◌<◌, ℕ, List, length, Result, Ok, Err}
 use Rattle.pfs_conf_tokens.specs.Tokens.{Tok, head}
 use Rattle.pfs_conf_tokens.specs.Lexis.{text_limit, tokens_of}

@@ -1,4 +1,4 @@
--- What every phrase that is read keeps: names are names, ports are in order, numbers are within their bounds.
+-- What every phrase that is read keeps: names are names, ports are in order, numbers are within their bounds. (not promised)
 use Rattle.std.specs.Prelude.{◌≡◌, ℕ, Bool, true, false, IfSome, List, [], ◌∷◌}
 use Rattle.pfs_conf_tokens.specs.Tokens.{Tok}
 use Rattle.pfs_conf_tokens.specs.Keys.{is_word_key}

@@ -1,4 +1,4 @@
--- What a function of the code returned, and how far it came, against what the definition of its reader gives.
+-- What a function of the code returned, and how far it came, against what the definition of its reader gives. (not promised)
 use Rattle.std.specs.Prelude.{◌≡◌, ◌≤◌, List, Result, Ok, Err}
 use Rattle.pfs_conf_tokens.specs.Tokens.{Tok}
 use Rattle.pfs_conf_tokens.specs.Reading.{Refused}

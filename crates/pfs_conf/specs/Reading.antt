@@ -1,5 +1,5 @@
 -- Reading statements from left to right: one definition for each reader of the code, made of the parts of
--- pfs_conf_tokens. So each looks no further than the token in front of what it leaves. (own)
+-- pfs_conf_tokens. So each looks no further than the token in front of what it leaves. (own) (not promised)
 use Rattle.std.specs.Prelude.{ℕ, ◌==◌, ◌||◌, Bool, true, false, if◌then◌else◌, Option, Some, None, is_some, List, Result, Ok, Err, ◌-◌}
 use Rattle.pfs_conf_tokens.specs.Tokens.{Tok, head}
 use Rattle.pfs_conf_tokens.specs.Keys.{is_word_key, ends_line}

@@ -1,4 +1,4 @@
--- The kind of the fault at the token at which reading stops, by what was wanted there. (own)
+-- The kind of the fault at the token at which reading stops, by what was wanted there. (own) (not promised)
 use Rattle.std.specs.Prelude.{ℕ, Bool, true, false, ◌&&◌, ◌||◌, nat_le, if◌then◌else◌, List, [], ◌∷◌}
 use Rattle.pfs_conf_tokens.specs.Tokens.{Tok, head}
 use Rattle.pfs_conf_tokens.specs.Reading.{rest}

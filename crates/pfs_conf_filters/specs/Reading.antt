@@ -1,5 +1,5 @@
 -- Reading the parameters from left to right: one definition for each reader of the code, made of the parts of pfs_conf_tokens
--- alone, so that each looks no further than the token in front of what it leaves. (own)
+-- alone, so that each looks no further than the token in front of what it leaves. (own) (not promised)
 use Rattle.std.specs.Prelude.{ℕ, Bool, true, false, ◌&&◌, List, Option, Some, None, is_some, if◌then◌else◌}
 use Rattle.pfs_conf_tokens.specs.Reading.{closes_parens, Reader, Act, take, stay, refuse, on_front, done, chain, once, perhaps, list_all}
 use Rattle.pfs_conf_tokens.specs.declared.keys.Key.{Key}

@@ -1,4 +1,4 @@
--- Which words begin once more what the parameters have already: these are reported as repeated. (own)
+-- Which words begin once more what the parameters have already: these are reported as repeated. (own) (not promised)
 use Rattle.std.specs.Prelude.{Bool, true, false, ◌||◌, Option, Some, None, is_some}
 use Rattle.pfs_conf_tokens.specs.declared.keys.Key.{Key}
 use Rattle.pfs_conf_tokens.specs.declared.keys.Key.TheVariants as key

@@ -1,4 +1,4 @@
--- What every state clause that is read keeps: each option is within its bounds. (own)
+-- What every state clause that is read keeps: each option is within its bounds. (own) (not promised)
 use Rattle.std.specs.Prelude.{◌≡◌, ℕ, true, None, IfSome, length, slice_index_or}
 use Rattle.pfs_conf_values.specs.LoadRules.{IsCount, IsTimeout}
 use Rattle.pfs_conf_values.specs.Bounds.{IsRate}

@@ -1,4 +1,4 @@
--- How a state clause is read from left to right; made of the parts of pfs_conf_tokens' specs/Reading.antt alone.
+-- How a state clause is read from left to right; made of the parts of pfs_conf_tokens' specs/Reading.antt alone. (not promised)
 use Rattle.std.specs.Prelude.{ℕ, Bool, true, false, List, Option, Some, None, nat_le, ◌&&◌, if◌then◌else◌, slice_index_or, slice_set}
 use Rattle.pfs_conf_tokens.specs.declared.keys.Key.{Key}
 use Rattle.pfs_conf_tokens.specs.declared.keys.Key.TheVariants as key

@@ -1,5 +1,5 @@
 -- What a function that adds to what is read already returned, and where it left the cursor and what is read, against what
--- the definition of its reader gives.
+-- the definition of its reader gives. (not promised)
 use Rattle.std.specs.Prelude.{◌≡◌, List, Result, Ok, Err}
 use Rattle.pfs_conf_tokens.specs.Tokens.{Tok}
 use Rattle.pfs_conf_tokens.specs.Reading.{Refused}

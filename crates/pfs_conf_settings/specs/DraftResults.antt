@@ -1,5 +1,5 @@
 -- What a function that adds to a draft returned, and where it left the cursor and the draft, against what the definition of
--- its reader gives.
+-- its reader gives. (not promised)
 use Rattle.std.specs.Prelude.{◌≡◌, List, Result, Ok, Err}
 use Rattle.pfs_conf_tokens.specs.Tokens.{Tok}
 use Rattle.pfs_conf_tokens.specs.Reading.{Refused}

@@ -1,4 +1,4 @@
--- What the statements of a text that have been read keep: the load rules of each.
+-- What the statements of a text that have been read keep: the load rules of each. (not promised)
 use Rattle.std.specs.Prelude.{ℕ, ◌≡◌, ◌≤◌, Bool, IfSome, None, List, [], length, All, slice_index_or}
 use Rattle.pfs_conf_values.specs.Configs.{table_names}
 use Rattle.pfs_conf_values.specs.Invariants.{AreLimits, IsTable}

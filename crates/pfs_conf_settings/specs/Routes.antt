@@ -1,4 +1,4 @@
--- How a route is read; made of the parts of pfs_conf_tokens' specs/Reading.antt alone.
+-- How a route is read; made of the parts of pfs_conf_tokens' specs/Reading.antt alone. (not promised)
 use Rattle.std.specs.Prelude.{ℕ, Bool, true, false, List}
 use Rattle.pfs_conf_tokens.specs.declared.refusals.Why.TheVariants as why
 use Rattle.pfs_conf_tokens.specs.Reading.{Reader, chain, done, skipping}

@@ -1,4 +1,5 @@
 -- How the statements that set the profile, limits, timeouts and routes are read. Line ends are ignored between any two tokens in braces.
+-- (not promised)
 use Rattle.std.specs.Prelude.{ℕ, Bool, true, false, Option, Some, None}
 use Rattle.pfs_conf_tokens.specs.declared.keys.Key.{Key}
 use Rattle.pfs_conf_tokens.specs.declared.keys.Key.TheVariants as key

@@ -1,4 +1,4 @@
--- How what follows `set syncookies` is read; made of the parts of pfs_conf_tokens' specs/Reading.antt alone.
+-- How what follows `set syncookies` is read; made of the parts of pfs_conf_tokens' specs/Reading.antt alone. (not promised)
 use Rattle.std.specs.Prelude.{ℕ, ◌≤◌, nat_le, List, [], ◌∷◌, Option, Some, None, if◌then◌else◌}
 use Rattle.pfs_conf_tokens.specs.declared.keys.Key.{Key}
 use Rattle.pfs_conf_tokens.specs.declared.keys.Key.TheVariants as key

@@ -1,4 +1,4 @@
--- How the parts of a table's definition are read. Line ends are ignored between any two tokens in its braces.
+-- How the parts of a table's definition are read. Line ends are ignored between any two tokens in its braces. (not promised)
 use Rattle.std.specs.Prelude.{Bool, true, false, Option, Some, None, if◌then◌else◌, List, [], ◌∷◌, ◌++◌}
 use Rattle.pfs_conf_tokens.specs.declared.keys.Key.{Key}
 use Rattle.pfs_conf_tokens.specs.declared.keys.Key.TheVariants as key

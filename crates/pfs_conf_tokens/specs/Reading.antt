@@ -1,4 +1,4 @@
--- Reading from left to right: the parts from which the definition of each reader is built. (own)
+-- Reading from left to right: the parts from which the definition of each reader is built. (own) (not promised)
 --
 -- A reader takes the tokens that are left and gives a value with the tokens after it, or says why not. The definition
 -- of each reader of the code is `unfoldable` and is made of these parts alone. So what holds of all of them, that

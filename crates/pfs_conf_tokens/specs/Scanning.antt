@@ -1,4 +1,4 @@
--- What a scan leaves: the token, and after it, unless it is the last, those of the bytes that are left.
+-- What a scan leaves: the token, and after it, unless it is the last, those of the bytes that are left. (not promised)
 use Rattle.std.specs.Prelude.{List, [], ◌∷◌, if◌then◌else◌}
 use Rattle.pfs_conf_tokens.specs.Tokens.{Tok}
 use Rattle.pfs_conf_tokens.specs.Lexis.{tokens}

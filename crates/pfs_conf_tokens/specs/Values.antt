@@ -1,4 +1,4 @@
--- What a word says where a value is asked for, and the names of tables among such values. (own)
+-- What a word says where a value is asked for, and the names of tables among such values. (own) (not promised)
 use Rattle.std.specs.Prelude.{ℕ, List, Option, Some, None, if◌then◌else◌}
 use Rattle.pfs_addr_values.specs.Names.{name_of}
 use Rattle.pfs_conf_tokens.specs.declared.refusals.Why.{Why}

@@ -1,4 +1,4 @@
--- The words of a length, among which a word is looked up.
+-- The words of a length, among which a word is looked up. (not promised)
 use Rattle.std.specs.Prelude.{ℕ, List, ◌++◌, ◌==◌, filter, length}
 use Rattle.pfs_conf_tokens.specs.Words.{foreign_words, named_words, option_words, statement_words}
 use Rattle.pfs_conf_tokens.specs.declared.keys.Key.{Key}

@@ -1,4 +1,4 @@
--- Laws of cookies: a key has one at most; what each call does to a key's cookie, and to the count.
+-- Laws of cookies: a key has one at most; what each call does to a key's cookie, and to the count. (not promised)
 use Rattle.std.proofs.Common.{◌≡◌, ◌≢◌, ℕ, ◌+◌, ◌-◌, ◌≤◌, Bool, true, false, ◌||◌, ◌&&◌, not, cond, if◌then◌else◌, refl, sym, ap, ◌∙◌, arith, true≢false}
 use Rattle.std.specs.Cmp.{Equal-is, both_ways, tied_itself, eq_by_cmp_equiv}
 use Rattle.std.specs.FinSet as set

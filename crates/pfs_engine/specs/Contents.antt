@@ -1,4 +1,4 @@
--- What is held, as one value: what its callers see, what it keeps, and what a call makes of it.
+-- What is held, as one value: what its callers see, what it keeps, and what a call makes of it. (not promised)
 use Rattle.std.specs.Prelude.{ℕ, ◌≡◌, Bool, true, Some, List, length, option_map, Result, IfOk, OnErr}
 use Rattle.pfs_addr_values.specs.Packets.{PacketView}
 use Rattle.pfs_eval.specs.Holdings.{Holdings}

@@ -1,4 +1,4 @@
--- The guard while an engine works with it: where cookies go on, and which second its secret turns next. (own)
+-- The guard while an engine works with it: where cookies go on, and which second its secret turns next. (own) (not promised)
 use Rattle.std.specs.Prelude.{ℕ, ◌≡◌, ◌≤◌, ◌<◌, ◌-◌, ◌⊎◌, not, true, false, if◌then◌else◌, Option}
 use Rattle.pfs_conf_values.specs.Configs.{Conf}
 use Rattle.pfs_cookies.specs.Cookies.{out_count}

@@ -1,4 +1,4 @@
--- What meters show of a packet, and the work of purges, while they are done. (own)
+-- What meters show of a packet, and the work of purges, while they are done. (own) (not promised)
 use Rattle.std.specs.Prelude.{ℕ, ◌≡◌, ◌≤◌, ◌+◌, ◌-◌, not, Bool, true, false, Some, List, Result, IfOk, OnErr}
 use Rattle.pfs_addr_values.specs.Packets.{PacketView}
 use Rattle.pfs_addr_values.specs.declared.addresses.Addr.{Addr}

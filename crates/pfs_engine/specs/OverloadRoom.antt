@@ -1,4 +1,4 @@
--- Room in a rule's overload table, made before a packet changes anything.
+-- Room in a rule's overload table, made before a packet changes anything. (not promised)
 use Rattle.std.specs.Prelude.{ℕ, ◌≡◌, ◌≤◌, ◌<◌, ◌⊎◌, true, Option, length}
 use Rattle.std.specs.Option.{ForSome}
 use Rattle.pfs_eval.specs.Holdings.{Holdings}

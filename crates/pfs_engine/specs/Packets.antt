@@ -1,4 +1,4 @@
--- What an engine makes of a packet, by what its store reports of it, and which packets need no memory before they are answered.
+-- What an engine makes of a packet, by what its store reports of it, and which packets need no memory before they are answered. (not promised)
 use Rattle.std.specs.Prelude.{ℕ, Bool, true, false, if◌then◌else◌, Option, Some, None, ◌≡◌}
 use Rattle.pfs_addr_values.specs.Packets.{PacketView}
 use Rattle.pfs_conf_values.specs.Configs.{Conf, options_of, rule_of, translates}

@@ -1,4 +1,4 @@
--- A Bloom filter: which prefixes a table may have. (own)
+-- A Bloom filter: which prefixes a table may have. (own) (not promised)
 use Rattle.std.specs.Prelude.{ℕ, ◌+◌, ◌*◌, ◌/◌, ◌%◌, ◌^◌, ◌==◌, ◌&&◌, ◌≡◌, Bool, true, not, bit_and, Option, Some, None, List, All, length, slice_get}
 use Rattle.pfs_addr_values.specs.declared.addresses.Addr.{Addr}
 use Rattle.pfs_addr_values.specs.declared.addresses.Addr.TheVariants.{V4, V6}

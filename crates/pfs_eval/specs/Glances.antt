@@ -1,4 +1,4 @@
--- What a visit reads of an item, in few bytes, so that a walk over items that fail reads little.
+-- What a visit reads of an item, in few bytes, so that a walk over items that fail reads little. (not promised)
 use Rattle.std.specs.Prelude.{ℕ, ◌≡◌, ◌-◌, ◌==◌, ◌/◌, ◌^◌, nat_le, min, Bool, true, false, if◌then◌else◌, Option, Some, None, List, [], ◌∷◌, length, slice_get, slice_index}
 use Rattle.std.specs.Int.{from_be_bytes, from_le_bytes, to_le_bytes, w32, w64}
 use Rattle.pfs_addr_values.specs.declared.addresses.Addr.{Addr}

@@ -1,4 +1,4 @@
--- Items, and what a walk over them reads of each.
+-- Items, and what a walk over them reads of each. (not promised)
 use Rattle.std.specs.Prelude.{ℕ, suc, zero, ◌≡◌, ◌≤◌, ◌+◌, ◌&&◌, ◌||◌, max, not, if◌then◌else◌, Bool, Option, Some, None, List, [], ◌∷◌, length, map, slice_get}
 use Rattle.pfs_addr_values.specs.Packets.{PacketView}
 use Rattle.pfs_conf_values.specs.Depths.{is_rule}

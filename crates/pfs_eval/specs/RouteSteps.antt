@@ -1,4 +1,4 @@
--- How the longest route is found, one by one.
+-- How the longest route is found, one by one. (not promised)
 use Rattle.std.specs.Prelude.{◌&&◌, nat_lt, Bool, true, if◌then◌else◌, Option, Some, None}
 use Rattle.pfs_addr_values.specs.declared.addresses.Addr.{Addr}
 use Rattle.pfs_addr_values.specs.Prefixes.{covers}

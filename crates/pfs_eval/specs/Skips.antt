@@ -1,4 +1,4 @@
--- Skip steps: where a walk goes on from an item that fails on a parameter.
+-- Skip steps: where a walk goes on from an item that fails on a parameter. (not promised)
 use Rattle.std.specs.Prelude.{◌≡◌, ◌<◌, ◌≤◌, ◌⊎◌, ℕ, nat_lt, Some, List, length, slice_get}
 use Rattle.std.specs.List.{prefix_len}
 use Rattle.pfs_conf_values.specs.declared.items.Item.{Item}

@@ -1,4 +1,4 @@
--- How far the purges of seconds have come. (own)
+-- How far the purges of seconds have come. (own) (not promised)
 use Rattle.std.specs.Prelude.{ℕ, max, Bool, if◌then◌else◌, List, [], ◌∷◌}
 use Rattle.pfs_conf_values.specs.Configs.{Conf}
 use Rattle.pfs_store_contract.specs.Calls.{node_slice_of, state_slice_of}

@@ -1,5 +1,5 @@
 -- The limits that a new state meets, as a store looks for them: that of the rule, those of the source in the rule's scope, and
--- that of all states.
+-- that of all states. (not promised)
 use Rattle.std.specs.Prelude.{ℕ, nat_le, if◌then◌else◌, Option, Some, None, length}
 use Rattle.pfs_addr_values.specs.declared.addresses.Addr.{Addr}
 use Rattle.pfs_conf_values.specs.Configs.{Conf, limit_of, options_of}

@@ -1,4 +1,4 @@
--- Places by their numbers, of which each is above the one before it. (own)
+-- Places by their numbers, of which each is above the one before it. (own) (not promised)
 use Rattle.std.specs.Prelude.{◌≡◌, ℕ, cond, List, [], ◌∷◌, MatchOption, Option}
 use Rattle.std.specs.BTreeMap.{is_at}
 use Rattle.std.specs.Map.{lookup}

@@ -1,4 +1,4 @@
--- What the hashers of the indexes are fed with: of a key, and of a source in a scope, one piece of whole words. (own)
+-- What the hashers of the indexes are fed with: of a key, and of a source in a scope, one piece of whole words. (own) (not promised)
 use Rattle.std.specs.Prelude.{ℕ, ◌-◌, ◌^◌, List, [], ◌∷◌, slice_index}
 use Rattle.std.specs.Hash.{HashWrites}
 use Rattle.std.specs.Int.{w16, w32, to_le_bytes}

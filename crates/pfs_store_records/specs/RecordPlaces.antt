@@ -1,4 +1,4 @@
--- How records and nodes are kept: each value at a place, and an ordered map from its number to the place.
+-- How records and nodes are kept: each value at a place, and an ordered map from its number to the place. (not promised)
 use Rattle.std.specs.Prelude.{◌≡◌, ℕ, ◌<◌, ◌&&◌, Bool, if◌then◌else◌, Option, Some, List, filter_map, length, option_map}
 use Rattle.std.specs.BTreeMap.{is_at}
 use Rattle.std.specs.List.{AllByRecursion}

@@ -1,4 +1,4 @@
--- The source of a state, from its direction and the key of the packet that made it. (own)
+-- The source of a state, from its direction and the key of the packet that made it. (own) (not promised)
 use Rattle.std.specs.Prelude.{◌≡◌, None}
 use Rattle.pfs_addr_values.specs.declared.addresses.Addr.{Addr}
 use Rattle.pfs_addr_values.specs.declared.packets.Dir.{Dir}

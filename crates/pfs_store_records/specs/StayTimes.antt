@@ -1,4 +1,4 @@
--- What a walk knows of a state that it met: how long states of its rule may stay in phases of its timeout. (own)
+-- What a walk knows of a state that it met: how long states of its rule may stay in phases of its timeout. (own) (not promised)
 use Rattle.std.specs.Prelude.{◌≡◌, ℕ, true}
 use Rattle.pfs_conf_values.specs.declared.items.RuleNo.{RuleNo}
 use Rattle.pfs_conf_values.specs.declared.timeouts.TimeoutName.{TimeoutName}

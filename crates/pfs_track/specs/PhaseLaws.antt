@@ -1,4 +1,4 @@
--- What each step of a phase keeps: no rank falls, and a handshake completes once.
+-- What each step of a phase keeps: no rank falls, and a handshake completes once. (not promised)
 use Rattle.std.specs.Prelude.{Bool, true, false, ◌≡◌, ◌≤◌, ◌||◌, refl, ℕ}
 use Rattle.std.proofs.Common.{lit≤}
 use Rattle.std.proofs.lemmas.Bool.{false≢true}

@@ -1,4 +1,4 @@
--- What the rules of TCP ranks keep: no packet lowers a rank, and where the handshake completes both peers are at least at ESTABLISHED.
+-- What the rules of TCP ranks keep: no packet lowers a rank, and where the handshake completes both peers are at least at ESTABLISHED. (not promised)
 use Rattle.std.specs.Prelude.{Bool, true, false, ◌≡◌, ◌≤◌, ◌||◌, if◌then◌else◌}
 use Rattle.std.proofs.Common.{arith, lit≤}
 use Rattle.std.proofs.lemmas.Bool.{false≢true}
