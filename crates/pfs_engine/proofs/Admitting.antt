@@ -1,34 +1,16 @@
 -- What comes of a rule that keeps state is what comes of its limits.
-use Rattle.std.proofs.Common.{◌≡◌, ◌∙◌, ◌||◌, ℕ, Bool, Option, Some, None, ap, sym, unwrap_or, subst}
+use Rattle.std.proofs.Common.{◌≡◌, ◌∙◌, ℕ, Bool, Option, Some, None, ap, sym}
 use Rattle.pfs_addr_values.specs.Packets.{PacketView}
-use Rattle.pfs_conf_values.specs.Configs.{Conf, no_rule, rule_at, rule_of}
+use Rattle.pfs_conf_values.specs.Configs.{Conf}
 use Rattle.pfs_conf_values.specs.declared.actions.Action.TheVariants as action
-use Rattle.pfs_conf_values.specs.declared.actions.StateOptions.{StateOptions}
-use Rattle.pfs_conf_values.specs.declared.items.Rule.{Rule}
-use Rattle.pfs_conf_values.specs.declared.items.RuleNo.{RuleNo}
-use Rattle.pfs_store_contract.specs.Admission.{is_answered, limit_met, world_after_admission}
+use Rattle.pfs_store_contract.specs.Admission.{limit_met}
 use Rattle.pfs_store_contract.specs.Worlds.{World}
-use Rattle.pfs_engine_machine.specs.Machine.{MachineContents, answer_of_action, answer_of_limits, answer_of_rule, held_of, outcome_of_new, answer_of_keys}
-use Rattle.pfs_engine.specs.Packets.{NeedsNoneAt, NeedsNoneAtLimits, NeedsNoneBy}
+use Rattle.pfs_engine_machine.specs.Machine.{MachineContents, answer_of_limits, held_of, answer_of_keys}
+use Rattle.pfs_engine.specs.Packets.{NeedsNoneAtLimits}
 use Rattle.pfs_store_contract.specs.Calls.{packet_limit, IsAskedFree}
 use Rattle.pfs_store_contract.specs.declared.records.Limit.{Limit}
 use Rattle.pfs_addr_values.specs.declared.addresses.Addr.{Addr}
 use Rattle.pfs_engine_machine.specs.Sides.{are_free}
-use Rattle.pfs_engine_machine.proofs.Leading.{led_on}
-
-pub told_limits : (conf : Conf) (h : MachineContents) (p going : PacketView) (cookie : Bool) (now : ℕ) (rule : RuleNo) (r : Rule) (o : StateOptions)
-    → rule_at conf rule.0 ≡ Some r → r.action ≡ action.Keep o
-    → answer_of_limits conf h p going cookie now rule.0 (packet_limit conf h.world p rule.0) ≡ answer_of_rule conf h p going cookie now (Some rule.0)
-told_limits conf h p going cookie now rule r o found keeps =
-    let decides : (rule_of conf rule.0).action ≡ action.Keep o = ap (λ (x : Option Rule). (unwrap_or x no_rule).action) found ∙ keeps in
-    sym (ap (answer_of_action conf h p going cookie now rule.0) decides)
-
-pub free_limits : (conf : Conf) (h : MachineContents) (p going : PacketView) (rule : RuleNo) (r : Rule) (o : StateOptions)
-    → rule_at conf rule.0 ≡ Some r → r.action ≡ action.Keep o
-    → NeedsNoneBy conf h p going (Some rule.0) → NeedsNoneAtLimits conf h.world p going rule.0 (packet_limit conf h.world p rule.0)
-free_limits conf h p going rule r o found keeps none =
-    let decides : (rule_of conf rule.0).action ≡ action.Keep o = ap (λ (x : Option Rule). (unwrap_or x no_rule).action) found ∙ keeps in
-    subst (NeedsNoneAt conf h p going rule.0) decides none
 
 pub asked_free : (conf : Conf) (w : World) (p going : PacketView) (rule : ℕ) (l : Option Limit) → NeedsNoneAtLimits conf w p going rule l → IsAskedFree conf w p.source.addr rule l
 asked_free conf w p going rule None none = tt

@@ -38,6 +38,20 @@ whole_under : {X : Type 0} (conf : Conf) (after : ContentsView X) (g : Guard) (f
     → IsWhole conf (machine_at after.held g first last) taken → IsWhole after.config (machine_at after.held g first last) taken
 whole_under conf after g first last taken same i = subst (λ (k : Conf). IsWhole k (machine_at after.held g first last) taken) (sym same) i
 
+-- it stays so where what is held is kept as before, at the same moments
+whole_after : {X : Type 0} (conf : Conf) (held changed : MachineContents) (after : ContentsView X) (g new : Guard) (first last : Option ℕ) (taken taken' : ℕ)
+    → IsWhole conf (machine_at held g first last) taken → after.config ≡ conf → after.held ≡ changed → IsKept conf changed (moment_of last) → changed.world.made ≤ taken' → taken' ≤ run_limit
+    → IsWhole after.config (machine_at after.held new first last) taken'
+whole_after conf held changed after g new first last taken taken' i same is kept made few =
+    whole_under conf after new first last taken' same (record {
+      kept = subst (λ (x : MachineContents). IsKept conf x (moment_of last)) (sym is) kept;
+      made = omega (arith, ap (λ (x : MachineContents). x.world.made) is, made);
+      few = few;
+      moments = i.moments;
+      early = i.early;
+      config = i.config;
+    })
+
 -- before the first event
 pub whole_start : {X : Type 0} (conf : Conf) (v : ContentsView X) (g : Guard) → v.config ≡ conf → v.held ≡ (start conf).held → IsConfig conf
     → IsWhole v.config (machine_at v.held g None None) 0
@@ -74,29 +88,15 @@ pub whole_told : {X : Type 0} (before after : ContentsView X) (g : Guard) (first
     → IsWhole before.config (machine_at before.held g first last) taken → IsDone o (answer_to_command before.config before.held begun at table done) before after
     → IsWhole after.config (machine_at after.held g first last) taken
 whole_told before after g first last taken begun at table done o i h =
-    let is : after.held ≡ (answer_to_command before.config before.held begun at table done).1 = ap (λ (a : Outcome × MachineContents). a.1) h.told in
-    whole_under before.config after g first last taken h.config (record {
-      kept = subst (λ (x : MachineContents). IsKept before.config x (moment_of last)) (sym is) (kept_command before.config before.held begun at table done (moment_of last) i.kept);
-      made = omega (arith, ap (λ (x : MachineContents). x.world.made) is, i.made);
-      few = i.few;
-      moments = i.moments;
-      early = i.early;
-      config = i.config;
-    })
+    whole_after before.config before.held (answer_to_command before.config before.held begun at table done).1 after g g first last taken taken i h.config (ap (λ (a : Outcome × MachineContents). a.1) h.told)
+    (kept_command before.config before.held begun at table done (moment_of last) i.kept) (omega (arith, i.made)) i.few
 
 pub whole_killed : {X : Type 0} (before after : ContentsView X) (g : Guard) (first last : Option ℕ) (taken at : ℕ) (hosts : FromTo) (o : Outcome)
     → IsWhole before.config (machine_at before.held g first last) taken → IsDone o (answer_to_kill before.config before.held at hosts) before after
     → IsWhole after.config (machine_at after.held g first last) taken
 whole_killed before after g first last taken at hosts o i h =
-    let is : after.held ≡ (answer_to_kill before.config before.held at hosts).1 = ap (λ (a : Outcome × MachineContents). a.1) h.told in
-    whole_under before.config after g first last taken h.config (record {
-      kept = subst (λ (x : MachineContents). IsKept before.config x (moment_of last)) (sym is) (kept_elsewhere before.config before.held hosts at (moment_of last) i.kept);
-      made = omega (arith, ap (λ (x : MachineContents). x.world.made) is, i.made);
-      few = i.few;
-      moments = i.moments;
-      early = i.early;
-      config = i.config;
-    })
+    whole_after before.config before.held (answer_to_kill before.config before.held at hosts).1 after g g first last taken taken i h.config (ap (λ (a : Outcome × MachineContents). a.1) h.told)
+    (kept_elsewhere before.config before.held hosts at (moment_of last) i.kept) (omega (arith, i.made)) i.few
 
 -- nothing has changed
 whole_same : {X : Type 0} (before after : ContentsView X) (g : Guard) (first last : Option ℕ) (taken : ℕ)
@@ -142,27 +142,14 @@ pub whole_packet : {X E : Type 0} (before after : ContentsView X) (g new : Guard
     → IsWhole after.config (machine_at after.held new first last) taken'
 whole_packet before after g new first last taken taken' p (Ok o) room i h n =
     let conf = before.config in
-    let answer = answer_behind_guard conf g before.held p (moment_of last) in
-    let is : after.held ≡ answer.1 = ap (λ (a : Outcome × MachineContents). a.1) h.answered.ok in
-    whole_under conf after new first last taken' h.answered.config (record {
-      kept = subst (λ (x : MachineContents). IsKept conf x (moment_of last)) (sym is) (kept_behind_guard conf g before.held p (moment_of last) i.config i.kept);
-      made = omega (arith, ap (λ (x : MachineContents). x.world.made) is, made_behind_guard conf g before.held p (moment_of last), i.made, n.ok);
-      few = omega (arith, n.ok, room);
-      moments = i.moments;
-      early = i.early;
-      config = i.config;
-    })
+    let now = moment_of last in
+    whole_after conf before.held (answer_behind_guard conf g before.held p now).1 after g new first last taken taken' i h.answered.config (ap (λ (a : Outcome × MachineContents). a.1) h.answered.ok)
+    (kept_behind_guard conf g before.held p now i.config i.kept) (omega (arith, made_behind_guard conf g before.held p now, i.made, n.ok)) (omega (arith, n.ok, room))
 whole_packet before after g new first last taken taken' p (Err x) room i h n =
     let conf = before.config in
-    let is : after.held ≡ held_behind_guard conf g before.held p (moment_of last) = h.answered.err in
-    whole_under conf after new first last taken' h.answered.config (record {
-      kept = subst (λ (x : MachineContents). IsKept conf x (moment_of last)) (sym is) (kept_met_behind_guard conf g before.held p (moment_of last) i.kept);
-      made = omega (arith, ap (λ (x : MachineContents). x.world.made) is, made_met_behind_guard conf g before.held p (moment_of last), i.made, n.err);
-      few = omega (arith, n.err, i.few);
-      moments = i.moments;
-      early = i.early;
-      config = i.config;
-    })
+    let now = moment_of last in
+    whole_after conf before.held (held_behind_guard conf g before.held p now) after g new first last taken taken' i h.answered.config h.answered.err
+    (kept_met_behind_guard conf g before.held p now i.kept) (omega (arith, made_met_behind_guard conf g before.held p now, i.made, n.err)) (omega (arith, n.err, i.few))
 
 pub answered_by : {X E : Type 0} (before after : ContentsView X) (was : View) (g new : Guard) (first last : Option ℕ) (taken taken' : ℕ) (going going' : Option PacketView) (work work' : Work) (p : PacketView) (r : Result Outcome E)
     → seen before g first last taken going work ≡ was

@@ -1,5 +1,5 @@
 -- The state of a packet is the one that has its number.
-use Rattle.std.proofs.Common.{◌≡◌, ◌∙◌, ◌||◌, ◌==◌, ℕ, Bool, true, false, if◌then◌else◌, Option, None, Some, List, [], ◌∷◌, All, ap, eq-eqb, refl, sym, ◌&&◌, unwrap_or, subst}
+use Rattle.std.proofs.Common.{◌≡◌, ◌∙◌, ◌||◌, ◌==◌, ℕ, Bool, true, false, if◌then◌else◌, Option, None, Some, List, [], ◌∷◌, All, ap, eq-eqb, refl, sym, ◌&&◌, unwrap_or}
 use Rattle.std.proofs.lemmas.Bool.{eqb-true, false≢true}
 use Rattle.std.proofs.lemmas.List.Elements.{All-head, All-tail}
 use Rattle.std.specs.List.{find, list_any}
@@ -15,6 +15,7 @@ use Rattle.pfs_store_contract.specs.declared.records.StateNo.{StateNo}
 use Rattle.pfs_engine_machine.specs.MachineInvariants.{IsKept, IsPlain, Rise}
 use Rattle.pfs_engine_machine.specs.Machine.{MachineContents}
 use Rattle.pfs_engine_machine.specs.Sides.{met_key, state_for, are_free}
+use Rattle.pfs_engine_machine.proofs.Changes.{find-all}
 use Rattle.pfs_engine_machine.proofs.Keys.{found-by}
 use Rattle.pfs_engine_machine.proofs.Numbers.{Rise-alone}
 use Rattle.pfs_addr_values.specs.declared.packets.Dir.{Dir}
@@ -90,20 +91,6 @@ numbered-outside w key number r e = by (state_with key w) refl e
     by (Some s) f e =
         let same : state_number s ≡ number = cc in
         ap (λ (n : StateNo). state_numbered n.0 w) (sym same) ∙ by-number test s w.states (Rise-alone test s 0 w.made w.states r f) f
-
--- where none was found, there is none
-pub none-outside : (o : Option State) → option_map state_number o ≡ None → o ≡ None
-none-outside None e = refl
-none-outside (Some s) e = cc
-
--- what holds of all holds of the one that is found
-find-all : {X : Type 0} (P : X → Type 0) (p : X → Bool) (xs : List X) (x : X) → All P xs → find p xs ≡ Some x → P x
-find-all P p [] x h e = cc
-find-all {X = X} P p (y ∷ ys) x h e = go (p y) (λ k. find-all P p ys x (All-tail P y ys h) k) e
-  where
-    go : (b : Bool) → (find p ys ≡ Some x → P x) → (if b then Some y else find p ys) ≡ Some x → P x
-    go true rest e = let same : y ≡ x = cc in subst P same (All-head P y ys h)
-    go false rest e = rest e
 
 -- where no rule translates, a packet that was seen on its way out is inside as it was seen
 pub plain-inside : (conf : Conf) (w : World) (p : PacketView) → All (IsPlain conf) w.states → translates conf ≡ false → inside w p ≡ p

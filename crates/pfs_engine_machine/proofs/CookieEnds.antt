@@ -69,16 +69,16 @@ ends-turned conf key until g now k e = by (turned-either conf g key)
 later : (g : Guard) (now more until : ℕ) (k : TurnsBy g now more until) → now + 1 < k.since + 15 * k.times + 15 → TurnsBy g (now + 1) more until
 later g now more until k l = record { since = k.since; times = k.times; turned = on-to g k.since k.times now k.turned l; in_time = k.in_time }
 
-rested : (conf : Conf) (w : World) (g : Guard) (now more until : ℕ) → TurnsBy g now more until → TurnsBy (guard_rested conf w g) now more until
-rested conf w g now more until k = record {
+-- the turns of another guard, whose secret turns from the same second
+abbrev turns-as : (g other : Guard) (now more until : ℕ) → ((s : ℕ) → g.since ≡ Some s → other.since ≡ Some s) → TurnsBy g now more until → TurnsBy other now more until
+turns-as g other now more until same k = record {
   since = k.since;
   times = k.times;
-  turned = record { is = k.turned.is; last = k.turned.last; next = k.turned.next };
+  turned = record { is = same k.since k.turned.is; last = k.turned.last; next = k.turned.next };
   in_time = k.in_time;
 }
 
 ends-second : (conf : Conf) (w : World) (key : FlowKey) (until : ℕ) (g : Guard) (now : ℕ) → EndsBy key until g now → EndsBy key until (guard_at_second conf w g (now + 1)) (now + 1)
-unfolding rested
 ends-second conf w key until g now (inl gone) = inl (gone-second conf w g (now + 1) key gone)
 ends-second conf w key until g now (inr (inl k)) = by (reaches now (k.1.since + 15 * k.1.times + 15) k.1.turned.next)
   where
@@ -95,7 +95,7 @@ ends-second conf w key until g now (inr (inr k)) = by (reaches now (k.since + 15
         subst (λ (x : Guard). EndsBy key until x (now + 1)) (sym (at_no_turn conf w g k.since k.times now k.turned few)) (inr (inr (later g now 30 until k few)))
     by (inr same) =
         subst (λ (x : Guard). EndsBy key until x (now + 1)) (sym (at_turn conf w g k.since k.times now k.turned same))
-        (ends-turned conf key until (guard_rested conf w g) now (rested conf w g now 30 until k) same)
+        (ends-turned conf key until (guard_rested conf w g) now (turns-as g (guard_rested conf w g) now 30 until (λ s since. since) k) same)
 
 ends-seconds : (conf : Conf) (key : FlowKey) (until n now : ℕ) (w : World) (g : Guard) → EndsBy key until g now
     → EndsBy key until (guard_after_seconds conf w g (range_with_len (now + 1) n)) (now + n)
@@ -132,12 +132,7 @@ ends-for conf key until g w p now h = by (gets_cookie conf g w p && not (are_on 
 
 -- where turning has begun, a cookie doesn't change from when
 given-turned : (g : Guard) (other : FlowKey) (now more until : ℕ) → TurnsBy g now more until → TurnsBy (guard_given g other now) now more until
-given-turned g other now more until k = record {
-  since = k.since;
-  times = k.times;
-  turned = record { is = ap (λ (o : Option ℕ). Some (unwrap_or o now)) k.turned.is; last = k.turned.last; next = k.turned.next };
-  in_time = k.in_time;
-}
+given-turned g other now more until = turns-as g (guard_given g other now) now more until (λ s since. ap (λ (o : Option ℕ). Some (unwrap_or o now)) since)
 
 -- another key gets a cookie
 ends-given : (key : FlowKey) (until : ℕ) (g : Guard) (other : FlowKey) (now : ℕ) → same_key other key ≡ false → EndsBy key until g now
@@ -148,12 +143,7 @@ ends-given key until g other now apart (inr (inl k)) =
 ends-given key until g other now apart (inr (inr k)) = inr (inr (given-turned g other now 30 until k))
 
 taken-turned : (g : Guard) (other : FlowKey) (now more until : ℕ) → TurnsBy g now more until → TurnsBy (guard_taken g other) now more until
-taken-turned g other now more until k = record {
-  since = k.since;
-  times = k.times;
-  turned = record { is = k.turned.is; last = k.turned.last; next = k.turned.next };
-  in_time = k.in_time;
-}
+taken-turned g other now more until = turns-as g (guard_taken g other) now more until (λ s since. since)
 
 none-left : (b : Bool) → (b && false) ≡ false
 none-left true = refl

@@ -31,7 +31,7 @@ use Rattle.pfs_engine_machine.proofs.GuardLaws.{brought-ack}
 use Rattle.pfs_engine_machine.proofs.CookieEnds.{Ended, ends-moment, ends-run, ends-then}
 use Rattle.pfs_engine_machine.proofs.GuardTurns.{HasTurned, fresh-lasts}
 use Rattle.pfs_engine_machine.proofs.Reopening.{met_same}
-use Rattle.pfs_engine_machine.proofs.Running.{machine_after-append, machine_after-push}
+use Rattle.pfs_engine_machine.proofs.Running.{machine_after-append, machine_after-push, order-front, order-last}
 
 -- ---- nothing is held
 
@@ -168,15 +168,6 @@ since-run : (conf : Conf) (m : Machine) (es : List Event) → IsInOrder m.last e
 unfolding machine_after step
 since-run conf m [] order h = h
 since-run conf m (e ∷ es) order h = since-run conf (step conf m e).1 es order.2 (since-step conf m e order.0 h)
-
-order-front : (last : Option ℕ) (xs ys : List Event) → IsInOrder last (xs ++ ys) → IsInOrder last xs
-order-front last [] ys o = tt
-order-front last (x ∷ xs) ys o = (o.0, o.1, order-front (Some x.time) xs ys o.2)
-
-order-last : (conf : Conf) (m : Machine) (es : List Event) (e : Event) → IsInOrder m.last (es ++ e ∷ []) → ForSome (machine_after conf m es).last (λ l. l ≤ e.time)
-unfolding machine_after step
-order-last conf m [] e o = o.0
-order-last conf m (d ∷ es) e o = order-last conf (step conf m d).1 es e o.2
 
 -- ---- a cookie that is given
 

@@ -44,6 +44,7 @@ use Rattle.pfs_engine_machine.proofs.KeptAdmission.{nodes_with-own}
 use Rattle.pfs_engine_machine.proofs.Limits.{world_with_stray}
 use Rattle.pfs_engine_machine.proofs.Hearing.{IsRated, RemembersIn, found-count, heard, is_of, long, rated, scope-rated, score-this, scored-in, states-touched}
 use Rattle.pfs_engine_machine.proofs.Lists.{both, each-of, each-push}
+use Rattle.pfs_engine_machine.proofs.Running.{order-front, order-last}
 use Rattle.pfs_engine_machine.proofs.Remembering.{IsKnown, KnowsScore, Remembers, remembers-later, remembers-left, remembers-purged}
 use Rattle.pfs_store_contract.proofs.ScopeLaws.{same_scope_true}
 use Rattle.pfs_engine_machine.specs.RateMemory.{IsHandshake, RateIsRemembered, ScoreIsRemembered, rate_hit, score_compared}
@@ -305,16 +306,6 @@ folded-push conf rule source seconds history m (d ∷ es) e =
     folded-heard rule source seconds history d.time o (handshakes conf next (es ++ e ∷ []))
     ∙ folded-push conf rule source seconds (heard rule source seconds history d.time o) next es e
     ∙ ap (λ (h : Score). heard rule source seconds h e.time (handshake_at conf (machine_after conf next es) e)) (sym (folded-heard rule source seconds history d.time o (handshakes conf next es)))
-
--- the last of these events is not before the moment of the others
-order-last : (conf : Conf) (m : Machine) (es : List Event) (e : Event) → IsInOrder m.last (es ++ e ∷ []) → ForSome (machine_after conf m es).last (λ l. l ≤ e.time)
-unfolding machine_after step
-order-last conf m [] e o = o.0
-order-last conf m (d ∷ es) e o = order-last conf (step conf m d).1 es e o.2
-
-order-front : (last : Option ℕ) (xs ys : List Event) → IsInOrder last (xs ++ ys) → IsInOrder last xs
-order-front last [] ys o = tt
-order-front last (x ∷ xs) ys o = (o.0, o.1, order-front (Some x.time) xs ys o.2)
 
 remembers-start : (conf : Conf) (rule : ℕ) (source : Addr) (seconds : ℕ) → RemembersAt conf rule source seconds zero_score (start conf)
 remembers-start conf rule source seconds = record { nodes = tt; absent = λ e t h. refl; noded = λ some. absurd (omega (arith, some)) }

@@ -36,7 +36,7 @@ use Rattle.pfs_engine_machine.proofs.Changes.{find-all, find-passes}
 use Rattle.pfs_engine_machine.proofs.Connections.{IsAlone, connections-killed, connections-same, connections-within}
 use Rattle.pfs_engine_machine.proofs.Counts.{count-filter_le, count-map, count_le}
 use Rattle.pfs_engine_machine.proofs.Keys.{keys-filter, keys-map, found-by}
-use Rattle.pfs_engine_machine.proofs.KeptTime.{within_less}
+use Rattle.pfs_engine_machine.proofs.KeptTime.{kept_tables, within_less}
 use Rattle.pfs_engine_machine.proofs.Numbers.{Rise-alone, Rise-filter, Rise-map}
 use Rattle.pfs_engine_machine.proofs.Renewals.{is_tcp-completes, renewed-phase, renewed-same}
 use Rattle.pfs_addr_values.specs.declared.packets.Dir.{Dir}
@@ -223,26 +223,6 @@ tables_by-within : (conf : Conf) (tables : List (List Entry)) (source : Addr) (n
 tables_by-within conf tables source now None le = le
 tables_by-within conf tables source now (Some v) le = entries_after-within tables (limit_of conf limit_name.TableEntries) v.table.0 source now le
 
-kept_but_added : (conf : Conf) (m : MachineContents) (source : Addr) (overload : Option Overload) (now : ℕ) → IsKeptBut conf m now
-    → IsKeptBut conf (held_of m.world (tables_after_addition conf m.tables source now overload)) now
-kept_but_added conf m source overload now k = record {
-  states = k.states;
-  nodes = k.nodes;
-  entries = tables_by-within conf m.tables source now overload k.entries;
-  of_rules = k.of_rules;
-  source_nodes = k.source_nodes;
-  source_states = k.source_states;
-  numbers = k.numbers;
-  keys = k.keys;
-  inner_keys = k.inner_keys;
-  plain = k.plain;
-  noded = k.noded;
-  phases = k.phases;
-  sources = k.sources;
-  tables = tables_by-size conf m.tables source now overload ∙ k.tables;
-  moments = k.moments;
-}
-
 few_killed : (conf : Conf) (m : MachineContents) (p : PacketView) (now : ℕ) (s : State) (flush : Option Scope) → state_for m.world p ≡ Some s
     → IsKept conf m now
     → AreFew conf (filter (stays_at_kill conf.profile flush s.number s.dir s.rule s.source) (world_after_touch conf m.world s p now).states)
@@ -256,9 +236,10 @@ kept_killed conf m p now s limits found k =
     let stays = stays_at_kill conf.profile (flush_of overload) s.number s.dir s.rule s.source in
     let first = held_of (world_after_touch conf m.world s p now) m.tables in
     let second = held_of (world_without conf first.world stays now) first.tables in
-    kept_whole conf (held_of second.world (tables_after_addition conf second.tables s.source now overload)) now
-    (kept_but_added conf second s.source overload now (kept_but_without conf first stays now now (kept_but_touched conf m p now s k)))
-    (few_killed conf m p now s (flush_of overload) found k)
+    let few = few_killed conf m p now s (flush_of overload) found k in
+    let after = kept_whole conf second now (kept_but_without conf first stays now now (kept_but_touched conf m p now s k)) few in
+    kept_tables conf second (tables_after_addition conf second.tables s.source now overload) now
+    (tables_by-within conf second.tables s.source now overload after.limits.entries) (tables_by-size conf second.tables s.source now overload) after
 
 -- ---- together
 

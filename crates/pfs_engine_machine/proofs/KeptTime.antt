@@ -31,7 +31,7 @@ use Rattle.pfs_engine_machine.proofs.Keys.{keys-filter}
 use Rattle.pfs_engine_machine.proofs.Numbers.{Rise-filter}
 use Rattle.pfs_engine_machine.proofs.Counts.{any-filter, any-map, count-at, count-filter_le, count-map, count_le}
 use Rattle.pfs_engine_machine.proofs.Scopes.{is_of_node-own}
-use Rattle.pfs_engine_machine.specs.MachineInvariants.{HasNode, HasSource, IsKept, IsPhaseOf, IsWithin, moment_of, own_scope, IsPlain, outer_key, HasPhase}
+use Rattle.pfs_engine_machine.specs.MachineInvariants.{HasNode, HasSource, IsKept, IsWithin, moment_of, own_scope, IsPlain, outer_key, HasPhase}
 use Rattle.std.proofs.lemmas.Bool.{and_parts}
 use Rattle.pfs_store_contract.proofs.ScopeLaws.{same_scope_true}
 use Rattle.pfs_engine_machine.specs.declared.events.Command.{Command}
@@ -177,35 +177,10 @@ kept_purged conf w tables now [] k = k
 kept_purged conf w tables now (s ∷ seconds) k =
     kept_purged conf (purge conf w s) tables now seconds (kept_purge conf (held_of w tables) s now k)
 
--- a later moment
-pub kept_later : (conf : Conf) (h : MachineContents) (last now : ℕ) → last ≤ now → IsKept conf h last → IsKept conf h now
-kept_later conf h last now later k = record {
-  limits = k.limits;
-  numbers = k.numbers;
-  keys = k.keys;
-  inner_keys = k.inner_keys;
-  plain = k.plain;
-  noded = k.noded;
-  phases = k.phases;
-  sources = k.sources;
-  tables = k.tables;
-  moments = later-up_to_now last now h.world later k.moments;
-}
-
-pub kept_advanced : (conf : Conf) (m : Machine) (now : ℕ) → ForSome m.last (λ last. last ≤ now) → IsKept conf m.held (moment_of m.last)
-    → IsKept conf (machine_at_moment conf m now).held now
-kept_advanced conf m now later k =
-    kept_later conf (machine_at_moment conf m now).held (moment_of m.last) now (by m.last later) (kept_purged conf m.held.world m.held.tables (moment_of m.last) (due m.last now) k)
-  where
-    by : (last : Option ℕ) → ForSome last (λ last. last ≤ now) → moment_of last ≤ now
-    by None h = omega arith
-    by (Some last) h = h last refl
-
--- ---- a table changes
-
-kept_tables : (conf : Conf) (h : MachineContents) (tables : List (List Entry)) (now : ℕ) → entry_count tables ≤ limit_of conf limit_name.TableEntries
-    → length tables ≡ length h.tables → IsKept conf h now → IsKept conf (held_of h.world tables) now
-kept_tables conf h tables now within size k = record {
+-- other tables are as many, with entries within the limit; and it may be later
+kept_beside : (conf : Conf) (h : MachineContents) (tables : List (List Entry)) (last now : ℕ) → entry_count tables ≤ limit_of conf limit_name.TableEntries
+    → length tables ≡ length h.tables → last ≤ now → IsKept conf h last → IsKept conf (held_of h.world tables) now
+kept_beside conf h tables last now within size later k = record {
   limits = record {
     states = k.limits.states;
     nodes = k.limits.nodes;
@@ -223,8 +198,27 @@ kept_tables conf h tables now within size k = record {
   phases = k.phases;
   sources = k.sources;
   tables = size ∙ k.tables;
-  moments = k.moments;
+  moments = later-up_to_now last now h.world later k.moments;
 }
+
+-- a later moment
+pub kept_later : (conf : Conf) (h : MachineContents) (last now : ℕ) → last ≤ now → IsKept conf h last → IsKept conf h now
+kept_later conf h last now later k = kept_beside conf h h.tables last now k.limits.entries refl later k
+
+pub kept_advanced : (conf : Conf) (m : Machine) (now : ℕ) → ForSome m.last (λ last. last ≤ now) → IsKept conf m.held (moment_of m.last)
+    → IsKept conf (machine_at_moment conf m now).held now
+kept_advanced conf m now later k =
+    kept_later conf (machine_at_moment conf m now).held (moment_of m.last) now (by m.last later) (kept_purged conf m.held.world m.held.tables (moment_of m.last) (due m.last now) k)
+  where
+    by : (last : Option ℕ) → ForSome last (λ last. last ≤ now) → moment_of last ≤ now
+    by None h = omega arith
+    by (Some last) h = h last refl
+
+-- ---- a table changes
+
+pub kept_tables : (conf : Conf) (h : MachineContents) (tables : List (List Entry)) (now : ℕ) → entry_count tables ≤ limit_of conf limit_name.TableEntries
+    → length tables ≡ length h.tables → IsKept conf h now → IsKept conf (held_of h.world tables) now
+kept_tables conf h tables now within size k = kept_beside conf h tables now now within size (omega arith) k
 
 -- entries leave it
 kept_filtered : (conf : Conf) (h : MachineContents) (stays : Entry → Bool) (table now : ℕ) → IsKept conf h now

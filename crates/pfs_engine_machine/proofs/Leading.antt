@@ -10,7 +10,7 @@ use Rattle.pfs_addr_values.specs.declared.packets.Dir.TheVariants as dir
 use Rattle.pfs_addr_values.specs.declared.packets.FlowKey.{FlowKey}
 use Rattle.pfs_addr_values.specs.declared.packets.TagNo.{TagNo}
 use Rattle.pfs_conf_values.specs.Configs.{Conf, rule_in, translates, translates_in}
-use Rattle.pfs_conf_values.specs.Translations.{no_translation, translates_by}
+use Rattle.pfs_conf_values.specs.Translations.{translates_by}
 use Rattle.pfs_conf_values.specs.declared.actions.Action.{Action}
 use Rattle.pfs_conf_values.specs.declared.actions.Action.TheVariants as action
 use Rattle.pfs_conf_values.specs.declared.items.Item.{Item}
@@ -243,14 +243,18 @@ asked-alike : (p : PacketView) (cookie : Bool) → IsAlike p (asked p cookie)
 asked-alike p true = (refl, refl)
 asked-alike p false = (refl, refl)
 
-asked-key : (p : PacketView) (cookie : Bool) → key_of (asked p cookie) ≡ key_of p
-asked-key p false = refl
-asked-key p true = by p.dir
+-- the flags are not in its key
+pub flagged-key : (p : PacketView) (flags : Flags) → key_of (record p { flags = flags }) ≡ key_of p
+flagged-key p flags = by p.dir
   where
-    by : (d : Dir) → ◌≡◌ {A = FlowKey} (record { proto = p.proto; a = first_end d (record p { flags = syn_alone }); b = second_end d (record p { flags = syn_alone }) })
+    by : (d : Dir) → ◌≡◌ {A = FlowKey} (record { proto = p.proto; a = first_end d (record p { flags = flags }); b = second_end d (record p { flags = flags }) })
         (record { proto = p.proto; a = first_end d p; b = second_end d p })
     by dir.In = refl
     by dir.Out = refl
+
+asked-key : (p : PacketView) (cookie : Bool) → key_of (asked p cookie) ≡ key_of p
+asked-key p false = refl
+asked-key p true = flagged-key p syn_alone
 
 pub led_on : (conf : Conf) (h : MachineContents) (p : PacketView) (cookie : Bool) → IsLedOn conf p (packet_ruled conf h (asked p cookie))
 led_on conf h p cookie =

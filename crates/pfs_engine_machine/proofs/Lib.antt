@@ -1,7 +1,7 @@
 mod Additions
 mod Alike
 pub mod Answering
-mod Changes
+pub mod Changes
 mod Connections
 mod CookieEnds
 mod CookieLives

@@ -1,12 +1,11 @@
 -- What a packet meets: what is held, but where it begins a connection anew, without the state of its key.
 use Rattle.std.proofs.Common.{◌≡◌, ◌∙◌, ◌&&◌, ◌||◌, not, ℕ, Bool, true, false, if◌then◌else◌, Option, Some, None, filter, refl, ap, sym}
 use Rattle.std.proofs.lemmas.Bool.{and_parts, false≢true}
-use Rattle.pfs_addr_values.specs.Keys.{key_of}
 use Rattle.pfs_addr_values.specs.Packets.{PacketView}
 use Rattle.pfs_addr_values.specs.declared.flag_sets.Flags.{Flags}
 use Rattle.pfs_conf_values.specs.Configs.{Conf}
 use Rattle.pfs_conf_values.specs.Profiles.{is_openbsd}
-use Rattle.pfs_store_contract.specs.Calls.{other_than, world_killed, world_reopened}
+use Rattle.pfs_store_contract.specs.Calls.{other_than, world_reopened}
 use Rattle.pfs_store_contract.specs.Leaving.{world_without}
 use Rattle.pfs_store_contract.specs.Touching.{completes_at, goes_forward, may_reopen, reopens}
 use Rattle.pfs_store_contract.specs.Worlds.{World, holds_number}
@@ -19,8 +18,7 @@ use Rattle.pfs_track.specs.declared.tcp_ranks.TcpRank.{TcpRank}
 use Rattle.pfs_track.specs.declared.tcp_ranks.TcpRank.TheVariants.{Closing, SynSent, TimeWait}
 use Rattle.pfs_engine_machine.specs.MachineInvariants.{IsKept}
 use Rattle.pfs_engine_machine.specs.Machine.{MachineContents, held_for}
-use Rattle.pfs_engine_machine.specs.Sides.{state_for, met_key}
-use Rattle.pfs_engine_machine.proofs.Keys.{found-leaves, found-by, met-differ}
+use Rattle.pfs_engine_machine.specs.Sides.{state_for}
 use Rattle.pfs_engine_machine.proofs.KeptTime.{kept_left}
 
 -- a fact of it: of what is held, and of that without some states
@@ -43,15 +41,6 @@ kept_met conf h p now k =
 
 pub made_met : (conf : Conf) (h : MachineContents) (p : PacketView) (now : ℕ) → (held_for conf h p now).world.made ≡ h.world.made
 made_met conf h p now = met_has conf h p now (λ (w : World). w.made ≡ h.world.made) refl (λ stays. refl)
-
--- where it begins a connection anew, it is one of no held state
-pub reopened-fresh : (conf : Conf) (h : MachineContents) (p : PacketView) (now : ℕ) (s : State) → IsKept conf h now → state_for h.world p ≡ Some s
-    → reopens conf p s ≡ true → state_for (held_for conf h p now).world p ≡ None
-reopened-fresh conf h p now s k found anew =
-    ap (λ (o : Option State). state_for (world_reopened conf h.world p now o) p) found
-    ∙ ap (λ (b : Bool). state_for (if b then world_killed conf h.world s.number now else h.world) p) anew
-    ∙ found-by (world_killed conf h.world s.number now) p
-    ∙ found-leaves (met_key p) (key_of p) s h.world.states (met-differ p h.world.states k.keys k.inner_keys) (sym (found-by h.world p) ∙ found)
 
 -- ---- a packet without ACK completes no handshake
 

@@ -1,13 +1,11 @@
 -- What answers a packet that made a state is of that state.
-use Rattle.std.proofs.Common.{◌≡◌, ◌∙◌, ◌+◌, ◌||◌, ℕ, Bool, true, false, if◌then◌else◌, Option, Some, None, List, [], ◌∷◌, ◌++◌, refl, ap, sym, subst}
-use Rattle.std.proofs.lemmas.Bool.{false≢true}
+use Rattle.std.proofs.Common.{◌≡◌, ◌∙◌, ◌+◌, ℕ, Bool, true, false, if◌then◌else◌, Some, None, List, [], ◌∷◌, ◌++◌, refl, ap, sym, subst}
 use Rattle.std.specs.List.{find}
 use Rattle.std.specs.Prelude.{option_map}
 use Rattle.pfs_addr_values.proofs.SameLaws.{same_key_self}
 use Rattle.pfs_addr_values.specs.Keys.{first_end, key_of, second_end}
 use Rattle.pfs_addr_values.specs.Packets.{PacketView, is_from_inside}
 use Rattle.pfs_addr_values.specs.Sameness.{same_key}
-use Rattle.pfs_addr_values.specs.declared.flag_sets.Flags.{Flags}
 use Rattle.pfs_addr_values.specs.declared.packets.Dir.{Dir}
 use Rattle.pfs_addr_values.specs.declared.packets.Dir.TheVariants as dir
 use Rattle.pfs_addr_values.specs.declared.packets.Endpoint.{Endpoint}
@@ -15,19 +13,18 @@ use Rattle.pfs_addr_values.specs.declared.packets.FlowKey.{FlowKey}
 use Rattle.pfs_addr_values.specs.declared.protocols.Proto.{Proto}
 use Rattle.pfs_conf_values.specs.Configs.{Conf}
 use Rattle.pfs_conf_values.specs.declared.items.RuleNo.{RuleNo}
-use Rattle.pfs_store_contract.specs.Admission.{inner_side, is_answered, key_inside, new_state, wire_key, wire_side, world_after_admission}
+use Rattle.pfs_store_contract.specs.Admission.{inner_side, key_inside, new_state, wire_key, wire_side, world_after_admission}
 use Rattle.pfs_store_contract.specs.Calls.{state_number}
 use Rattle.pfs_store_contract.specs.Worlds.{World, inner_key, state_inside, state_with}
 use Rattle.pfs_store_contract.specs.declared.records.State.{State}
-use Rattle.pfs_store_contract.specs.declared.records.StateNo.{StateNo}
-use Rattle.pfs_engine_machine.specs.Guards.{asked}
-use Rattle.pfs_engine_machine.specs.Machine.{MachineContents, answer_of_key, going_from, going_of_state, held_for, outcome_of_new, packet_ruled}
+use Rattle.pfs_engine_machine.specs.Machine.{MachineContents, answer_of_key, going_from, going_of_state, held_for, outcome_of_new}
 use Rattle.pfs_engine_machine.specs.Sides.{are_free, met_key, state_for}
 use Rattle.pfs_engine_machine.specs.TwoKeys.{AnswersBelong, IsAnswerTo, is_out, turned_way}
 use Rattle.pfs_engine_machine.specs.declared.events.Outcome.{Outcome}
 use Rattle.pfs_engine_machine.proofs.Answering.{answered_has, made-by, maker-pass, not-held, state_held}
-use Rattle.pfs_engine_machine.proofs.KeptAdmission.{IsLedOn, free_inside, free_outside, inner_new}
+use Rattle.pfs_engine_machine.proofs.KeptAdmission.{free_inside, free_outside, inner_new}
 use Rattle.pfs_engine_machine.proofs.Keys.{found-by}
+use Rattle.pfs_engine_machine.proofs.Leading.{flagged-key}
 
 -- a key, by its direction and its ends
 abbrev key_at : Dir → Proto → Endpoint → Endpoint → FlowKey
@@ -46,15 +43,6 @@ answer-key : (p a : PacketView) → IsAnswerTo p a → key_of a ≡ key_of p
 answer-key p a r = own-key a ∙ (λ i. key_at (r.way i) (r.proto i) (r.from i) (r.to i)) ∙ by p.dir ∙ sym (own-key p)
   where
     by : (d : Dir) → key_at (turned_way d) p.proto p.destination p.source ≡ key_at d p.proto p.source p.destination
-    by dir.In = refl
-    by dir.Out = refl
-
--- the flags are not in it
-flagged-key : (q : PacketView) (flags : Flags) → key_of (record q { flags = flags }) ≡ key_of q
-flagged-key q flags = by q.dir
-  where
-    by : (d : Dir) → ◌≡◌ {A = FlowKey} (record { proto = q.proto; a = first_end d (record q { flags = flags }); b = second_end d (record q { flags = flags }) })
-        (record { proto = q.proto; a = first_end d q; b = second_end d q })
     by dir.In = refl
     by dir.Out = refl
 

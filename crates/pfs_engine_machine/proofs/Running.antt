@@ -1,6 +1,7 @@
 -- A run with one event more.
-use Rattle.std.proofs.Common.{arith, ◌≡◌, ℕ, ◌+◌, ◌<◌, List, [], ◌∷◌, ◌++◌, length, take, drop, get_or, Option, Some, refl, ap, ◌∙◌, sym, append_assoc, add-one, drop-cons, subst}
+use Rattle.std.proofs.Common.{arith, ◌≡◌, ℕ, ◌+◌, ◌<◌, ◌≤◌, List, [], ◌∷◌, ◌++◌, length, take, drop, get_or, Option, Some, refl, ap, ◌∙◌, sym, append_assoc, add-one, drop-cons, subst}
 use Rattle.std.proofs.lemmas.List.{append-nil, take_more}
+use Rattle.std.specs.Option.{ForSome}
 use Rattle.pfs_conf_values.specs.Configs.{Conf}
 use Rattle.pfs_engine_machine.specs.declared.events.Event.{Event}
 use Rattle.pfs_engine_machine.specs.declared.events.Outcome.{Outcome}
@@ -42,6 +43,16 @@ allowed_here conf es i d h a = let P : List Event → Type 0 = AreAllowed conf i
 
 pub allowed_next : (conf : Conf) (es : List Event) (i : ℕ) (d : Event) → i < length es → AreAllowed conf (drop i es) → AreAllowed conf (drop (i + 1) es)
 allowed_next conf es i d h a = let P : List Event → Type 0 = AreAllowed conf in rw add-one ((subst P (drop-cons es i d h) a).1)
+
+-- of events in order, so are the first, and the last is not before the moment of the others
+pub order-front : (last : Option ℕ) (xs ys : List Event) → IsInOrder last (xs ++ ys) → IsInOrder last xs
+order-front last [] ys o = tt
+order-front last (x ∷ xs) ys o = (o.0, o.1, order-front (Some x.time) xs ys o.2)
+
+pub order-last : (conf : Conf) (m : Machine) (es : List Event) (e : Event) → IsInOrder m.last (es ++ e ∷ []) → ForSome (machine_after conf m es).last (λ l. l ≤ e.time)
+unfolding machine_after step
+order-last conf m [] e o = o.0
+order-last conf m (d ∷ es) e o = order-last conf (step conf m d).1 es e o.2
 
 pub machine_none : (conf : Conf) (m : Machine) → m ≡ machine_after conf m []
 unfolding machine_after

@@ -86,6 +86,28 @@ fate-kill each interval k n stays ss pending (inr d) = go (is_among (state_numbe
 enough : (limit interval count : ℕ) → 1 ≤ interval → count ≤ limit → count ≤ interval * share limit interval
 enough limit interval count one h = omega (arith, share-enough limit interval one, h)
 
+-- after the last purge it is gone
+fate-end : (each interval n : ℕ) (held pending : List ℕ) → 1 ≤ interval → Fate each interval 0 n held pending → is_among held n ≡ false
+fate-end each interval n held pending one (inl e) = e
+fate-end each interval n held pending one (inr d) = absurd (due-end each interval n pending one d)
+
+-- what waits for so many purges waits for none after them, where each of them brings it one nearer
+after-purges : (conf : Conf) (Waits : ℕ → World → Type 0) (AtPurge : World → ℕ → Type 0) → ((k : ℕ) → IsKeptByPackets conf (Waits k))
+    → ((k s : ℕ) (w : World) → IsSmall conf w → AtPurge w s → Waits (suc k) w → Waits k (purge conf w s))
+    → (m : MachineContents) (acts : List RunAct) → IsSmall conf m.world → Waits (purges acts) m.world
+    → ((before rest : List RunAct) (s : ℕ) → acts ≡ before ++ Purge s ∷ rest → AtPurge (acts_done conf m before).world s)
+    → Waits 0 (acts_done conf m acts).world
+after-purges conf Waits AtPurge packets purged m [] small h all = h
+after-purges conf Waits AtPurge packets purged m (act ∷ acts) small h all =
+    after-purges conf Waits AtPurge packets purged (act_done conf m act) acts (small-done conf m act small) (on act h (λ s e. all [] acts s (ap (λ (a : RunAct). a ∷ acts) e)))
+    (λ before rest s e. all (act ∷ before) rest s (ap (λ (xs : List RunAct). act ∷ xs) e))
+  where
+    on : (a : RunAct) → Waits (purges (a ∷ acts)) m.world → ((s : ℕ) → a ≡ Purge s → AtPurge m.world s) → Waits (purges acts) (act_done conf m a).world
+    on (Purge s) k at = purged (purges acts) s m.world small (at s refl) k
+    on (Arrive now p cookie) k at = answered_keeps conf (Waits (purges acts)) (packets (purges acts)) m p cookie now k
+    on (Change first now table done) k at = k
+    on (Kill now hosts) k at = (packets (purges acts)).kills m.world (stays_elsewhere hosts) now k
+
 -- ---- states
 
 record StateAwaits (conf : Conf) (k n : ℕ) (w : World) : Type 0 where
@@ -116,13 +138,6 @@ state-purged conf k n w s one small all h = record {
       (recursion_from_All (λ (t : State). t.number ≡ n → has_expired conf w.states s t ≡ true) w.states all) h.fate;
 }
 
-state-end : (conf : Conf) (n : ℕ) (w : World) → 1 ≤ interval_of conf → StateAwaits conf 0 n w → is_among (state_numbers w.states) n ≡ false
-state-end conf n w one h = go h.fate
-  where
-    go : Fate (state_share conf) (interval_of conf) 0 n (state_numbers w.states) w.pending_states → is_among (state_numbers w.states) n ≡ false
-    go (inl e) = e
-    go (inr d) = absurd (due-end (state_share conf) (interval_of conf) n w.pending_states one d)
-
 -- at each purge among these acts the state of this number, where it is still held, is expired
 abbrev pub IsExpiredThroughout : Conf → MachineContents → ℕ → List RunAct → Type 0
 IsExpiredThroughout conf m n acts =
@@ -131,21 +146,10 @@ IsExpiredThroughout conf m n acts =
 
 state-goes : (conf : Conf) (n : ℕ) (m : MachineContents) (acts : List RunAct) → 1 ≤ interval_of conf → IsSmall conf m.world → StateAwaits conf (purges acts) n m.world
     → IsExpiredThroughout conf m n acts → is_among (state_numbers (acts_done conf m acts).world.states) n ≡ false
-state-goes conf n m [] one small h all = state-end conf n m.world one h
-state-goes conf n m (Purge s ∷ acts) one small h all =
-    state-goes conf n (act_done conf m (Purge s)) acts one (small-done conf m (Purge s) small) (state-purged conf (purges acts) n m.world s one small (all [] acts s refl) h)
-    (λ before rest t e. all (Purge s ∷ before) rest t (ap (λ (xs : List RunAct). Purge s ∷ xs) e))
-state-goes conf n m (Arrive now p cookie ∷ acts) one small h all =
-    state-goes conf n (act_done conf m (Arrive now p cookie)) acts one (small-done conf m (Arrive now p cookie) small)
-    (answered_keeps conf (StateAwaits conf (purges acts) n) (state-packets conf (purges acts) n) m p cookie now h)
-    (λ before rest t e. all (Arrive now p cookie ∷ before) rest t (ap (λ (xs : List RunAct). Arrive now p cookie ∷ xs) e))
-state-goes conf n m (Change first now table done ∷ acts) one small h all =
-    state-goes conf n (act_done conf m (Change first now table done)) acts one small h
-    (λ before rest t e. all (Change first now table done ∷ before) rest t (ap (λ (xs : List RunAct). Change first now table done ∷ xs) e))
-state-goes conf n m (Kill now hosts ∷ acts) one small h all =
-    state-goes conf n (act_done conf m (Kill now hosts)) acts one (small-done conf m (Kill now hosts) small)
-    ((state-packets conf (purges acts) n).kills m.world (stays_elsewhere hosts) now h)
-    (λ before rest t e. all (Kill now hosts ∷ before) rest t (ap (λ (xs : List RunAct). Kill now hosts ∷ xs) e))
+state-goes conf n m acts one small h all =
+    fate-end _ (interval_of conf) n _ _ one
+    (after-purges conf (λ k. StateAwaits conf k n) (λ w s. All (λ (t : State). t.number ≡ n → has_expired conf w.states s t ≡ true) w.states) (λ k. state-packets conf k n)
+    (λ k s w few expired waits. state-purged conf k n w s one few expired waits) m acts small h all).fate
 
 -- in any 2 * interval purges in a row, the state of a number that is made by then, and expired at each of them, goes
 pub numbered-go : (conf : Conf) (earlier meanwhile : List RunAct) (n : ℕ) → IsConfig conf → purges meanwhile ≡ 2 * interval_of conf
@@ -201,23 +205,16 @@ node-packets conf k n = record {
   });
 }
 
-node-purged : (conf : Conf) (k n : ℕ) (w : World) (s : ℕ) → 1 ≤ interval_of conf → IsSmall conf (state_slice conf w s) → IsOver conf n w s
-    → NodeAwaits conf (suc k) n (state_slice conf w s) → NodeAwaits conf k n (purge conf w s)
+node-purged : (conf : Conf) (k n : ℕ) (w : World) (s : ℕ) → 1 ≤ interval_of conf → IsSmall conf w → IsOver conf n w s → NodeAwaits conf (suc k) n w → NodeAwaits conf k n (purge conf w s)
 node-purged conf k n w s one small all h =
     let v : World = state_slice conf w s in
+    let sliced = node-left conf (suc k) n w v.states v.pending_states s h in
     record {
       made = h.made;
       fate = fate-slice (λ (d : Node). d.number) (is_over conf v.states s) (node_share conf) (interval_of conf) k n v.nodes v.pending_nodes
-          (enough (node_limit conf) (interval_of conf) (length v.nodes) one small.nodes)
-          (recursion_from_All (λ (d : Node). d.number ≡ n → is_over conf v.states s d ≡ true) v.nodes all) h.fate;
+          (enough (node_limit conf) (interval_of conf) (length v.nodes) one (small-states conf w s small).nodes)
+          (recursion_from_All (λ (d : Node). d.number ≡ n → is_over conf v.states s d ≡ true) v.nodes all) sliced.fate;
     }
-
-node-end : (conf : Conf) (n : ℕ) (w : World) → 1 ≤ interval_of conf → NodeAwaits conf 0 n w → is_among (node_numbers w.nodes) n ≡ false
-node-end conf n w one h = go h.fate
-  where
-    go : Fate (node_share conf) (interval_of conf) 0 n (node_numbers w.nodes) w.pending_nodes → is_among (node_numbers w.nodes) n ≡ false
-    go (inl e) = e
-    go (inr d) = absurd (due-end (node_share conf) (interval_of conf) n w.pending_nodes one d)
 
 -- at each purge among these acts the node of this number, where it is still held, is over
 abbrev IsOverThroughout : Conf → MachineContents → ℕ → List RunAct → Type 0
@@ -225,24 +222,10 @@ IsOverThroughout conf m n acts = (before rest : List RunAct) (s : ℕ) → acts 
 
 node-goes : (conf : Conf) (n : ℕ) (m : MachineContents) (acts : List RunAct) → 1 ≤ interval_of conf → IsSmall conf m.world → NodeAwaits conf (purges acts) n m.world
     → IsOverThroughout conf m n acts → is_among (node_numbers (acts_done conf m acts).world.nodes) n ≡ false
-node-goes conf n m [] one small h all = node-end conf n m.world one h
-node-goes conf n m (Purge s ∷ acts) one small h all =
-    let v : World = state_slice conf m.world s in
-    let sliced = node-left conf (suc (purges acts)) n m.world v.states v.pending_states s h in
-    node-goes conf n (act_done conf m (Purge s)) acts one (small-done conf m (Purge s) small)
-    (node-purged conf (purges acts) n m.world s one (small-states conf m.world s small) (all [] acts s refl) sliced)
-    (λ before rest t e. all (Purge s ∷ before) rest t (ap (λ (xs : List RunAct). Purge s ∷ xs) e))
-node-goes conf n m (Arrive now p cookie ∷ acts) one small h all =
-    node-goes conf n (act_done conf m (Arrive now p cookie)) acts one (small-done conf m (Arrive now p cookie) small)
-    (answered_keeps conf (NodeAwaits conf (purges acts) n) (node-packets conf (purges acts) n) m p cookie now h)
-    (λ before rest t e. all (Arrive now p cookie ∷ before) rest t (ap (λ (xs : List RunAct). Arrive now p cookie ∷ xs) e))
-node-goes conf n m (Change first now table done ∷ acts) one small h all =
-    node-goes conf n (act_done conf m (Change first now table done)) acts one small h
-    (λ before rest t e. all (Change first now table done ∷ before) rest t (ap (λ (xs : List RunAct). Change first now table done ∷ xs) e))
-node-goes conf n m (Kill now hosts ∷ acts) one small h all =
-    node-goes conf n (act_done conf m (Kill now hosts)) acts one (small-done conf m (Kill now hosts) small)
-    ((node-packets conf (purges acts) n).kills m.world (stays_elsewhere hosts) now h)
-    (λ before rest t e. all (Kill now hosts ∷ before) rest t (ap (λ (xs : List RunAct). Kill now hosts ∷ xs) e))
+node-goes conf n m acts one small h all =
+    fate-end _ (interval_of conf) n _ _ one
+    (after-purges conf (λ k. NodeAwaits conf k n) (λ w s. IsOver conf n w s) (λ k. node-packets conf k n)
+    (λ k s w few over waits. node-purged conf k n w s one few over waits) m acts small h all).fate
 
 pub nodes-go : (conf : Conf) (events : List Event) → IsConfig conf → NodesGo conf events
 nodes-go conf events sound earlier meanwhile later n rounds all held =

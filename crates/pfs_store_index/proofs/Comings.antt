@@ -44,10 +44,6 @@ use Rattle.pfs_store_records.proofs.TallyLaws.{joined-faithful}
 
 -- ---- the node of the state
 
-done_first : (a b : Bool) → b ≡ true → (a && b) ≡ a
-done_first true b h = h
-done_first false b h = refl
-
 -- a count with one state more
 count-more : (p : State → Bool) (s : State) (xs : List State) → p s ≡ true → length (filter p (xs ++ s ∷ [])) ≡ length (filter p xs) + 1
 count-more p s xs h = count-push p s xs ∙ ap (λ b. length (filter p xs) + cond b 1 0) h

@@ -1,11 +1,10 @@
 -- What a state is filed under: its source, or both ends of its key.
 use Rattle.std.proofs.Common.{◌≡◌, subst}
-use Rattle.pfs_addr_values.specs.Addresses.{IsAddr}
 use Rattle.pfs_addr_values.specs.declared.packets.Dir.{Dir}
 use Rattle.pfs_addr_values.specs.declared.packets.Dir.TheVariants as dir
 use Rattle.pfs_conf_values.specs.declared.profiles.Profile.TheVariants as profile
 use Rattle.pfs_store_contract.specs.declared.records.State.{State}
-use Rattle.pfs_store_index.specs.Filed.{HasFiled, HasPair, LosesFiled, LosesPair, SameFiled, SamePairs, filed_under, ordered_source}
+use Rattle.pfs_store_index.specs.Filed.{HasFiled, HasPair, LosesFiled, LosesPair, ordered_source}
 use Rattle.pfs_store_index.specs.declared.flush_index.FlushIndex.{FlushIndex}
 use Rattle.pfs_store_index.specs.declared.sources.Source.{Source}
 
@@ -33,9 +32,3 @@ pub ends-lose : (s : State) (old new : FlushIndex) (a b : Source) → a ≡ orde
     → LosesPair (a, s.number) old.first new.first → LosesPair (b, s.number) old.second new.second → LosesFiled profile.OpenBsd74 s old new
 ends-lose s old new a b e f h k =
     ends _ (subst (λ (x : Source). LosesPair (x, s.number) old.first new.first) e h) (subst (λ (x : Source). LosesPair (x, s.number) old.second new.second) f k)
-
-pub ends-same : (old new : FlushIndex) → SamePairs old.first new.first × SamePairs old.second new.second → SameFiled profile.OpenBsd74 old new
-ends-same old new h = ends _ h.0 h.1
-
-pub ends-sound : (s : State) → IsAddr s.key.a.addr → IsAddr s.key.b.addr → (d : Dir) → IsAddr (filed_under profile.OpenBsd74 d s)
-ends-sound s h k = ends _ h k

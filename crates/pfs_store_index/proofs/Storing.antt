@@ -20,7 +20,7 @@ use Rattle.pfs_store_contract.specs.Counts.{has_node, is_node, node_scope_of, no
 use Rattle.pfs_store_contract.specs.Calls.{source_states, stays_elsewhere, stays_unflushed}
 use Rattle.pfs_store_contract.specs.Leaving.{is_beside, is_flushed, is_from_to, node_after_leaving, node_retention, world_without}
 use Rattle.pfs_store_contract.specs.Plain.{AreCounts}
-use Rattle.pfs_store_contract.specs.Purging.{has_expired, is_among, node_numbers, node_share, node_slice, node_stays, round, state_numbers, state_share, state_slice, stays}
+use Rattle.pfs_store_contract.specs.Purging.{has_expired, is_among, node_numbers, round, state_numbers, state_share, state_slice, stays}
 use Rattle.pfs_store_contract.specs.Touching.{completes_at, nodes_scored, nodes_touched, numbered_state_after, node_after_handshake, world_after_touch}
 use Rattle.pfs_store_contract.specs.Worlds.{holds_number, lists}
 use Rattle.pfs_store_contract.specs.declared.kills.FromTo.{FromTo}
@@ -41,9 +41,6 @@ use Rattle.pfs_store_records.proofs.Rising.{Above, Apart, IsRisingBy, head-above
 use Rattle.pfs_store_index.proofs.RisingWalks.{stays_by}
 
 -- ---- numbers
-
-node_number : Node → ℕ
-node_number n = n.number
 
 pub numbered-filter : {X : Type 0} (number : X → ℕ) (p : X → Bool) (made : ℕ) (xs : List X) → IsNumbered made (map number xs) → IsNumbered made (map number (filter p xs))
 numbered-filter number p made [] h = tt
@@ -198,15 +195,6 @@ world-slice now share h h' b k c m c' m' made rs s r e f w =
 
 -- ---- a slice of the nodes
 
-pub world-node_slice : (now share : ℕ) (h h' : Holding) (c m b k c' m' made : ℕ) (rs : List ℕ) → share ≡ node_share h.config
-    → rs ≡ round (node_numbers h.nodes) (waiting b k (node_numbers h.nodes)) → h'.states ≡ h.states
-    → h'.nodes ≡ filter (node_stays h.config h.states now (take share rs)) h.nodes
-    → waiting c' m' (node_numbers h'.nodes) ≡ drop share rs → world_of h' c m c' m' made ≡ node_slice h.config (world_of h c m b k made) now
-world-node_slice now share h h' c m b k c' m' made rs s r e f w =
-    let ns : h'.nodes ≡ filter (node_stays h.config h.states now (take (node_share h.config) (round (node_numbers h.nodes) (waiting b k (node_numbers h.nodes))))) h.nodes =
-    f ∙ (λ i. filter (node_stays h.config h.states now (take (s i) (r i))) h.nodes) in
-    (λ i. lists (e i) (ns i) (waiting c m (state_numbers (e i))) ((w ∙ (λ j. drop (s j) (r j))) i) made)
-
 pub stored-nodes : (p : Node → Bool) (h h' : Holding) (c m c' m' c2 m2 made places : ℕ) → h'.config ≡ h.config → h'.states ≡ h.states → h'.nodes ≡ filter p h.nodes
     → IsStored h c m c' m' made places → c2 ≤ m2 → m2 ≤ made → IsStored h' c m c2 m2 made places
 stored-nodes p h h' c m c' m' c2 m2 made places g e f i l k = record {
@@ -300,15 +288,6 @@ stored-came s h h' c m c' m' made places l i n g e f = record {
 }
 
 -- ---- a node comes without a state
-
-pub world-left : (a : Addr) (now : ℕ) (o : Option NodeScope) (h h' : Holding) (c m c' m' made places : ℕ) → IsStored h c m c' m' made places → h'.states ≡ h.states
-    → h'.nodes ≡ nodes_with h.nodes (made + 1) a now o
-    → world_of h' c m c' m' (made + 1) ≡ lists h.states (nodes_with h.nodes (made + 1) a now o) (waiting c m (state_numbers h.states)) (waiting c' m' (node_numbers h.nodes)) (made + 1)
-world-left a now o h h' c m c' m' made places i e f =
-    (λ j. lists (e j) (f j) (waiting c m (state_numbers (e j)))
-    ((ap (λ ns. waiting c' m' (node_numbers ns)) f
-    ∙ numbers-with h.nodes (made + 1) a now o (λ ks. waiting c' m' ks ≡ waiting c' m' (node_numbers h.nodes)) refl (waiting-came c' m' made (node_numbers h.nodes) i.node_mark_made)) j)
-    (made + 1))
 
 pub stored-left : (a : Addr) (now : ℕ) (o : Option NodeScope) (h h' : Holding) (c m c' m' made places : ℕ) → made < run_limit → IsStored h c m c' m' made places → h'.config ≡ h.config
     → h'.states ≡ h.states → h'.nodes ≡ nodes_with h.nodes (made + 1) a now o → IsStored h' c m c' m' (made + 1) places

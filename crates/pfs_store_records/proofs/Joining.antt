@@ -229,31 +229,6 @@ push-joined place s aside after (p ∷ ps) h (a, more) = λ i. placed_at p.place
         let d : is_at (nat_cmp s.number) p.state.number ≡ false = at_other s.number p.state.number (λ q. grind (arith, a, q)) in
         h p.state.number ∙ ap (λ b. cond b (keys_apart s) (lying aside p.state.number)) d
 
-or_true : (b : Bool) → (b || true) ≡ true
-or_true true = refl
-or_true false = refl
-
-holds-pushed : (n place : ℕ) (s : State) (ps : List Placed) → holds_number (states_of ps) n ≡ true → holds_number (states_of (ps ++ placed_at place s ∷ [])) n ≡ true
-holds-pushed n place s [] h = absurd cc
-holds-pushed n place s (p ∷ ps) h = go (p.state.number == n) refl (holds-pushed n place s ps)
-  where
-    go : (b : Bool) → (p.state.number == n) ≡ b → (holds_number (states_of ps) n ≡ true → holds_number (states_of (ps ++ placed_at place s ∷ [])) n ≡ true)
-        → holds_number (states_of ((p ∷ ps) ++ placed_at place s ∷ [])) n ≡ true
-    go true t more = rw t refl
-    go false t more = rw t (more (rw t at h))
-
-holds-last : (place : ℕ) (s : State) (ps : List Placed) → holds_number (states_of (ps ++ placed_at place s ∷ [])) s.number ≡ true
-holds-last place s [] = let t : (s.number == s.number) ≡ true = grind (arith, nat_tests) in rw t refl
-holds-last place s (p ∷ ps) = ap (λ b. (p.state.number == s.number) || b) (holds-last place s ps) ∙ or_true (p.state.number == s.number)
-
-pub held-pushed-aside : (place : ℕ) (s : State) (aside after : List (ℕ × Keys)) (ps : List Placed) → HasKeys s.number (keys_apart s) aside after → AreHeld aside (states_of ps)
-    → AreHeld after (states_of (ps ++ placed_at place (bare s) ∷ []))
-held-pushed-aside place s aside after ps h k n is = go (is_at (nat_cmp s.number) n) refl
-  where
-    go : (b : Bool) → is_at (nat_cmp s.number) n ≡ b → holds_number (states_of (ps ++ placed_at place (bare s) ∷ [])) n ≡ true
-    go true t = subst (λ m. holds_number (states_of (ps ++ placed_at place (bare s) ∷ [])) m ≡ true) (at_same s.number n t) (holds-last place (bare s) ps)
-    go false t = holds-pushed n place (bare s) ps (k n (subst (λ (o : Option Keys). IsSome o) (h n ∙ ap (λ b. cond b (keys_apart s) (lying aside n)) t) is))
-
 -- what came and left again
 pub undone : (n : ℕ) (keys : Option Keys) (aside between after : List (ℕ × Keys)) → lying aside n ≡ None → HasKeys n keys aside between → HasKeys n None between after → (m : ℕ) → lying after m ≡ lying aside m
 undone n keys aside between after e h k m = go (is_at (nat_cmp n) m) refl

@@ -22,7 +22,7 @@ use Rattle.pfs_store_records.specs.Records.{IsAbove, IsRising}
 use Rattle.pfs_store_records.specs.Tallies.{IsOrderly, IsTallied, count_of, has_node_number, is_tally, nodes_of, put_tally, same_node}
 use Rattle.pfs_store_records.specs.declared.nodes.NodeTally.{NodeTally}
 use Rattle.pfs_store_contract.proofs.ScopeLaws.{same_scope_self, same_scope_true}
-use Rattle.pfs_store_records.proofs.Ordered.{IsUpdated, at_same, at_self, below-keys, filter-removed, find-held, find-vacant, found, held-all, held-pushed, held-removed, in_place, kept-pushed, kept-removed, kept-written, length-held, less_apart, look-placed, none-above, rising-held, view-written}
+use Rattle.pfs_store_records.proofs.Ordered.{IsUpdated, at_same, at_self, below-keys, filter-removed, find-held, find-vacant, found, held-all, held-pushed, held-removed, kept-pushed, kept-removed, kept-written, length-held, less_apart, look-placed, none-above, rising-held, view-written}
 
 -- ---- the test of scope and source decides
 
@@ -381,13 +381,6 @@ tallied_true t v h = go (is_tally t.node.scope t.node.source v) refl
     go false s = let h' : false ≡ true = (rw s at h) in absurd (cc h')
 
 module _ (T : NodeScope × Addr → Option ℕ) (at : ℕ → Option NodeTally) (t : NodeTally) (es : List (ℕ × ℕ)) (k : AreInPlace number_of_node (NodeIsAt T) at es) (a : IsTallied t (values_at at es)) where
-  -- the table has the place of a tally that is there
-  pub has-tally : T (source_of_node t) ≡ None → ⊥
-  has-tally n =
-      let f = in_place number_of_node (NodeIsAt T) (λ (v : NodeTally). is_tally t.node.scope t.node.source v && has_node_number t.node.number v) at es k.placed a in
-      let x : T (source_of_node f.0) ≡ None = ap T (tallied_true t f.0 f.2).1 ∙ n in
-      absurd (cc (x, f.3))
-
   pub at_tally : (p : ℕ) → T (source_of_node t) ≡ Some p → lookup (is_at (nat_cmp t.node.number)) es ≡ Some p
   at_tally p h =
       look-placed number_of_node (NodeIsAt T) (λ (v : NodeTally). is_tally t.node.scope t.node.source v && has_node_number t.node.number v) at t.node.number p es here k.ordered k.placed a

@@ -97,15 +97,6 @@ scope_of-IsScope conf rule sc h = by (scope_of conf rule) refl h
 
 -- ---- a change of one tally
 
-pub at_here : (sc : NodeScope) (a : Addr) (f : NodeTally → NodeTally) (t : NodeTally) → is_tally sc a t ≡ true → at_node (Some sc) a f t ≡ f t
-at_here sc a f t h = rw h refl
-
-pub at_else : (sc : NodeScope) (a : Addr) (f : NodeTally → NodeTally) (t : NodeTally) → is_tally sc a t ≡ false → at_node (Some sc) a f t ≡ t
-at_else sc a f t h = rw h refl
-
-number_of : NodeTally → ℕ
-number_of t = t.node.number
-
 flip_number : (a b : ℕ) → a < b → (b == a) ≡ false
 flip_number a b h = grind (arith, nat_tests)
 

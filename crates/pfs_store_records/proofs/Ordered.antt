@@ -379,12 +379,6 @@ module _ {P V : Type 0} (num : V → ℕ) (At : V → P → Type 0) where
       let q : k ∷ keys_of rest ≡ filter (between a m) (keys_of es) = ap keys_of e ∙ keys-between a m es in
       rw (numbers-held T es h) (ap (λ (xs : List ℕ). slice_get xs 0) q)
 
-  pub none_between : (a m : ℕ) (T : P → Option V) (es : List (ℕ × P)) → AllByRecursion (IsPlaced num At T) es → [] ≡ entries_between nat_cmp (Excluded a) (Included m) es
-      → None ≡ slice_get (filter (between a m) (map num (values_at T es))) 0
-  none_between a m T es h e =
-      let q : [] ≡ filter (between a m) (keys_of es) = ap keys_of e ∙ keys-between a m es in
-      rw (numbers-held T es h) (ap (λ (xs : List ℕ). slice_get xs 0) q)
-
   -- ---- the value at a place
 
   -- none passes a test, where none that has a place does

@@ -12,7 +12,7 @@ use Rattle.std.specs.declared.cmp.Ordering.TheVariants.{Less}
 use Rattle.std.specs.declared.ops.Bound.TheVariants.{Included, Excluded}
 use Rattle.std.proofs.lemmas.Bool.Decides.{nat_tests}
 use Rattle.std.proofs.lemmas.Grind.{reverse_onto}
-use Rattle.std.proofs.lemmas.List.{reverse-append, reverse-reverse}
+use Rattle.std.proofs.lemmas.List.{reverse-reverse}
 use Rattle.std.proofs.lemmas.Map.Keys.{sorted_head, sorted_tail}
 use Rattle.pfs_store_records.specs.Numbered.{HasPlace}
 use Rattle.pfs_store_records.specs.Records.{IsAbove, IsRising}
@@ -174,7 +174,3 @@ pub between-reversed : (a m : ℕ) (es : List (ℕ × ℕ)) → reverse (entries
 between-reversed a m es =
     ap (λ (f : ℕ × ℕ → Bool). reverse (filter f es)) (λ i e. range_either a m e.0 i)
     ∙ filter_reversed (λ e. range_contains nat_cmp (Excluded a) (Included m) e.0) es
-
--- the last of those by falling key is the first
-pub last-first : (es fs : List (ℕ × ℕ)) (e : ℕ × ℕ) → es ≡ fs ++ e ∷ [] → reverse es ≡ e ∷ reverse fs
-last-first es fs e h = ap reverse h ∙ reverse-append fs (e ∷ [])
