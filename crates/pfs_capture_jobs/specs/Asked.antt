@@ -38,9 +38,11 @@ abbrev pub sides_app : App
 sides_app =
     with_rule (with_rule (with_rule (on_top (λ (s : Shape). record s { has_version = true }) (new_app (codes "pfstrace"))) (named_rule Append (codes "mac"))) (named_rule Append (codes "inside"))) (named_rule Append (codes "outside"))
 
+abbrev pub answers_app : App
+answers_app = with_rule (with_rule sides_app (option_rule Set (codes "interface"))) answers_rule
+
 abbrev pub pfstrace_app : App
-pfstrace_app =
-    with_rule (with_rule (with_rule (with_rule sides_app (option_rule Set (codes "interface"))) answers_rule) (flag_rule lines_flag)) (new_rule (codes "CAPTURE"))
+pfstrace_app = with_rule (with_rule answers_app (flag_rule lines_flag)) (new_rule (codes "CAPTURE"))
 
 -- ---- the interface
 

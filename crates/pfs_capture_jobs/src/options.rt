@@ -4,7 +4,7 @@ ghost use Rattle.std.specs.Prelude.{◌≡◌, IfOk, codes, false};
 ghost use Rattle.clap.specs.Words.{app_of, new_rule, rule_of};
 ghost use Rattle.clap.specs.declared.builder.command.Command.TheViews.{out-Command};
 ghost use Rattle.clap.specs.declared.builder.action.ArgAction.TheVariants as action;
-ghost use Rattle.pfs_capture_jobs.specs.Asked.{answers_rule, named_rule, option_rule, pfstrace_app, sides_app};
+ghost use Rattle.pfs_capture_jobs.specs.Asked.{answers_app, answers_rule, named_rule, option_rule, pfstrace_app, sides_app};
 
 use clap::{Arg, ArgAction, Command};
 use pfs_words::line_buffered;
@@ -18,14 +18,20 @@ pub fn pfstrace<'a>(alloc: Global) -> Result<Command<'a>, AllocError>
     ensures app { IfOk result (λ c. app_of c ≡ pfstrace_app) }
     ensures local { IfOk result (λ c. (out-Command c).has_globals ≡ false) }
 {
-    with_sides(alloc)?
-        .arg(interface_name(alloc))?
-        .arg(answers(alloc)?)?
+    with_answers(alloc)?
         .arg(line_buffered(
             alloc,
             "Writes each row before it reads more of the capture.",
         ))?
         .arg(capture(alloc))
+}
+
+fn with_answers<'a>(alloc: Global) -> Result<Command<'a>, AllocError>
+    ensures app { IfOk result (λ c. app_of c ≡ answers_app) }
+    ensures local { IfOk result (λ c. (out-Command c).has_globals ≡ false) }
+{
+    let answers = answers(alloc)?;
+    with_sides(alloc)?.arg(interface_name(alloc))?.arg(answers)
 }
 
 fn with_sides<'a>(alloc: Global) -> Result<Command<'a>, AllocError>
