@@ -1,6 +1,5 @@
--- States that leave in two steps leave as in one.
-use Rattle.std.proofs.Common.{◌≡◌, ◌∙◌, ◌≤◌, ◌<◌, ◌+◌, ◌==◌, ◌&&◌, ◌||◌, not, ℕ, Bool, true, false, cond, if◌then◌else◌, nat_lt, List, [], ◌∷◌, length, filter, map, refl, ap, sym, arith}
-use Rattle.std.proofs.lemmas.Bool.{false≢true}
+-- States that leave in two steps leave as in one; where none leaves, every node is as before.
+use Rattle.std.proofs.Common.{◌≡◌, ◌≤◌, ◌+◌, ◌==◌, ◌&&◌, ◌||◌, ℕ, Bool, true, false, if◌then◌else◌, nat_lt, List, [], ◌∷◌, length, filter, map, refl, ap, sym, arith}
 use Rattle.std.proofs.lemmas.Bool.Decides.{nat_tests}
 use Rattle.pfs_conf_values.specs.Configs.{Conf}
 use Rattle.pfs_store_contract.specs.Counts.{is_of_node, node_states}
@@ -26,59 +25,40 @@ fewer q p (x ∷ xs) = grind (arith, fewer q p xs)
 
 -- ---- nodes
 
--- by whether a node has states before, has none between, has none after, and has some between
-by-tests : (some none none_after some_still : Bool) (n : Node) (expires : ℕ) → some_still ≡ not none → (none ≡ true → none_after ≡ true) → (none ≡ false → some ≡ true)
-    → (m : Node) → m ≡ (if some && none then record n { expires = expires } else n)
-    → (if some_still && none_after then record m { expires = expires } else m) ≡ (if some && none_after then record n { expires = expires } else n)
-by-tests some true true false n expires e i j m is = is
-by-tests some true true true n expires e i j m is = absurd (false≢true (sym e))
-by-tests some true false still n expires e i j m is = absurd (false≢true (i refl))
-by-tests true false true true n expires e i j m is = ap (λ (x : Node). record x { expires = expires }) is
-by-tests true false false true n expires e i j m is = is
-by-tests true false after false n expires e i j m is = absurd (false≢true e)
-by-tests false false after still n expires e i j m is = absurd (false≢true (j refl))
+none_left : (c : ℕ) → (nat_lt 0 c && (c == 0)) ≡ false
+none_left c = grind (arith, nat_tests)
 
--- by how many states it has
-by-counts : (first next last : ℕ) (n : Node) (expires : ℕ) → next ≤ first → last ≤ next
-    → (m : Node) → m ≡ (if nat_lt 0 first && (next == 0) then record n { expires = expires } else n)
-    → (if nat_lt 0 next && (last == 0) then record m { expires = expires } else m)
-    ≡ (if nat_lt 0 first && (last == 0) then record n { expires = expires } else n)
-by-counts first next last n expires a b m is =
-    let still : nat_lt 0 next ≡ not (next == 0) = grind (arith, nat_tests) in
-    let gone : (next == 0) ≡ true → (last == 0) ≡ true = λ h. grind (arith, nat_tests, b, h) in
-    let some : (next == 0) ≡ false → nat_lt 0 first ≡ true = λ h. grind (arith, nat_tests, a, h) in
-    by-tests (nat_lt 0 first) (next == 0) (last == 0) (nat_lt 0 next) n expires still gone some m is
+-- where no state leaves, every node is as before
+pub retained-same : (conf : Conf) (xs : List State) (now : ℕ) (ns : List Node) → ns ≡ map (node_after_leaving conf xs xs now) ns
+retained-same conf xs now [] = refl
+retained-same conf xs now (n ∷ ns) =
+    (λ i. ap (λ (b : Bool). if b then record n { expires = now + node_retention conf n.scope } else n) (sym (none_left (node_states conf n.scope n.source xs))) i ∷ retained-same conf xs now ns i)
 
-node-twice : (conf : Conf) (states : List State) (p q : State → Bool) (now : ℕ) (n : Node)
-    → node_after_leaving conf (filter p states) (filter q (filter p states)) now (node_after_leaving conf states (filter p states) now n)
-    ≡ node_after_leaving conf states (filter q (filter p states)) now n
-node-twice conf states p q now n = go (nat_lt 0 (node_states conf n.scope n.source states) && (node_states conf n.scope n.source (filter p states) == 0)) refl
+first_yes : (a b c : ℕ) → b ≤ a → c ≤ b → (nat_lt 0 a && (b == 0)) ≡ true → ((nat_lt 0 b && (c == 0)) ≡ false) × ((nat_lt 0 a && (c == 0)) ≡ true)
+first_yes a b c l m h = (grind (arith, nat_tests), grind (arith, nat_tests))
+
+first_no : (a b c : ℕ) → b ≤ a → c ≤ b → (nat_lt 0 a && (b == 0)) ≡ false → (nat_lt 0 b && (c == 0)) ≡ (nat_lt 0 a && (c == 0))
+first_no a b c l m h = grind (arith, nat_tests)
+
+node-twice : (conf : Conf) (xs : List State) (p q : State → Bool) (now : ℕ) (n : Node)
+    → node_after_leaving conf (filter p xs) (filter q (filter p xs)) now (node_after_leaving conf xs (filter p xs) now n) ≡ node_after_leaving conf xs (filter q (filter p xs)) now n
+node-twice conf xs p q now n = go (nat_lt 0 (node_states conf n.scope n.source xs) && (node_states conf n.scope n.source (filter p xs) == 0)) refl
   where
-    count : List State → ℕ
-    count ss = node_states conf n.scope n.source ss
+    l : node_states conf n.scope n.source (filter p xs) ≤ node_states conf n.scope n.source xs
+    l = fewer (is_of_node conf n.scope n.source) p xs
 
-    expires : ℕ
-    expires = now + node_retention conf n.scope
+    m : node_states conf n.scope n.source (filter q (filter p xs)) ≤ node_states conf n.scope n.source (filter p xs)
+    m = fewer (is_of_node conf n.scope n.source) q (filter p xs)
 
-    by : (m : Node) → m ≡ node_after_leaving conf states (filter p states) now n
-        → (if nat_lt 0 (count (filter p states)) && (count (filter q (filter p states)) == 0) then record m { expires = expires } else m)
-        ≡ node_after_leaving conf states (filter q (filter p states)) now n
-    by m is = by-counts (count states) (count (filter p states)) (count (filter q (filter p states))) n expires
-        (fewer (is_of_node conf n.scope n.source) p states) (fewer (is_of_node conf n.scope n.source) q (filter p states)) m is
+    go : (b : Bool) → (nat_lt 0 (node_states conf n.scope n.source xs) && (node_states conf n.scope n.source (filter p xs) == 0)) ≡ b
+        → node_after_leaving conf (filter p xs) (filter q (filter p xs)) now (node_after_leaving conf xs (filter p xs) now n) ≡ node_after_leaving conf xs (filter q (filter p xs)) now n
+    go true t = let y = first_yes _ _ _ l m t in rw (t, y.0, y.1) refl
+    go false t = rw (t, first_no _ _ _ l m t) refl
 
-    go : (b : Bool) → (nat_lt 0 (count states) && (count (filter p states) == 0)) ≡ b
-        → node_after_leaving conf (filter p states) (filter q (filter p states)) now (node_after_leaving conf states (filter p states) now n)
-        ≡ node_after_leaving conf states (filter q (filter p states)) now n
-    go true e = ap (node_after_leaving conf (filter p states) (filter q (filter p states)) now) (ap (λ (b : Bool). if b then record n { expires = expires } else n) e)
-        ∙ by (record n { expires = expires }) (sym (ap (λ (b : Bool). if b then record n { expires = expires } else n) e))
-    go false e = ap (node_after_leaving conf (filter p states) (filter q (filter p states)) now) (ap (λ (b : Bool). if b then record n { expires = expires } else n) e)
-        ∙ by n (sym (ap (λ (b : Bool). if b then record n { expires = expires } else n) e))
-
-nodes-twice : (conf : Conf) (states : List State) (p q : State → Bool) (now : ℕ) (nodes : List Node)
-    → map (node_after_leaving conf (filter p states) (filter q (filter p states)) now) (map (node_after_leaving conf states (filter p states) now) nodes)
-    ≡ map (node_after_leaving conf states (filter q (filter p states)) now) nodes
-nodes-twice conf states p q now [] = refl
-nodes-twice conf states p q now (n ∷ ns) = let e = node-twice conf states p q now n in let i = nodes-twice conf states p q now ns in cc
+pub nodes-twice : (conf : Conf) (xs : List State) (p q : State → Bool) (now : ℕ) (ns : List Node)
+    → map (node_after_leaving conf (filter p xs) (filter q (filter p xs)) now) (map (node_after_leaving conf xs (filter p xs) now) ns) ≡ map (node_after_leaving conf xs (filter q (filter p xs)) now) ns
+nodes-twice conf xs p q now [] = refl
+nodes-twice conf xs p q now (n ∷ ns) = (λ i. node-twice conf xs p q now n i ∷ nodes-twice conf xs p q now ns i)
 
 -- ---- pending numbers
 

@@ -4,6 +4,7 @@ pub mod LeavingLaws
 pub mod LimitLaws
 pub mod MomentLaws
 pub mod Passages
+pub mod Retentions
 pub mod ScopeLaws
 pub mod SliceLaws
 mod Worked

@@ -24,7 +24,7 @@ use Rattle.pfs_store_index.specs.declared.passages.Passage.{Passage}
 use Rattle.pfs_store_index.specs.declared.passages.SliceTold.{SliceTold}
 use Rattle.pfs_store_index.proofs.Fewer.{fewer-all, stays-longer}
 use Rattle.pfs_store_index.proofs.Removals.{all-filter}
-use Rattle.pfs_store_index.proofs.Retained.{retained-same}
+use Rattle.pfs_store_contract.proofs.LeavingLaws.{retained-same}
 use Rattle.pfs_store_index.proofs.Stretches.{among-append}
 
 -- ---- what is known

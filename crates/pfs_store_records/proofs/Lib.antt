@@ -5,7 +5,6 @@ pub mod OneNode
 mod Ordered
 mod Passing
 mod RecordLaws
-mod Retentions
 mod Reversed
 pub mod Rising
 pub mod Searches

@@ -7,7 +7,8 @@ use Rattle.pfs_conf_values.specs.Configs.{Conf}
 use Rattle.pfs_store_contract.specs.Leaving.{is_beside, is_flushed, node_after_leaving}
 use Rattle.pfs_store_contract.specs.declared.records.State.{State}
 use Rattle.pfs_store_index.specs.Rounds.{state_survives, waiting_of}
-use Rattle.pfs_store_index.proofs.Retained.{retained-same, step-nodes}
+use Rattle.pfs_store_contract.proofs.LeavingLaws.{retained-same}
+use Rattle.pfs_store_index.proofs.Retained.{step-nodes}
 use Rattle.pfs_store_index.proofs.Leavings.{state_number}
 use Rattle.pfs_store_index.proofs.Storing.{flushed-stays, source-count}
 use Rattle.pfs_store_index.proofs.RisingWalks.{all-examined, at_next, stays-none, stays_by, step-stays, waiting-fewer, waiting-in, waiting-next}

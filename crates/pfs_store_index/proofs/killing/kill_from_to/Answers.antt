@@ -4,7 +4,8 @@ use Rattle.std.proofs.lemmas.List.{take_all}
 use Rattle.pfs_store_contract.specs.Leaving.{is_from_to, node_after_leaving}
 use Rattle.pfs_store_contract.specs.Purging.{state_numbers}
 use Rattle.pfs_store_index.specs.Rounds.{state_survives, waiting}
-use Rattle.pfs_store_index.proofs.Retained.{retained-same, step-nodes}
+use Rattle.pfs_store_contract.proofs.LeavingLaws.{retained-same}
+use Rattle.pfs_store_index.proofs.Retained.{step-nodes}
 use Rattle.pfs_store_index.proofs.Leavings.{state_number}
 use Rattle.pfs_store_index.proofs.Storing.{all-waiting, killed-stays}
 use Rattle.pfs_store_index.proofs.RisingWalks.{all-examined, all-fewer, all-in, all-next, at_next, stays-none, stays_by, step-stays}

@@ -3,7 +3,7 @@ use Rattle.std.proofs.Common.{◌≡◌, ◌∙◌, Some, sym, ap, filter, subst
 use Rattle.std.specs.List.{find}
 use Rattle.pfs_store_contract.specs.Leaving.{is_from_to}
 use Rattle.pfs_store_contract.specs.Calls.{other_than}
-use Rattle.pfs_store_index.proofs.Retained.{retained-same}
+use Rattle.pfs_store_contract.proofs.LeavingLaws.{retained-same}
 use Rattle.pfs_store_index.proofs.Leavings.{state_number}
 use Rattle.pfs_store_records.proofs.Rising.{found-number, has_number}
 use Rattle.pfs_store_index.proofs.RisingWalks.{survive-kept, survive-removed}

@@ -5,7 +5,7 @@ use Rattle.pfs_store_contract.specs.Purging.{state_numbers}
 use Rattle.pfs_store_contract.specs.declared.records.State.{State}
 use Rattle.pfs_store_index.specs.Rounds.{IsExamined, waiting}
 use Rattle.pfs_store_index.specs.Stored.{due_at, is_due}
-use Rattle.pfs_store_index.proofs.Retained.{retained-same}
+use Rattle.pfs_store_contract.proofs.LeavingLaws.{retained-same}
 use Rattle.pfs_store_index.proofs.Stretches.{IsStretch, stretch-leaves, stretch-stays}
 use Rattle.pfs_store_index.proofs.Untils.{hold-leaves, hold-stays}
 use Rattle.pfs_store_index.proofs.purging.examine.Goals as goal

@@ -7,7 +7,8 @@ use Rattle.pfs_store_index.specs.Stored.{due_at, is_due}
 use Rattle.pfs_store_index.specs.Staying.{StatesHold}
 use Rattle.pfs_conf_values.specs.Configs.{Conf}
 use Rattle.pfs_store_contract.specs.declared.records.State.{State}
-use Rattle.pfs_store_index.proofs.Retained.{retained-same, step-nodes}
+use Rattle.pfs_store_contract.proofs.LeavingLaws.{retained-same}
+use Rattle.pfs_store_index.proofs.Retained.{step-nodes}
 use Rattle.pfs_store_index.proofs.Leavings.{state_number}
 use Rattle.pfs_store_index.proofs.Storing.{due-hold, due-stays}
 use Rattle.pfs_store_index.proofs.Untils.{StaysTo, hold-more, hold-none, less_stays}

@@ -1,8 +1,8 @@
 -- Answer of end_of_retention: no retention is past the greatest number of seconds, so the sum is no overflow.
 use Rattle.std.proofs.Common.{arith}
-use Rattle.pfs_store_plain.proofs.RetentionLaws.{retention-bounded}
+use Rattle.pfs_store_contract.proofs.Retentions.{retention-most}
 use Rattle.pfs_store_plain.proofs.leaving.end_of_retention.Goals as goal
 
 pub overflow_add-result : goal.overflow_add-result
 overflow_add-result c =
-    omega (arith, c.requires, c.node_retention.ensures, retention-bounded c.args.config.now c.keeps_load_rules.ensures c.args.scope)
+    omega (arith, c.requires, c.node_retention.ensures, retention-most c.args.config.now c.keeps_load_rules.ensures c.args.scope)

@@ -1,6 +1,6 @@
 -- Answer of end_of_retention: a retention is short beside what a moment can be.
 use Rattle.std.proofs.Common.{arith}
-use Rattle.pfs_store_records.proofs.Retentions.{retention-most}
+use Rattle.pfs_store_contract.proofs.Retentions.{retention-most}
 use Rattle.pfs_store_records.proofs.retaining.end_of_retention.Goals as goal
 
 pub overflow_add-result : goal.overflow_add-result
