@@ -22,6 +22,7 @@ from pfplan.pf.conversion import Ruleset, with_routes, write_rules, write_rulese
 from pfplan.pf.profiles import Profile, profile_of
 from pfplan.pf.reading_canonical_text import items_of
 from pfplan.pf.routes import routes_of
+from pfplan.plays.counts import Count
 from pfplan.plays.fields import MOST_SEED
 from pfplan.plays.model import Scenario
 from pfplan.plays.playing import Played, Task, play_all
@@ -83,28 +84,6 @@ def json_of_side(side: Sequence[Played]) -> dict[str, Any]:
 
 def json_of(scenario: Scenario, play: Played) -> dict[str, Any]:
     """The numbers of one play for machines (man/pfplan.1)."""
-    groups = [
-        {
-            "name": it.group.name,
-            "kind": it.group.kind,
-            "users": it.group.users,
-            "connections": it.connections,
-            "opened": it.opened,
-            "served": it.served,
-            "served_without_waiting": it.served_at_once,
-            "gave_up": it.gave_up,
-            "hosts": len(it.hosts),
-            "hosts_shut_out": len(it.hosts) - len(it.served_hosts),
-            "killed": it.killed,
-            "tries": it.tries,
-            "packets": it.packets,
-            "let_in": it.passed,
-            "not_played": it.left_over,
-            "wait": {"median": it.wait_at(0.5), "95_of_100": it.wait_at(0.95), "longest": it.wait_at(1.0)},
-            "refused": {word: asdict(one) for word, one in it.refused.items()},
-        }
-        for it in play.tally.counts
-    ]
     backlog = {
         "bound": scenario.backlog,
         "most_half_open": play.tally.most_half_open,
@@ -116,7 +95,7 @@ def json_of(scenario: Scenario, play: Played) -> dict[str, Any]:
         "seconds": scenario.seconds,
         "last": play.last,
         "wait": scenario.wait,
-        "groups": groups,
+        "groups": [_json_of_group(it) for it in play.tally.counts],
         "held": [asdict(it) for it in play.tally.fills],
         "most_held": play.most_held,
         "limit_met": play.is_full,
@@ -126,6 +105,29 @@ def json_of(scenario: Scenario, play: Played) -> dict[str, Any]:
     }
     orders = {"administrator": play.tally.effects.to_json()} if play.tally.effects.records else {}
     return found | ({"backlog": backlog} if scenario.backlog else {}) | orders
+
+
+def _json_of_group(it: Count) -> dict[str, Any]:
+    """The numbers of one group of a play."""
+    return {
+        "name": it.group.name,
+        "kind": it.group.kind,
+        "users": it.group.users,
+        "connections": it.connections,
+        "opened": it.opened,
+        "served": it.served,
+        "served_without_waiting": it.served_at_once,
+        "gave_up": it.gave_up,
+        "hosts": len(it.hosts),
+        "hosts_shut_out": len(it.hosts) - len(it.served_hosts),
+        "killed": it.killed,
+        "tries": it.tries,
+        "packets": it.packets,
+        "let_in": it.passed,
+        "not_played": it.left_over,
+        "wait": {"median": it.wait_at(0.5), "95_of_100": it.wait_at(0.95), "longest": it.wait_at(1.0)},
+        "refused": {word: asdict(one) for word, one in it.refused.items()},
+    }
 
 
 def play_into(

@@ -101,6 +101,14 @@ def add_rule_words(parser: argparse.ArgumentParser) -> None:
         metavar="FILE",
         help="what netstat -rn prints on the firewall: each packet is then asked on both interfaces of its way",
     )
+    _add_names(parser)
+    add_profile(parser)
+    add("--root", type=file, metavar="FOLDER", help="where files with absolute names are looked for: FOLDER/etc/..")
+
+
+def _add_names(parser: argparse.ArgumentParser) -> None:
+    """The words that say what a name of the text stands for: an address, a group, a table, an anchor."""
+    add = parser.add_argument
     add(
         "--address", dest="addresses", type=_address, action="append", default=[], metavar="NAME=ADDRESS",
         help="an address of NAME, as em0, self or a host's name, with its length where NAME:network is asked for; or "
@@ -132,8 +140,6 @@ def add_rule_words(parser: argparse.ArgumentParser) -> None:
         metavar="NAME=FILE",
         help="the rules of an anchor by name",
     )
-    add_profile(parser)
-    add("--root", type=file, metavar="FOLDER", help="where files with absolute names are looked for: FOLDER/etc/..")
 
 
 def options_of(arguments: argparse.Namespace) -> RuleOptions:

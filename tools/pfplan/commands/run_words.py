@@ -101,7 +101,10 @@ def add_answer_words(parser: argparse.ArgumentParser) -> None:
 
 
 def write_answer(
-    arguments: argparse.Namespace, found: AnyAnswer, text_of: Callable[[AnyAnswer], str], page_of: Callable[[AnyAnswer], str]
+    arguments: argparse.Namespace,
+    found: AnyAnswer,
+    text_of: Callable[[AnyAnswer], str],
+    page_of: Callable[[AnyAnswer], str],
 ) -> Status:
     """Tells an answer: as a text or for machines, and as a page where one is asked for."""
     outputs = (arguments.out, arguments.page) if arguments.page else (arguments.out,)

@@ -77,9 +77,8 @@ def old_rules(statements: Iterable[Statement]) -> Iterator[OldTranslation]:
         if isinstance(it, OldTranslation):
             yield it
         elif isinstance(it, OldAnchor) and it.body is not None and not has_more(it):
-            for found in old_rules(it.body):
-                if found.sort == it.sort:
-                    yield replace(found, filter=joined(it.filter, found.filter))
+            called = (found for found in old_rules(it.body) if found.sort == it.sort)
+            yield from (replace(found, filter=joined(it.filter, found.filter)) for found in called)
 
 
 def called_places(statements: Iterable[Statement]) -> set[tuple[str, SourceLine]]:

@@ -168,12 +168,11 @@ def _interface_of(line: _Line, machine: Machine) -> str:
 
 def _own_addresses(machine: Machine) -> Iterator[Network]:
     """The addresses and broadcast addresses of the firewall, without those of links alone."""
-    for it in machine.interfaces.values():
-        for configured in it.addresses:
-            for address in (configured.address, configured.broadcast):
-                network = prefix_of(str(address), None) if address and not address.is_link_local else None
-                if network is not None:
-                    yield network
+    configured = [address for it in machine.interfaces.values() for address in it.addresses]
+    for address in (one for it in configured for one in (it.address, it.broadcast)):
+        network = prefix_of(str(address), None) if address and not address.is_link_local else None
+        if network is not None:
+            yield network
 
 
 def _notes(counts: Counter[str], kept: int) -> Iterator[str]:

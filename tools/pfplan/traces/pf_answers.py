@@ -150,17 +150,16 @@ def packets_of(trace: Path, told: Path, name: Path) -> Iterator[Packet]:
 
 def _answers(told: Path, name: Path) -> Iterator[tuple[int, PfAnswer]]:
     """The rows of a file of answers, each with its number."""
-    number = 0
-    for lines in line_blocks(told):
-        for number, line in enumerate(lines, number + 1):
-            if number == 1:
-                if not line.startswith(",".join(COLUMNS[:5])):
-                    raise Trouble(f"{name}: pfstrace wrote no answers of pf", Status.FAILED)
-                continue
-            try:
-                yield int(line.partition(",")[0]), read_pf_answer(line)
-            except ValueError as error:
-                raise Trouble(f"{name}: pf's answers: line {number}: {error}", Status.FAILED) from None
+    every = (line for lines in line_blocks(told) for line in lines)
+    for number, line in enumerate(every, 1):
+        if number == 1:
+            if not line.startswith(",".join(COLUMNS[:5])):
+                raise Trouble(f"{name}: pfstrace wrote no answers of pf", Status.FAILED)
+            continue
+        try:
+            yield int(line.partition(",")[0]), read_pf_answer(line)
+        except ValueError as error:
+            raise Trouble(f"{name}: pf's answers: line {number}: {error}", Status.FAILED) from None
 
 
 def merge(packets: Iterator[Packet], trace: TextIO, told: TextIO) -> Merged:
