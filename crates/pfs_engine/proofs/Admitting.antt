@@ -2,7 +2,6 @@
 use Rattle.std.proofs.Common.{◌≡◌, ◌∙◌, ℕ, Bool, Option, Some, None, ap, sym}
 use Rattle.pfs_addr_values.specs.Packets.{PacketView}
 use Rattle.pfs_conf_values.specs.Configs.{Conf}
-use Rattle.pfs_conf_values.specs.declared.actions.Action.TheVariants as action
 use Rattle.pfs_store_contract.specs.Admission.{limit_met}
 use Rattle.pfs_store_contract.specs.Worlds.{World}
 use Rattle.pfs_engine_machine.specs.Machine.{MachineContents, answer_of_limits, held_of, answer_of_keys}

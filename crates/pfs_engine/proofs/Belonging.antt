@@ -25,7 +25,6 @@ use Rattle.pfs_engine_machine.specs.Refusals.{is_tcp}
 use Rattle.pfs_engine.specs.Contents.{ContentsView, IsHeldAfter, view_of}
 use Rattle.pfs_engine.specs.Packets.{answer_of_touch}
 use Rattle.pfs_engine.specs.OverloadRoom.{HasRoomFor}
-use Rattle.pfs_engine_machine.proofs.Counts.{count-map}
 use Rattle.pfs_engine_machine.proofs.Renewals.{renewed-same}
 use Rattle.pfs_engine_machine.proofs.KeptHandshakes.{proto_of_completed}
 use Rattle.pfs_engine_machine.specs.Sides.{state_for}

@@ -1,5 +1,5 @@
 -- No second is due at the last moment.
-use Rattle.std.proofs.Common.{ℕ, ◌≡◌, ◌+◌, ◌-◌, [], List, Some, ap, arith}
+use Rattle.std.proofs.Common.{ℕ, ◌≡◌, ◌+◌, ◌-◌, [], Some, ap, arith}
 use Rattle.std.specs.List.{range_with_len}
 use Rattle.pfs_engine_machine.specs.Machine.{due}
 

@@ -1,5 +1,5 @@
 -- A row of a trace: one event, or a second behind it.
-use Rattle.std.proofs.Common.{◌≡◌, ◌+◌, ◌∙◌, ℕ, Bool, List, [], ◌∷◌, Option, Some, None, refl, ap, sym, subst, arith, inl, inr}
+use Rattle.std.proofs.Common.{◌≡◌, ◌+◌, ◌∙◌, ℕ, Bool, [], Option, Some, None, refl, ap, sym, subst, arith, inr}
 use Rattle.std.specs.Prelude.{Result, Ok, Err, OnErr, OnOk, option_map}
 use Rattle.std.specs.Option.{option_and_then}
 use Rattle.pfs_addr_values.specs.Packets.{PacketView}

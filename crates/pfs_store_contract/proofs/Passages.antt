@@ -8,7 +8,7 @@ use Rattle.pfs_store_contract.specs.Leaving.{node_after_leaving}
 use Rattle.pfs_store_contract.specs.Passages.{Done, done_after, done_of, purged_both, purged_in, purged_of_none}
 use Rattle.pfs_store_contract.specs.Purging.{node_numbers, node_share, node_slice, purge, round, state_numbers, state_share, state_slice}
 use Rattle.pfs_store_contract.specs.Calls.{node_slice_of, state_slice_of}
-use Rattle.pfs_store_contract.specs.Seconds.{most_nodes, most_states, purged_of, seconds, world_after_purges}
+use Rattle.pfs_store_contract.specs.Seconds.{purged_of, seconds, world_after_purges}
 use Rattle.pfs_store_contract.specs.Worlds.{World, lists}
 use Rattle.pfs_store_contract.specs.declared.records.Node.{Node}
 use Rattle.pfs_store_contract.specs.declared.records.Purged.{Purged}

@@ -1,8 +1,7 @@
 -- A walk over nodes: of their tallies, and of the nodes.
-use Rattle.std.proofs.Common.{◌≡◌, ◌∙◌, ◌==◌, ◌&&◌, ℕ, Bool, true, false, if◌then◌else◌, Option, None, Some, option_map, List, [], ◌∷◌, length, filter, nat_le, refl, ap, sym, arith}
+use Rattle.std.proofs.Common.{◌≡◌, ◌∙◌, ◌==◌, ◌&&◌, ℕ, true, false, Option, None, Some, option_map, List, [], ◌∷◌, length, filter, nat_le, ap, sym}
 use Rattle.std.specs.List.{AllByRecursion}
 use Rattle.pfs_conf_values.specs.Configs.{Conf}
-use Rattle.pfs_store_contract.specs.Counts.{node_states}
 use Rattle.pfs_store_contract.specs.Purging.{is_over}
 use Rattle.pfs_store_index.specs.QuietPurges.{NodeStays}
 use Rattle.pfs_store_contract.specs.declared.records.Node.{Node}

@@ -2,7 +2,6 @@
 use Rattle.std.proofs.Common.{◌≡◌, ◌∙◌, ◌+◌, ◌-◌, ℕ, None, Option, Some, ap, arith, filter, length, subst, sym}
 use Rattle.pfs_conf_values.specs.Configs.{Conf}
 use Rattle.pfs_conf_values.specs.declared.actions.Scope.{Scope}
-use Rattle.pfs_conf_values.specs.declared.profiles.Profile.{Profile}
 use Rattle.pfs_store_contract.specs.Calls.{other_than, source_states}
 use Rattle.pfs_store_contract.specs.Handshakes.{goes_with, stays_at_kill}
 use Rattle.pfs_store_contract.specs.Leaving.{world_without}

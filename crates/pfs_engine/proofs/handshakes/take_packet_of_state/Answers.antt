@@ -1,18 +1,12 @@
 -- Answers of take_packet_of_state: the store reaches what was found after room was made; what is told, and its looks (`looks`); and under
 -- which key the packet goes on (`going`).
-use Rattle.std.proofs.Common.{◌≡◌, ◌≤◌, ◌+◌, ◌-◌, ◌∙◌, ℕ, Option, Some, ap, arith, subst, sym, true, Bool, filter, map}
+use Rattle.std.proofs.Common.{◌≡◌, ◌≤◌, ◌+◌, ◌-◌, ◌∙◌, ℕ, Some, ap, arith, subst, sym, true, filter}
 use Rattle.std.specs.Prelude.{option_map}
 use Rattle.std.specs.Option.{option_and_then}
-use Rattle.pfs_addr_values.specs.Keys.{under_key}
-use Rattle.pfs_addr_values.specs.Packets.{with_tag, PacketView}
-use Rattle.pfs_addr_values.specs.declared.packets.FlowKey.{FlowKey}
-use Rattle.pfs_addr_values.specs.declared.packets.TagNo.{TagNo}
+use Rattle.pfs_addr_values.specs.Packets.{PacketView}
 use Rattle.pfs_conf_values.specs.Configs.{Conf, options_of}
 use Rattle.pfs_store_contract.specs.Calls.{onward_key, other_than, renewal_of, source_states, state_number, world_touched}
-use Rattle.pfs_store_contract.specs.Touching.{world_after_touch}
-use Rattle.pfs_store_contract.specs.Worlds.{World, holds_number, state_numbered}
-use Rattle.pfs_store_contract.specs.declared.records.State.{State}
-use Rattle.pfs_store_contract.specs.declared.records.Touched.{Touched}
+use Rattle.pfs_store_contract.specs.Worlds.{holds_number, state_numbered}
 use Rattle.pfs_engine_machine.specs.MachineInvariants.{Rise}
 use Rattle.pfs_engine_machine.specs.Looks.{AreLooks, AreLooksBehind, states_beside}
 use Rattle.pfs_engine_machine.specs.Machine.{MachineContents, answer_of_key, held_of}

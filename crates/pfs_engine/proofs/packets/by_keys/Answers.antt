@@ -1,9 +1,8 @@
 -- Answers of by_keys: the state is made, since its keys are free (`answered`).
-use Rattle.std.proofs.Common.{◌≡◌, ◌∙◌, ◌||◌, Bool, true, false, rules, ap, sym}
-use Rattle.pfs_conf_values.specs.Configs.{Conf, translates}
-use Rattle.pfs_store_contract.specs.Admission.{is_answered, world_after_admission}
-use Rattle.pfs_store_contract.specs.Worlds.{World}
-use Rattle.pfs_engine_machine.specs.Machine.{answer_of_keys, held_of, outcome_of_new}
+use Rattle.std.proofs.Common.{◌≡◌, ◌∙◌, true, ap, sym}
+use Rattle.pfs_conf_values.specs.Configs.{translates}
+use Rattle.pfs_store_contract.specs.Admission.{world_after_admission}
+use Rattle.pfs_engine_machine.specs.Machine.{answer_of_keys, held_of}
 use Rattle.pfs_engine_machine.specs.Sides.{are_free}
 use Rattle.pfs_engine.specs.Contents.{ContentsView}
 use Rattle.pfs_engine.proofs.packets.by_keys.Goals as goal

@@ -1,9 +1,7 @@
 -- Answers of by_limits: where no limit is met, what is held is as before, so that the keys decide (`answered`, `free`).
-use Rattle.std.proofs.Common.{◌≡◌, ◌∙◌, Bool, false, true, None, Option, IfOk, OnErr, IsOk, ap, subst, sym, rules}
-use Rattle.pfs_conf_values.specs.Configs.{Conf, translates}
+use Rattle.std.proofs.Common.{◌≡◌, ◌∙◌, false, IfOk, OnErr, ap, subst, sym}
 use Rattle.pfs_store_contract.specs.Calls.{packet_limit, world_asked}
 use Rattle.pfs_store_contract.specs.Worlds.{World}
-use Rattle.pfs_store_contract.specs.declared.records.Limit.{Limit}
 use Rattle.pfs_engine_machine.specs.Machine.{MachineContents, answer_of_limits, held_of}
 use Rattle.pfs_engine_machine.specs.Sides.{are_free}
 use Rattle.pfs_engine_machine.specs.declared.events.Outcome.{Outcome}

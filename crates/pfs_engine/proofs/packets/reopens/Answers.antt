@@ -1,7 +1,6 @@
 -- Answers of reopens: the state of the packet is the one that has its number.
-use Rattle.std.proofs.Common.{◌≡◌, ◌∙◌, ap, subst, sym, true, Some, None, Option, rules}
+use Rattle.std.proofs.Common.{◌≡◌, ◌∙◌, ap, subst, sym, true, rules}
 use Rattle.std.specs.Prelude.{option_map}
-use Rattle.pfs_store_contract.specs.Touching.{reopens}
 use Rattle.pfs_store_contract.specs.Worlds.{World, holds_number, state_numbered}
 use Rattle.pfs_store_contract.specs.declared.records.State.{State}
 use Rattle.pfs_track.specs.StatePhases.{has_closed}

@@ -1,5 +1,5 @@
 -- Answers of examine_nodes: a stretch of nodes that stay, and after it one that leaves, or the end of the share.
-use Rattle.std.proofs.Common.{◌≡◌, ◌+◌, ◌==◌, ℕ, Bool, true, Option, None, Some, List, option_map, sym, subst, take, arith}
+use Rattle.std.proofs.Common.{◌≡◌, ◌==◌, ℕ, Bool, true, Option, None, Some, List, option_map, subst, take, arith}
 use Rattle.std.proofs.lemmas.Bool.{and_parts}
 use Rattle.std.proofs.lemmas.Bool.Decides.{nat_tests}
 use Rattle.pfs_conf_values.specs.Configs.{Conf}

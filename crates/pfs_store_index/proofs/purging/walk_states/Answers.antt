@@ -1,12 +1,11 @@
 -- Answers of walk_states: one stretch more, and at the end which states stay (`states`) and still wait.
-use Rattle.std.proofs.Common.{◌≡◌, ◌∙◌, ℕ, List, ap, refl, subst, ◌≤◌, filter, length, take, map, arith}
+use Rattle.std.proofs.Common.{◌≡◌, ◌∙◌, ap, refl, subst, filter, length, take, map, arith}
 use Rattle.pfs_store_contract.specs.Leaving.{node_after_leaving}
 use Rattle.pfs_store_contract.specs.Purging.{state_numbers}
 use Rattle.pfs_store_index.specs.Rounds.{states_survive, waiting}
 use Rattle.pfs_store_index.specs.Stored.{due_at, is_due}
 use Rattle.pfs_store_index.specs.Staying.{StatesHold}
 use Rattle.pfs_conf_values.specs.Configs.{Conf}
-use Rattle.pfs_store_contract.specs.declared.records.State.{State}
 use Rattle.pfs_store_contract.proofs.LeavingLaws.{retained-same}
 use Rattle.pfs_store_index.proofs.Retained.{step-nodes}
 use Rattle.pfs_store_index.proofs.Leavings.{state_number}

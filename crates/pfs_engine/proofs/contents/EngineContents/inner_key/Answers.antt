@@ -1,9 +1,8 @@
 -- Answers of EngineContents::inner_key: the state that was found on the wire is the one that has its number.
-use Rattle.std.proofs.Common.{◌≡◌, ◌∙◌, Some, ap, subst, sym}
+use Rattle.std.proofs.Common.{◌∙◌, ap, subst, sym}
 use Rattle.std.specs.Option.{option_and_then}
-use Rattle.std.specs.Prelude.{option_map}
 use Rattle.pfs_addr_values.specs.declared.packets.Dir.TheVariants as dir
-use Rattle.pfs_store_contract.specs.Calls.{onward_key, state_number}
+use Rattle.pfs_store_contract.specs.Calls.{onward_key}
 use Rattle.pfs_store_contract.specs.Worlds.{World, state_with}
 use Rattle.pfs_engine_machine.specs.MachineInvariants.{Rise}
 use Rattle.pfs_engine.specs.Contents.{ContentsView}

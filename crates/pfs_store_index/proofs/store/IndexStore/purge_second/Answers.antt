@@ -2,7 +2,6 @@
 use Rattle.std.proofs.Common.{◌≡◌, ◌+◌, ◌∙◌, ap, max, refl, true}
 use Rattle.pfs_store_contract.specs.Passages.{purged_both, purged_in}
 use Rattle.pfs_store_contract.specs.Purging.{purge}
-use Rattle.pfs_store_contract.specs.declared.records.Purged.{Purged}
 use Rattle.pfs_store_contract.proofs.Passages.{purged_with, second-done}
 use Rattle.pfs_store_index.proofs.Quieting.{second-known}
 use Rattle.pfs_store_index.proofs.store.IndexStore.purge_second.Goals as goal

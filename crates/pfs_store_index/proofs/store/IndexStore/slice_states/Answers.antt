@@ -1,8 +1,8 @@
 -- Answers of IndexStore::slice_states: the slice of the definition, up to when its states stay, its looks.
-use Rattle.std.proofs.Common.{◌≡◌, ◌∙◌, ◌≤◌, ℕ, true, List, length-take, ap, drop, length, subst, sym, take, arith, rules}
+use Rattle.std.proofs.Common.{◌≡◌, ◌∙◌, ◌≤◌, ℕ, true, List, length-take, ap, length, subst, sym, take, arith, rules}
 use Rattle.std.specs.Map.{keys_of}
 use Rattle.pfs_store_index.specs.Rounds.{waiting}
-use Rattle.pfs_store_index.specs.Stored.{IsNumbered, IsStored}
+use Rattle.pfs_store_index.specs.Stored.{IsStored}
 use Rattle.pfs_store_index.specs.Holdings.{Indexed}
 use Rattle.pfs_store_contract.specs.Purging.{is_among, round, state_numbers, state_share, state_slice}
 use Rattle.pfs_store_index.specs.QuietPurges.{SliceStays, StateStays}

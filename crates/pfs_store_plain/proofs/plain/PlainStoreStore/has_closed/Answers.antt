@@ -1,5 +1,5 @@
 -- Answer of PlainStore's has_closed: a state of the number is there.
-use Rattle.std.proofs.Common.{◌≡◌, ◌∙◌, ap}
+use Rattle.std.proofs.Common.{◌∙◌, ap}
 use Rattle.pfs_store_contract.specs.Plain.{Plain}
 use Rattle.pfs_store_contract.specs.Worlds.{holds_number}
 use Rattle.pfs_store_plain.proofs.HeldLaws.{held-found}

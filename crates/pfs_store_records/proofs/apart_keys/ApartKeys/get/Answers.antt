@@ -1,5 +1,5 @@
 -- Answer of ApartKeys::get: where nothing lies aside, nothing does for this number.
-use Rattle.std.proofs.Common.{◌≡◌, ◌∙◌, [], ap, refl, sym}
+use Rattle.std.proofs.Common.{◌∙◌, ap, sym}
 use Rattle.std.specs.BTreeMap.{is_at}
 use Rattle.std.specs.Map.{lookup}
 use Rattle.std.specs.Ordering.{nat_cmp}

@@ -1,5 +1,5 @@
 -- Answers of Nodes::change: the tally at the place that the table has is changed alone (`nodes`); where the table has none, no node is there.
-use Rattle.std.proofs.Common.{◌≡◌, ◌∙◌, ◌+◌, ◌==◌, Option, Some, ap, arith, map, option_map, refl, sym}
+use Rattle.std.proofs.Common.{◌≡◌, ◌∙◌, Option, Some, ap, map, option_map, refl, sym}
 use Rattle.std.specs.List.{find}
 use Rattle.indexmap.specs.IndexMap.{get}
 use Rattle.slab.specs.Slab.{with_value}

@@ -1,12 +1,9 @@
 -- Answers of Nodes::remove: the node is there, leaves (`nodes`), and is counted no more; all are `orderly`.
-use Rattle.std.proofs.Common.{◌≡◌, ◌∙◌, ◌+◌, ◌==◌, ap, arith, filter, sym}
-use Rattle.std.specs.BTreeMap.{is_at}
-use Rattle.std.specs.Map.{remove_entry}
-use Rattle.std.specs.Ordering.{nat_cmp}
+use Rattle.std.proofs.Common.{◌∙◌, ap, filter, sym}
 use Rattle.indexmap.specs.IndexMap.{get}
-use Rattle.pfs_store_records.specs.RecordPlaces.{NodeIsAt, number_of_node, same_source, source_of_node, tally_in, values_at}
+use Rattle.pfs_store_records.specs.RecordPlaces.{NodeIsAt, number_of_node, same_source, source_of_node, tally_in}
 use Rattle.pfs_store_records.specs.Tallies.{other_node}
-use Rattle.pfs_store_records.proofs.Ordered.{filter-removed, found, held-removed, in_none}
+use Rattle.pfs_store_records.proofs.Ordered.{found, held-removed, in_none}
 use Rattle.pfs_store_records.proofs.NodeLaws.{has_key, noted-removed, orderly, some-noted, updated-slab, updated-table}
 use Rattle.pfs_store_records.proofs.nodes.Nodes.remove.Goals as goal
 
