@@ -17,10 +17,10 @@ use pfs_conf_values::Syncookies;
 pub fn rule_breaks(draft: &Draft, text: &RuleText) -> Option<LoadRule>
     ensures { result ≡ rule_breaks draft.now text.now }
 {
-    let options = state_options(text.clauses.state);
+    let options = state_options(&text.clauses.state);
     if text.parameters.lack_proto() {
         Some(LoadRule::PortWithoutProto)
-    } else if keeps_on_block(text.verb, text.clauses.state) {
+    } else if keeps_on_block(text.verb, &text.clauses.state) {
         Some(LoadRule::StateOnBlock)
     } else if options.has_overload_alone() {
         Some(LoadRule::OverloadAlone)
@@ -91,12 +91,12 @@ pub fn text_breaks(progress: &Progress) -> Option<(LoadRule, u64)>
     }
 }
 
-fn keeps_on_block(verb: Verb, state: Option<StateClause>) -> bool
-    ensures { result ≡ keeps_on_block verb state }
+fn keeps_on_block(verb: Verb, state: &Option<StateClause>) -> bool
+    ensures { result ≡ keeps_on_block verb state.now }
 {
-    match (verb, state) {
-        (Verb::Block { .. }, Some(StateClause::Keep(_))) => true,
-        _ => false,
+    match verb {
+        Verb::Block { .. } => matches!(state, Some(StateClause::Keep(_))),
+        Verb::Match | Verb::Pass => false,
     }
 }
 

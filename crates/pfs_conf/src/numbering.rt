@@ -22,8 +22,8 @@ pub fn number_rule(draft: &mut Draft, text: &RuleText) -> Result<Rule, NoMemory>
 {
     let from = number_side(draft, text.parameters.hosts.source())?;
     let to = number_side(draft, text.parameters.hosts.destination())?;
-    let table = number_overload(draft, state_options(text.clauses.state).overload)?;
-    let action = action_of(text.verb, text.clauses.state, table);
+    let table = number_overload(draft, overload_of(&text.clauses.state))?;
+    let action = action_of(text.verb, &text.clauses.state, table);
     let flags = text.clauses.flags.unwrap_or(default_flags(&action));
     let head = text.parameters.head;
     let family = text.clauses.translation.given_family(head.family);
@@ -31,7 +31,7 @@ pub fn number_rule(draft: &mut Draft, text: &RuleText) -> Result<Rule, NoMemory>
     Ok(Rule {
         quick: head.marks.quick,
         filter,
-        came: came(text.clauses.extras),
+        came: came(&text.clauses.extras),
         tag: text.clauses.extras.tag,
         translation: text.clauses.translation,
         action,
@@ -55,8 +55,8 @@ pub fn number_anchor(draft: &mut Draft, text: &AnchorText) -> Result<Anchor, NoM
     })
 }
 
-fn came(extras: Extras) -> Came
-    ensures { result ≡ came_said extras }
+fn came(extras: &Extras) -> Came
+    ensures { result ≡ came_said extras.now }
 {
     Came {
         tagged: extras.tagged,
@@ -123,8 +123,8 @@ fn number_overload(
 }
 
 /// The options of a state clause; none without one.
-pub fn state_options(state: Option<StateClause>) -> Options
-    ensures { result ≡ state_options state }
+pub fn state_options(state: &Option<StateClause>) -> Options
+    ensures { result ≡ state_options state.now }
 {
     match state {
         None => Options::new(),
@@ -132,16 +132,35 @@ pub fn state_options(state: Option<StateClause>) -> Options
     }
 }
 
-/// A pass rule keeps state unless it says `no state`; a match rule decides nothing. (pf.conf(5), STATEFUL FILTERING)
-fn action_of(verb: Verb, state: Option<StateClause>, table: Option<TableNo>) -> Action
-    ensures { result ≡ action_of verb state table }
+/// The `overload` of a state clause, if it has one.
+fn overload_of(state: &Option<StateClause>) -> Option<OverloadText>
+    ensures { result ≡ (state_options state.now).overload }
 {
-    match (verb, state) {
-        (Verb::Match, _) => Action::Match,
-        (Verb::Block { .. }, _) => Action::Block,
-        (Verb::Pass, None) => Action::Keep(Options::new().resolved(table)),
-        (Verb::Pass, Some(StateClause::No)) => Action::Pass,
-        (Verb::Pass, Some(StateClause::Keep(options))) => Action::Keep(options.resolved(table)),
+    match state {
+        None => None,
+        Some(StateClause::No) => None,
+        Some(StateClause::Keep(options)) => options.overload,
+    }
+}
+
+/// A pass rule keeps state unless it says `no state`; a match rule decides nothing. (pf.conf(5), STATEFUL FILTERING)
+fn action_of(verb: Verb, state: &Option<StateClause>, table: Option<TableNo>) -> Action
+    ensures { result ≡ action_of verb state.now table }
+{
+    match verb {
+        Verb::Match => Action::Match,
+        Verb::Block { .. } => Action::Block,
+        Verb::Pass => passing(state, table),
+    }
+}
+
+fn passing(state: &Option<StateClause>, table: Option<TableNo>) -> Action
+    ensures { result ≡ passing state.now table }
+{
+    match state {
+        None => Action::Keep(Options::new().resolved(table)),
+        Some(StateClause::No) => Action::Pass,
+        Some(StateClause::Keep(options)) => Action::Keep(options.resolved(table)),
     }
 }
 

@@ -9,19 +9,21 @@ use Rattle.pfs_eval.specs.Blooms.{may_have}
 use Rattle.pfs_eval.specs.Entries.{Entry}
 use Rattle.pfs_eval.specs.Holdings.{AreEntriesKept, HeldEntries}
 use Rattle.pfs_eval.specs.Lengths.{IsLengthNoted}
+use Rattle.pfs_eval.specs.Signs.{AreTrueWords}
 use Rattle.pfs_eval.specs.declared.lengths.Lengths.{Lengths}
 use Rattle.pfs_eval.specs.Tables.{entries_at, entry_count}
 use Rattle.pfs_eval.proofs.OneTableChanged.{entries_at-held, entries_of}
 
 -- fewer entries are prefixes still, and their lengths are noted
-pub kept-filtered : (p : Entry → Bool) (es : List Entry) (lengths : Lengths) (words : List ℕ) → AreEntriesKept es lengths words
-    → AreEntriesKept (filter p es) lengths words
-kept-filtered p es lengths words k = record {
+pub kept-filtered : (p : Entry → Bool) (es : List Entry) (lengths : Lengths) (words signs told : List ℕ) → AreEntriesKept es lengths words signs
+    → AreTrueWords told (filter p es) → AreEntriesKept (filter p es) lengths words told
+kept-filtered p es lengths words signs told k t = record {
   networks = All-filter p (λ (x : Entry). IsNetwork x.0) es k.networks;
   long = k.long;
   on = k.on;
   noted = All-filter p (λ (x : Entry). IsLengthNoted lengths x.0) es k.noted;
   known = All-filter p (λ (x : Entry). may_have words x.0.addr x.0.bits ≡ true) es k.known;
+  told = t;
 }
 
 -- those that leave and the others are all

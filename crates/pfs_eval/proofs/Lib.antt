@@ -15,6 +15,7 @@ pub mod Routes
 pub mod SameAsked
 pub mod SameFlags
 pub mod Skipping
+pub mod Telling
 pub mod TextTables
 pub mod Translations
 pub mod Untranslated

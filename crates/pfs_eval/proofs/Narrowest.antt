@@ -2,6 +2,7 @@
 use Rattle.std.proofs.Common.{◌≡◌, ◌≢◌, ℕ, ◌+◌, ◌-◌, ◌<◌, ◌≤◌, ◌==◌, suc, Bool, true, false, not, ◌&&◌, ◌||◌, cond, nat_le, List, [], ◌∷◌, ◌++◌, Option, Some, None, refl, ap, sym, ◌∙◌, arith, subst, eq-eqb, eqb-true}
 use Rattle.std.specs.Prelude.{All, is_some, min, replicate}
 use Rattle.std.specs.Map.{lookup}
+use Rattle.std.specs.Option.{option_map}
 use Rattle.indexmap.specs.IndexMap.{insert_entry}
 use Rattle.std.proofs.lemmas.List.Elements.{All-append, All-cons, All-head, All-nil, All-tail}
 use Rattle.std.proofs.lemmas.List.{get_or-replicate}
@@ -17,6 +18,7 @@ use Rattle.pfs_eval.specs.Covering.{narrower, narrowest}
 use Rattle.pfs_eval.specs.Entries.{Entry, says_yes, answer_of, is_prefix_of, mark_at, holds_prefix}
 use Rattle.pfs_eval.specs.Holdings.{AreEntriesKept}
 use Rattle.pfs_eval.specs.Lengths.{AreLong, AreOn, IsLengthNoted, next}
+use Rattle.pfs_eval.specs.Signs.{AreTrueWords, sign_at}
 use Rattle.pfs_eval.specs.declared.lengths.Lengths.{Lengths}
 use Rattle.pfs_eval.specs.declared.entries.Mark.{Mark}
 use Rattle.pfs_eval.proofs.Known.{NotesPrefix, known-added}
@@ -76,6 +78,11 @@ lookup-holds_prefix test a n (x ∷ es) h k t =
     held_step (test x.0) (is_prefix_of a n x.0) (lookup test es) (holds_prefix es a n) x.1
     (tells-prefix test a n x.0 h (All-head (λ (y : Entry). IsNetwork y.0) x es k) t)
     (lookup-holds_prefix test a n es h (All-tail (λ (y : Entry). IsNetwork y.0) x es k) t)
+
+-- there is a mark where there is an entry
+pub mark-holds : (a : Addr) (n : ℕ) (es : List Entry) → is_some (mark_at es a n) ≡ holds_prefix es a n
+mark-holds a n [] = refl
+mark-holds a n (x ∷ es) = held_step (is_prefix_of a n x.0) (is_prefix_of a n x.0) (mark_at es a n) (holds_prefix es a n) x.1 refl (mark-holds a n es)
 
 -- ---- the narrowest entry, from the longest prefix on
 
@@ -221,17 +228,29 @@ answer-none a b es h k =
     let z : b ≡ 0 = omega arith in
     sym (ap says_yes (below-none a es (subst (λ n. AreBelow n a es) z k)))
 
+-- where there is a sign there is a mark, and where there is none there is none
+signed : (o : Option Mark) (s : Bool) → option_map (λ (m : Mark). m.negated) o ≡ Some s → (m : Mark) × (o ≡ Some m) × (m.negated ≡ s)
+signed None s e = cc
+signed (Some m) s e = (m, refl, some_same e)
+
+unsigned : (o : Option Mark) → option_map (λ (m : Mark). m.negated) o ≡ None → o ≡ None
+unsigned None e = refl
+unsigned (Some m) e = cc
+
 -- the same, by how many bits a length leaves out
 
-pub hidden-found : (a : Addr) (w hidden : ℕ) (es : List Entry) (mark : Mark) → w ≡ width_of a → hidden ≤ w
-    → AreBelow (width_of a + 1 - hidden) a es → mark_at es a (w - hidden) ≡ Some mark → not mark.negated ≡ answer_of es a
-hidden-found a w hidden es mark is within k e =
+pub hidden-found : (a : Addr) (w hidden : ℕ) (es : List Entry) (s : Bool) → w ≡ width_of a → hidden ≤ w
+    → AreBelow (width_of a + 1 - hidden) a es → sign_at es a (w - hidden) ≡ Some s → not s ≡ answer_of es a
+hidden-found a w hidden es s is within k e =
     let bits : w - hidden ≡ width_of a + 1 - hidden - 1 = omega arith in
-    answer-found a (width_of a + 1 - hidden) es mark (omega arith) k (subst (λ n. mark_at es a n ≡ Some mark) bits e)
+    let m = signed (mark_at es a (w - hidden)) s e in
+    ap not (sym m.2)
+    ∙ answer-found a (width_of a + 1 - hidden) es m.0 (omega arith) k (subst (λ n. mark_at es a n ≡ Some m.0) bits m.1)
 
 pub hidden-less : (a : Addr) (w hidden : ℕ) (es : List Entry) → w ≡ width_of a → hidden ≤ w
-    → AreBelow (width_of a + 1 - hidden) a es → mark_at es a (w - hidden) ≡ None → AreBelow (width_of a + 1 - (hidden + 1)) a es
-hidden-less a w hidden es is within k e =
+    → AreBelow (width_of a + 1 - hidden) a es → sign_at es a (w - hidden) ≡ None → AreBelow (width_of a + 1 - (hidden + 1)) a es
+hidden-less a w hidden es is within k s =
+    let e = unsigned (mark_at es a (w - hidden)) s in
     let bits : w - hidden ≡ width_of a + 1 - hidden - 1 = omega arith in
     let fewer : width_of a + 1 - hidden - 1 ≡ width_of a + 1 - (hidden + 1) = omega arith in
     subst (λ n. AreBelow n a es) fewer
@@ -299,8 +318,8 @@ none_next (V4 x) n h = get_or-replicate 34 n 33 0 (omega arith)
 none_next (V6 x) n h = get_or-replicate 130 n 129 0 (omega arith)
 
 -- without an entry no length is noted
-pub kept-none : (words : List ℕ) → AreEntriesKept [] (record { inet = replicate 34 33; inet6 = replicate 130 129 }) words
-kept-none words = record {
+pub kept-none : (words signs : List ℕ) → AreTrueWords signs [] → AreEntriesKept [] (record { inet = replicate 34 33; inet6 = replicate 130 129 }) words signs
+kept-none words signs t = record {
   networks = All-nil (λ (x : Entry). IsNetwork x.0);
   long = (refl, refl);
   on = record {
@@ -309,6 +328,7 @@ kept-none words = record {
   };
   noted = All-nil (λ (x : Entry). IsLengthNoted (record { inet = replicate 34 33; inet6 = replicate 130 129 }) x.0);
   known = All-nil (λ (x : Entry). may_have words x.0.addr x.0.bits ≡ true);
+  told = t;
 }
 
 -- that a prefix leaves out so many bits is noted, for the family of an address
@@ -345,10 +365,10 @@ still_noted old new b hidden p notes on h n few =
     omega arith
 
 -- one more entry, with its length noted
-pub kept-added : (es : List Entry) (old new : Lengths) (words more : List ℕ) (a : Addr) (n hidden : ℕ) (mark : Mark) → AreEntriesKept es old words
+pub kept-added : (es : List Entry) (old new : Lengths) (words more signs told : List ℕ) (a : Addr) (n hidden : ℕ) (mark : Mark) → AreEntriesKept es old words signs
     → IsAddr a → n ≤ width_of a → hidden ≡ width_of a - n → AreLong new → Notes old new a hidden → NotesPrefix words more a n
-    → AreEntriesKept (es ++ (network_of a n, mark) ∷ []) new more
-kept-added es old new words more a n hidden mark h k short rest long notes knows =
+    → AreTrueWords told (es ++ (network_of a n, mark) ∷ []) → AreEntriesKept (es ++ (network_of a n, mark) ∷ []) new more told
+kept-added es old new words more signs told a n hidden mark h k short rest long notes knows tells =
     let P : Entry → Type 0 = λ x. IsLengthNoted new x.0 in
     let wide = cleared_width n a in
     record {
@@ -365,4 +385,5 @@ kept-added es old new words more a n hidden mark h k short rest long notes knows
           (All-cons P (network_of a n, mark) []
           (λ m few. let fewer = new_noted (next old (cleared_addr n a) m) (next new (cleared_addr n a) m) hidden m (same_family (cleared_addr n a) a) (notes.at (cleared_addr n a) m (omega arith)) (cleared_family n a) (omega arith) in omega arith) (All-nil P));
       known = known-added es words more a n mark k h.known knows;
+      told = tells;
     }

@@ -4,6 +4,7 @@ use Rattle.pfs_addr_values.specs.Prefixes.{IsNetwork}
 use Rattle.pfs_eval.specs.Blooms.{AreKnown}
 use Rattle.pfs_eval.specs.Entries.{Entry}
 use Rattle.pfs_eval.specs.Lengths.{AreOn, AreLong, IsLengthNoted}
+use Rattle.pfs_eval.specs.Signs.{AreTrueWords}
 use Rattle.pfs_eval.specs.declared.lengths.Lengths.{Lengths}
 
 -- what a table holds: its entries in order, and how many more fit without memory
@@ -26,10 +27,12 @@ holdings tables limit = record {
   limit = limit;
 }
 
--- what the entries of a table keep: each is a prefix, its length is noted, and so is that it may be there
-pub record AreEntriesKept (entries : List Entry) (lengths : Lengths) (words : List ℕ) : Type 0 where
+-- what the entries of a table keep: each is a prefix, its length is noted, and so is that it may be there; and what is told of their
+-- signs is true
+pub record AreEntriesKept (entries : List Entry) (lengths : Lengths) (words signs : List ℕ) : Type 0 where
   pub networks : All (λ (x : Entry). IsNetwork x.0) entries
   pub long : AreLong lengths
   pub on : AreOn lengths
   pub noted : All (λ (x : Entry). IsLengthNoted lengths x.0) entries
   pub known : AreKnown words entries
+  pub told : AreTrueWords signs entries

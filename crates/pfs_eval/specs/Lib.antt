@@ -10,6 +10,7 @@ pub mod Matching
 pub mod Parameters
 pub mod RouteSteps
 pub mod Routing
+pub mod Signs
 pub mod Skips
 pub mod Tables
 pub mod Translating

@@ -1,6 +1,6 @@
 //! A Bloom filter over the prefixes of a table: most that are not there are told without a look-up.
 
-ghost use Rattle.std.specs.Prelude.{◌≡◌, ◌+◌, ◌≤◌, ◌<◌, ℕ, length, true};
+ghost use Rattle.std.specs.Prelude.{◌≡◌, ◌+◌, ◌≤◌, ◌<◌, ◌^◌, ℕ, length, true};
 ghost use Rattle.pfs_addr_values.specs.declared.addresses.Addr.{Addr};
 ghost use Rattle.pfs_addr_values.specs.declared.addresses.Addr.TheVariants.{V4};
 ghost use Rattle.pfs_addr_values.specs.Addresses.{width_of};
@@ -69,9 +69,10 @@ impl Bloom {
 
 /// The first bits of an IPv4 address, as a number.
 #[inline(always)]
-fn first_bits(bytes: [u8; 4], bits: u8) -> u64
+pub fn first_bits(bytes: [u8; 4], bits: u8) -> u64
     requires { bits ≤ 32 }
-    ensures { result ≡ first_bits bits (V4 bytes) }
+    ensures value { result ≡ first_bits bits (V4 bytes) }
+    ensures most { result < 2 ^ 32 }
 {
     u64::from(u32::from_be_bytes(bytes)) >> (32 - u32::from(bits))
 }
@@ -79,7 +80,7 @@ fn first_bits(bytes: [u8; 4], bits: u8) -> u64
 /// The hash of a prefix, of its first bits and how many they are: both are multiplied by odd constants (Fibonacci hashing).
 #[inline(always)]
 #[tactic(auto, unfolding(crate::specs::Blooms::prefix_hash))]
-fn prefix_hash(first: u64, bits: u8) -> u64
+pub fn prefix_hash(first: u64, bits: u8) -> u64
     ensures { result ≡ prefix_hash first bits }
 {
     let length = u64::from(bits).wrapping_mul(14_029_467_366_897_019_727);
@@ -91,7 +92,7 @@ fn prefix_hash(first: u64, bits: u8) -> u64
 /// The place of the word of a hash among so many: its upper half, scaled.
 #[inline(always)]
 #[tactic(auto, unfolding(crate::specs::Blooms::word_place))]
-fn word_place(hash: u64, words: usize) -> usize
+pub fn word_place(hash: u64, words: usize) -> usize
     ensures { result ≡ word_place hash words }
 {
     ((hash >> 32).wrapping_mul(words as u64) >> 32) as usize

@@ -6,10 +6,12 @@ ghost use Rattle.pfs_addr_values.specs.Prefixes.{IsNetwork, network_of};
 ghost use Rattle.pfs_eval.specs.Blooms.{AreKnown};
 ghost use Rattle.pfs_eval.specs.Holdings.{AreEntriesKept};
 ghost use Rattle.pfs_eval.specs.Entries.{AreDistinct, Entry, answer_of, entry_of_text, holds_host, holds_prefix, is_entry, mark_at, mark_of};
+ghost use Rattle.pfs_eval.specs.Signs.{AreTrueWords, sign_at};
 ghost use Rattle.pfs_eval.specs.Tables.{is_old, old_count, young};
 
 use crate::blooms::Bloom;
 use crate::lengths::Lengths;
+use crate::signs::Signs;
 use indexmap::IndexMap;
 use pfs_addr_values::{Addr, Prefix};
 use pfs_conf_values::{Entries, RulesHasher};
@@ -42,6 +44,8 @@ pub struct Table {
     lengths: Lengths,
     /// Which prefixes an entry may have. Others are not looked up.
     bloom: Bloom,
+    /// The signs of most entries of IPv4. The others are looked up in the map.
+    signs: Signs,
 }
 
 impl Model for Table {
@@ -52,7 +56,7 @@ impl Model for Table {
 
     ghost view = { λ e. record { entries = e.map.entries; spare = spare e.map } };
 
-    ghost invariant = { λ e. AreEntriesKept e.map.entries e.lengths e.bloom };
+    ghost invariant = { λ e. AreEntriesKept e.map.entries e.lengths e.bloom e.signs };
 }
 
 impl Table {
@@ -64,14 +68,25 @@ impl Table {
             map: IndexMap::with_hasher(alloc, hasher),
             lengths: Lengths::none(),
             bloom: Bloom::of_all(alloc),
+            signs: Signs::none(alloc),
         }
+    }
+
+    /// No entries, with room for so many.
+    fn with_room(alloc: Global, hasher: RulesHasher, count: usize) -> Result<Table, AllocError>
+        ensures { IfOk result (λ t. t.entries ≡ []) }
+    {
+        let mut table = Table::new(alloc, hasher);
+        table.grow(count)?;
+        table.signs = Signs::with_capacity(alloc, count)?;
+        Ok(table)
     }
 
     /// The entries that a rules text says for a table, in their order, found by this hasher.
     pub fn of(alloc: Global, hasher: RulesHasher, entries: &Entries) -> Result<Table, AllocError>
         ensures { IfOk result (λ t. t.entries ≡ map entry_of_text entries.now) }
     {
-        let mut table = Table::new(alloc, hasher);
+        let mut table = Table::with_room(alloc, hasher, entries.len())?;
         for place in 0..entries.len() {
             let (prefix, negated) = entries.at(place).unwrap();
             let mark = Mark {
@@ -89,14 +104,14 @@ impl Table {
     pub fn matches(&self, addr: Addr) -> bool
         ensures { result ≡ answer_of self.now.entries addr }
     {
-        answer(&self.map, &self.lengths, &self.bloom, addr)
+        answer(&self.map, &self.lengths, &self.bloom, &self.signs, addr)
     }
 
     /// Whether there is an entry for exactly this host, negated or not.
     pub fn holds(&self, host: Addr) -> bool
         ensures { result ≡ holds_host self.now.entries host }
     {
-        self.map.contains_key(&host.prefix(host.width()))
+        mark_at(&self.map, &self.bloom, host, host.width()).is_some()
     }
 
     /// The mark of the entry with exactly this prefix, if there is one.
@@ -122,8 +137,28 @@ impl Table {
         if self.has_room() {
             return Ok(());
         }
-        self.map.reserve(1)?;
+        self.grow(1)
+    }
+
+    /// Takes memory for so many more entries, and for a filter of as many as fit then.
+    fn grow(&mut self, more: usize) -> Result<(), AllocError>
+        ensures entries { self.new.entries ≡ self.old.entries }
+        ensures ok { OnOk result (more ≤ self.new.spare) }
+    {
+        self.map.reserve(more)?;
         self.bloom = bloom_of(&self.map)?;
+        self.grow_signs()
+    }
+
+    /// Takes memory for the signs of as many entries as fit, while these are few: those of a long list that grows are told in the room
+    /// that they have, the latest first.
+    fn grow_signs(&mut self) -> Result<(), AllocError>
+        ensures entries { self.new.entries ≡ self.old.entries }
+        ensures spare { self.new.spare ≡ self.old.spare }
+    {
+        if self.map.capacity() <= 4096 {
+            self.signs = signs_of(&self.map)?;
+        }
         Ok(())
     }
 
@@ -140,6 +175,7 @@ impl Table {
         self.map.insert(addr.prefix(bits), mark)?;
         self.lengths.note(addr, addr.width() - bits);
         self.bloom.note(addr, bits);
+        self.signs.tell(addr, bits, mark.negated);
         Ok(())
     }
 
@@ -156,6 +192,7 @@ impl Table {
                 ensures { (result ≡ not (is_old first now seconds mark.old)) × (mark.new ≡ mark.old) }
             { !is_old(*mark, first, now, seconds) },
         );
+        tell_anew(&self.map, &mut self.signs);
         (before - self.map.len()) as u64
     }
 
@@ -173,6 +210,7 @@ impl Table {
                 ensures { (result ≡ not (is_entry named (prefix.now, mark.old))) × (mark.new ≡ mark.old) }
             { !is_entry(prefix, *mark, &named) },
         );
+        tell_anew(&self.map, &mut self.signs);
         (before - self.map.len()) as u64
     }
 }
@@ -198,15 +236,16 @@ fn answer(
     map: &IndexMap<Prefix, Mark, RulesHasher>,
     lengths: &Lengths,
     bloom: &Bloom,
+    signs: &Signs,
     addr: Addr,
 ) -> bool
-    requires { AreEntriesKept map.now.entries lengths.now bloom.now }
+    requires { AreEntriesKept map.now.entries lengths.now bloom.now signs.now }
     ensures { result ≡ answer_of map.now.entries addr }
 {
     // A loop for each family: no turn asks again which it is.
     match addr {
-        Addr::V4(bytes) => answer_by_lengths(map, lengths, bloom, Addr::V4(bytes)),
-        Addr::V6(bytes) => answer_by_lengths(map, lengths, bloom, Addr::V6(bytes)),
+        Addr::V4(bytes) => answer_by_lengths(map, lengths, bloom, signs, Addr::V4(bytes)),
+        Addr::V6(bytes) => answer_by_lengths(map, lengths, bloom, signs, Addr::V6(bytes)),
     }
 }
 
@@ -215,20 +254,58 @@ fn answer_by_lengths(
     map: &IndexMap<Prefix, Mark, RulesHasher>,
     lengths: &Lengths,
     bloom: &Bloom,
+    signs: &Signs,
     addr: Addr,
 ) -> bool
-    requires { AreEntriesKept map.now.entries lengths.now bloom.now }
+    requires { AreEntriesKept map.now.entries lengths.now bloom.now signs.now }
     ensures { result ≡ answer_of map.now.entries addr }
 {
     let width = addr.width();
     let mut hidden = lengths.next(addr, 0);
     while hidden <= width {
-        if let Some(mark) = mark_at(map, bloom, addr, width - hidden) {
-            return !mark.negated;
+        if let Some(negated) = sign_at(map, bloom, signs, addr, width - hidden) {
+            return !negated;
         }
         hidden = lengths.next(addr, hidden + 1);
     }
     false
+}
+
+/// The sign of the entry that is the prefix of this address with so many bits, if there is one.
+#[inline(always)]
+fn sign_at(
+    map: &IndexMap<Prefix, Mark, RulesHasher>,
+    bloom: &Bloom,
+    signs: &Signs,
+    addr: Addr,
+    bits: u8,
+) -> Option<bool>
+    requires bits { bits ≤ width_of addr }
+    requires networks { All (λ (x : Entry). IsNetwork x.0) map.now.entries }
+    requires known { AreKnown bloom.now map.now.entries }
+    requires told { AreTrueWords signs.now map.now.entries }
+    ensures { result ≡ sign_at map.now.entries addr bits }
+{
+    if !bloom.may_have(addr, bits) {
+        return None;
+    }
+    match signs.told(addr, bits) {
+        Some(negated) => Some(negated),
+        None => sign_in(map, addr, bits),
+    }
+}
+
+/// The same, by the map alone.
+#[inline(never)]
+fn sign_in(map: &IndexMap<Prefix, Mark, RulesHasher>, addr: Addr, bits: u8) -> Option<bool>
+    requires bits { bits ≤ width_of addr }
+    requires networks { All (λ (x : Entry). IsNetwork x.0) map.now.entries }
+    ensures { result ≡ sign_at map.now.entries addr bits }
+{
+    match mark_in(map, addr, bits) {
+        Some(mark) => Some(mark.negated),
+        None => None,
+    }
 }
 
 /// The mark of the entry that is the prefix of this address with so many bits, if there is one.
@@ -247,6 +324,16 @@ fn mark_at(
     if !bloom.may_have(addr, bits) {
         return None;
     }
+    mark_in(map, addr, bits)
+}
+
+/// The same, by the map alone.
+#[inline(always)]
+fn mark_in(map: &IndexMap<Prefix, Mark, RulesHasher>, addr: Addr, bits: u8) -> Option<Mark>
+    requires bits { bits ≤ width_of addr }
+    requires networks { All (λ (x : Entry). IsNetwork x.0) map.now.entries }
+    ensures { result ≡ mark_at map.now.entries addr bits }
+{
     map.get(&addr.prefix(bits)).copied()
 }
 
@@ -260,4 +347,35 @@ fn bloom_of(map: &IndexMap<Prefix, Mark, RulesHasher>) -> Result<Bloom, AllocErr
         bloom.note(prefix.addr(), prefix.bits());
     }
     Ok(bloom)
+}
+
+/// The signs of these entries, with room for as many as the map has.
+fn signs_of(map: &IndexMap<Prefix, Mark, RulesHasher>) -> Result<Signs, AllocError>
+    requires { All (λ (x : Entry). IsNetwork x.0) map.now.entries }
+    ensures { IfOk result (λ s. AreTrueWords s map.now.entries) }
+{
+    let mut signs = Signs::with_capacity(*map.allocator(), map.capacity())?;
+    tell_all(map, &mut signs);
+    Ok(signs)
+}
+
+/// Tells the signs of these entries, and of no other.
+fn tell_anew(map: &IndexMap<Prefix, Mark, RulesHasher>, signs: &mut Signs)
+    requires { All (λ (x : Entry). IsNetwork x.0) map.now.entries }
+    ensures { AreTrueWords signs.new map.now.entries }
+{
+    signs.clear();
+    tell_all(map, signs);
+}
+
+/// Tells the sign of each entry.
+fn tell_all(map: &IndexMap<Prefix, Mark, RulesHasher>, signs: &mut Signs)
+    requires networks { All (λ (x : Entry). IsNetwork x.0) map.now.entries }
+    requires told { AreTrueWords signs.old map.now.entries }
+    ensures { AreTrueWords signs.new map.now.entries }
+{
+    for place in 0..map.len() {
+        let (prefix, mark) = map.get_index(place).unwrap();
+        signs.tell(prefix.addr(), prefix.bits(), mark.negated);
+    }
 }

@@ -9,6 +9,7 @@ mod lengths;
 mod lines;
 mod routing;
 mod rulesets;
+mod signs;
 mod skips;
 mod tables;
 mod translating;

@@ -1,14 +1,7 @@
--- Answers of mark_at: the look-up gives the mark of that prefix, and what may not be there has none.
-use Rattle.std.proofs.Common.{◌∙◌, rules, subst, sym}
+-- Answer of mark_at: what may not be there has no mark.
+use Rattle.std.proofs.Common.{◌∙◌, sym}
 use Rattle.pfs_eval.proofs.Known.{not-there}
-use Rattle.pfs_eval.proofs.Narrowest.{TellsOnly, lookup-mark_at}
 use Rattle.pfs_eval.proofs.entries.mark_at.Goals as goal
-
-pub returns : goal.returns
-returns c =
-    c.copied.ensures ∙ c.get.ensures.value
-    ∙ lookup-mark_at _ c.args.addr c.args.bits c.args.map.now.entries c.prefix.ensures.addr c.requires.networks
-    (subst (TellsOnly _) c.prefix.ensures.value (record { same = λ q h. search rules; self = search rules }))
 
 pub returns-then-not-may_have : goal.returns-then-not-may_have
 returns-then-not-may_have c =

@@ -4,6 +4,7 @@ use Rattle.pfs_addr_values.specs.Prefixes.{network_of}
 use Rattle.pfs_eval.specs.Entries.{holds_prefix}
 use Rattle.pfs_eval.specs.Holdings.{HeldEntries}
 use Rattle.pfs_eval.proofs.Narrowest.{inserted-last, kept-added}
+use Rattle.pfs_eval.proofs.Telling.{last-sign, still-true}
 use Rattle.pfs_eval.proofs.entries.Table.add.Goals as goal
 
 pub returns-clause-ok : goal.returns-clause-ok
@@ -22,4 +23,6 @@ invariant_of-self-2 c =
     ∙ inserted-last _ c.prefix.result c.args.addr c.args.bits c.args.mark _ c.prefix.ensures.value c.prefix.ensures.addr c.self.invariant.networks (record { same = λ q h. search rules; self = search rules })
     (ap (λ es. holds_prefix es c.args.addr c.args.bits) view ∙ c.requires.absent)
     in
-    rw is (kept-added _ c.self.inside.lengths _ c.self.inside.bloom c.note-2.new.self c.args.addr c.args.bits (c.width.result - c.args.bits) c.args.mark c.self.invariant c.prefix.ensures.addr c.requires.bits (ap (λ w. w - c.args.bits) c.width.ensures) c.note.ensures.long (record { at = c.note.ensures.noted }) (record { noted = c.note-2.ensures.noted; kept = c.note-2.ensures.kept }))
+    let absent = ap (λ es. holds_prefix es c.args.addr c.args.bits) view ∙ c.requires.absent in
+    let tells = c.tell.ensures _ (last-sign _ c.args.addr c.args.bits c.args.mark c.prefix.ensures.addr absent) (still-true _ (network_of c.args.addr c.args.bits, c.args.mark) _ c.self.invariant.told) in
+    rw is (kept-added _ c.self.inside.lengths _ c.self.inside.bloom c.note-2.new.self c.self.inside.signs c.tell.new.self c.args.addr c.args.bits (c.width.result - c.args.bits) c.args.mark c.self.invariant c.prefix.ensures.addr c.requires.bits (ap (λ w. w - c.args.bits) c.width.ensures) c.note.ensures.long (record { at = c.note.ensures.noted }) (record { noted = c.note-2.ensures.noted; kept = c.note-2.ensures.kept }) tells)

@@ -8,5 +8,5 @@ use Rattle.pfs_eval.proofs.entries.Table.new.Goals as goal
 
 pub invariant_of-result : goal.invariant_of-result
 invariant_of-result c =
-    subst (λ (es : List Entry). AreEntriesKept es c.none.result c.of_all.result) (sym c.with_hasher.ensures.empty)
-    (subst (λ (l : Lengths). AreEntriesKept [] l c.of_all.result) (sym c.none.ensures) (kept-none c.of_all.result))
+    subst (λ (es : List Entry). AreEntriesKept es c.none.result c.of_all.result c.none-2.result) (sym c.with_hasher.ensures.empty)
+    (subst (λ (l : Lengths). AreEntriesKept [] l c.of_all.result c.none-2.result) (sym c.none.ensures) (kept-none c.of_all.result c.none-2.result (c.none-2.ensures [])))
