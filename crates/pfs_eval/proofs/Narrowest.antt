@@ -18,7 +18,7 @@ use Rattle.pfs_eval.specs.Covering.{narrower, narrowest}
 use Rattle.pfs_eval.specs.Entries.{Entry, says_yes, answer_of, is_prefix_of, mark_at, holds_prefix}
 use Rattle.pfs_eval.specs.Holdings.{AreEntriesKept}
 use Rattle.pfs_eval.specs.Lengths.{AreLong, AreOn, IsLengthNoted, next}
-use Rattle.pfs_eval.specs.Signs.{AreTrueWords, sign_at}
+use Rattle.pfs_eval.specs.Signs.{AreTrueWords, entry_sign}
 use Rattle.pfs_eval.specs.declared.lengths.Lengths.{Lengths}
 use Rattle.pfs_eval.specs.declared.entries.Mark.{Mark}
 use Rattle.pfs_eval.proofs.Known.{NotesPrefix, known-added}
@@ -240,7 +240,7 @@ unsigned (Some m) e = cc
 -- the same, by how many bits a length leaves out
 
 pub hidden-found : (a : Addr) (w hidden : ℕ) (es : List Entry) (s : Bool) → w ≡ width_of a → hidden ≤ w
-    → AreBelow (width_of a + 1 - hidden) a es → sign_at es a (w - hidden) ≡ Some s → not s ≡ answer_of es a
+    → AreBelow (width_of a + 1 - hidden) a es → entry_sign es a (w - hidden) ≡ Some s → not s ≡ answer_of es a
 hidden-found a w hidden es s is within k e =
     let bits : w - hidden ≡ width_of a + 1 - hidden - 1 = omega arith in
     let m = signed (mark_at es a (w - hidden)) s e in
@@ -248,7 +248,7 @@ hidden-found a w hidden es s is within k e =
     ∙ answer-found a (width_of a + 1 - hidden) es m.0 (omega arith) k (subst (λ n. mark_at es a n ≡ Some m.0) bits m.1)
 
 pub hidden-less : (a : Addr) (w hidden : ℕ) (es : List Entry) → w ≡ width_of a → hidden ≤ w
-    → AreBelow (width_of a + 1 - hidden) a es → sign_at es a (w - hidden) ≡ None → AreBelow (width_of a + 1 - (hidden + 1)) a es
+    → AreBelow (width_of a + 1 - hidden) a es → entry_sign es a (w - hidden) ≡ None → AreBelow (width_of a + 1 - (hidden + 1)) a es
 hidden-less a w hidden es is within k s =
     let e = unsigned (mark_at es a (w - hidden)) s in
     let bits : w - hidden ≡ width_of a + 1 - hidden - 1 = omega arith in

@@ -9,7 +9,7 @@ use Rattle.pfs_addr_values.specs.Addresses.{IsAddr, same_family}
 use Rattle.pfs_addr_values.specs.Prefixes.{Network, covers, first_bits, network_of}
 use Rattle.pfs_addr_values.proofs.PrefixLaws.{network_covers}
 use Rattle.pfs_eval.specs.Entries.{Entry, holds_prefix, is_prefix_of, mark_at}
-use Rattle.pfs_eval.specs.Signs.{AreTrueWords, IsTrueWord, sign_at, sign_word}
+use Rattle.pfs_eval.specs.Signs.{AreTrueWords, IsTrueWord, entry_sign, sign_word}
 use Rattle.pfs_eval.specs.declared.entries.Mark.{Mark}
 
 -- ---- what a word says
@@ -56,17 +56,17 @@ same_mark x y n (z ∷ es) e = mark_step (is_prefix_of (V4 x) n z.0) (is_prefix_
     mark_step b c m o p e f = ap (λ d. cond d (Some m) o) e ∙ ap (cond c (Some m)) f
 
 -- the word of an entry tells the truth
-pub entry-true : (es : List Entry) (x : List ℕ) (n : ℕ) (s : Bool) → n ≤ 32 → sign_at es (V4 x) n ≡ Some s → IsTrueWord es (sign_word (first_bits n (V4 x)) n s)
+pub entry-true : (es : List Entry) (x : List ℕ) (n : ℕ) (s : Bool) → n ≤ 32 → entry_sign es (V4 x) n ≡ Some s → IsTrueWord es (sign_word (first_bits n (V4 x)) n s)
 unfolding IsTrueWord
 entry-true es x n s h e = λ y m t k same.
     let one = one_word (first_bits n (V4 x)) (first_bits m (V4 y)) n m s t h k same in
     let first : first_bits n (V4 x) ≡ first_bits n (V4 y) = one.0 ∙ ap (λ j. first_bits j (V4 y)) (sym one.1) in
-    ap (sign_at es (V4 y)) (sym one.1)
+    ap (entry_sign es (V4 y)) (sym one.1)
     ∙ ap (option_map (λ (m : Mark). m.negated)) (sym (same_mark x y n es first))
     ∙ e ∙ ap (λ b. Some b) one.2
 
 -- what a true word tells
-pub true-sign : (es : List Entry) (x : List ℕ) (n : ℕ) (s : Bool) → n ≤ 32 → IsTrueWord es (sign_word (first_bits n (V4 x)) n s) → sign_at es (V4 x) n ≡ Some s
+pub true-sign : (es : List Entry) (x : List ℕ) (n : ℕ) (s : Bool) → n ≤ 32 → IsTrueWord es (sign_word (first_bits n (V4 x)) n s) → entry_sign es (V4 x) n ≡ Some s
 unfolding IsTrueWord
 true-sign es x n s h t = t x n s h refl
 
@@ -77,7 +77,7 @@ sign_step : (b : Bool) (m : Mark) (o p : Option Mark) (s : Bool) → (option_map
 sign_step true m o p s i e = e
 sign_step false m o p s i e = i e
 
-sign_kept : (es : List Entry) (x : Entry) (a : Addr) (n : ℕ) (s : Bool) → sign_at es a n ≡ Some s → sign_at (es ++ x ∷ []) a n ≡ Some s
+sign_kept : (es : List Entry) (x : Entry) (a : Addr) (n : ℕ) (s : Bool) → entry_sign es a n ≡ Some s → entry_sign (es ++ x ∷ []) a n ≡ Some s
 sign_kept [] x a n s e = cc
 sign_kept (z ∷ es) x a n s e =
     sign_step (is_prefix_of a n z.0) z.1 (mark_at es a n) (mark_at (es ++ x ∷ []) a n) s (sign_kept es x a n s) e
@@ -97,7 +97,7 @@ last_step false t m o s e i = i e
 
 -- the sign of an entry that was not there, and is now the last
 pub last-sign : (es : List Entry) (a : Addr) (n : ℕ) (mark : Mark) → IsAddr a → holds_prefix es a n ≡ false
-    → sign_at (es ++ (network_of a n, mark) ∷ []) a n ≡ Some mark.negated
+    → entry_sign (es ++ (network_of a n, mark) ∷ []) a n ≡ Some mark.negated
 last-sign [] a n mark h e =
     let own : is_prefix_of a n (network_of a n) ≡ true = ap (λ b. b && covers (network_of a n) a) (eq-eqb n n refl) ∙ network_covers a n h in
     ap (λ b. option_map (λ (k : Mark). k.negated) (cond b (Some mark) None)) own
@@ -107,12 +107,12 @@ last-sign (z ∷ es) a n mark h e =
 -- ---- what is asked of a prefix
 
 pub told-sign : (es : List Entry) (a : Addr) (x : List ℕ) (n first : ℕ) (o : Option Bool) → a ≡ V4 x → n ≤ 32 → first ≡ first_bits n (V4 x)
-    → IfSome o (λ s. IsTrueWord es (sign_word first n s)) → IfSome o (λ s. sign_at es a n ≡ Some s)
+    → IfSome o (λ s. IsTrueWord es (sign_word first n s)) → IfSome o (λ s. entry_sign es a n ≡ Some s)
 told-sign es a x n first None is h f t = tt
 told-sign es a x n first (Some s) is h f t =
-    subst (λ b. sign_at es b n ≡ Some s) (sym is) (true-sign es x n s h (subst (λ k. IsTrueWord es (sign_word k n s)) f t))
+    subst (λ b. entry_sign es b n ≡ Some s) (sym is) (true-sign es x n s h (subst (λ k. IsTrueWord es (sign_word k n s)) f t))
 
 pub entry-word : (es : List Entry) (a : Addr) (x : List ℕ) (n first : ℕ) (s : Bool) → a ≡ V4 x → n ≤ 32 → first ≡ first_bits n (V4 x)
-    → sign_at es a n ≡ Some s → IsTrueWord es (sign_word first n s)
+    → entry_sign es a n ≡ Some s → IsTrueWord es (sign_word first n s)
 entry-word es a x n first s is h f e =
-    subst (λ k. IsTrueWord es (sign_word k n s)) (sym f) (entry-true es x n s h (subst (λ b. sign_at es b n ≡ Some s) is e))
+    subst (λ k. IsTrueWord es (sign_word k n s)) (sym f) (entry-true es x n s h (subst (λ b. entry_sign es b n ≡ Some s) is e))

@@ -6,7 +6,7 @@ ghost use Rattle.pfs_addr_values.specs.Prefixes.{IsNetwork, network_of};
 ghost use Rattle.pfs_eval.specs.Blooms.{AreKnown};
 ghost use Rattle.pfs_eval.specs.Holdings.{AreEntriesKept};
 ghost use Rattle.pfs_eval.specs.Entries.{AreDistinct, Entry, answer_of, entry_of_text, holds_host, holds_prefix, is_entry, mark_at, mark_of};
-ghost use Rattle.pfs_eval.specs.Signs.{AreTrueWords, sign_at};
+ghost use Rattle.pfs_eval.specs.Signs.{AreTrueWords, entry_sign};
 ghost use Rattle.pfs_eval.specs.Tables.{is_old, old_count, young};
 
 use crate::blooms::Bloom;
@@ -263,7 +263,7 @@ fn answer_by_lengths(
     let width = addr.width();
     let mut hidden = lengths.next(addr, 0);
     while hidden <= width {
-        if let Some(negated) = sign_at(map, bloom, signs, addr, width - hidden) {
+        if let Some(negated) = entry_sign(map, bloom, signs, addr, width - hidden) {
             return !negated;
         }
         hidden = lengths.next(addr, hidden + 1);
@@ -273,7 +273,7 @@ fn answer_by_lengths(
 
 /// The sign of the entry that is the prefix of this address with so many bits, if there is one.
 #[inline(always)]
-fn sign_at(
+fn entry_sign(
     map: &IndexMap<Prefix, Mark, RulesHasher>,
     bloom: &Bloom,
     signs: &Signs,
@@ -284,7 +284,7 @@ fn sign_at(
     requires networks { All (λ (x : Entry). IsNetwork x.0) map.now.entries }
     requires known { AreKnown bloom.now map.now.entries }
     requires told { AreTrueWords signs.now map.now.entries }
-    ensures { result ≡ sign_at map.now.entries addr bits }
+    ensures { result ≡ entry_sign map.now.entries addr bits }
 {
     if !bloom.may_have(addr, bits) {
         return None;
@@ -300,7 +300,7 @@ fn sign_at(
 fn sign_in(map: &IndexMap<Prefix, Mark, RulesHasher>, addr: Addr, bits: u8) -> Option<bool>
     requires bits { bits ≤ width_of addr }
     requires networks { All (λ (x : Entry). IsNetwork x.0) map.now.entries }
-    ensures { result ≡ sign_at map.now.entries addr bits }
+    ensures { result ≡ entry_sign map.now.entries addr bits }
 {
     match mark_in(map, addr, bits) {
         Some(mark) => Some(mark.negated),

@@ -3,7 +3,7 @@
 ghost use Rattle.std.specs.Prelude.{◌≡◌, ◌≤◌, ◌<◌, ◌^◌, All, IfOk, IfSome, IsTrue, List, Some, if◌then◌else◌};
 ghost use Rattle.pfs_addr_values.specs.Addresses.{width_of};
 ghost use Rattle.pfs_eval.specs.Entries.{Entry};
-ghost use Rattle.pfs_eval.specs.Signs.{AreTrueWords, IsTrueWord, sign_at, sign_word};
+ghost use Rattle.pfs_eval.specs.Signs.{AreTrueWords, IsTrueWord, entry_sign, sign_word};
 
 use crate::blooms::{first_bits, prefix_hash, word_place};
 use pfs_addr_values::Addr;
@@ -47,7 +47,7 @@ impl Signs {
     #[inline(always)]
     pub fn told(&self, addr: Addr, bits: u8) -> Option<bool>
         requires { bits ≤ width_of addr }
-        ensures { (es : List Entry) → AreTrueWords self.now es → IfSome result (λ s. sign_at es addr bits ≡ Some s) }
+        ensures { (es : List Entry) → AreTrueWords self.now es → IfSome result (λ s. entry_sign es addr bits ≡ Some s) }
     {
         match addr {
             Addr::V4(bytes) => told_by(&self.words, first_bits(bytes, bits), bits),
@@ -58,7 +58,7 @@ impl Signs {
     /// Tells the sign of the entry that is the prefix of this address with so many bits, perhaps in place of another's.
     pub fn tell(&mut self, addr: Addr, bits: u8, negated: bool)
         requires { bits ≤ width_of addr }
-        ensures { (es : List Entry) → sign_at es addr bits ≡ Some negated → AreTrueWords self.old es → AreTrueWords self.new es }
+        ensures { (es : List Entry) → entry_sign es addr bits ≡ Some negated → AreTrueWords self.old es → AreTrueWords self.new es }
     {
         if let Addr::V4(bytes) = addr {
             tell_by(&mut self.words, first_bits(bytes, bits), bits, negated);

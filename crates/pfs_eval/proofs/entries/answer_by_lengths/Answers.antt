@@ -14,7 +14,7 @@ loop-hidden-init c =
 pub returns-in-Some : goal.returns-in-Some
 returns-in-Some c =
     hidden-found c.args.addr c.width-width.result c.loop-hidden.hidden c.args.map.now.entries c.in-Some.negated c.width-width.ensures c.loop-hidden-test.true
-    c.loop-hidden.invariant.1 (sym c.sign_at.ensures ∙ c.in-Some.is)
+    c.loop-hidden.invariant.1 (sym c.entry_sign.ensures ∙ c.in-Some.is)
 
 pub loop-hidden-preserved : goal.loop-hidden-preserved
 loop-hidden-preserved c =
@@ -22,7 +22,7 @@ loop-hidden-preserved c =
     let es = c.args.map.now.entries in
     let n = c.loop-hidden.hidden + 1 in
     let fewer = hidden-less a c.width-width.result c.loop-hidden.hidden es c.width-width.ensures c.loop-hidden-test.true
-    c.loop-hidden.invariant.1 (sym c.sign_at.ensures ∙ c.in_default.is) in
+    c.loop-hidden.invariant.1 (sym c.entry_sign.ensures ∙ c.in_default.is) in
     let within : n ≤ width_of a + 1 = omega arith in
     rw c.next-hidden-in-loop-hidden.ensures
     (c.requires.on.most a n within, next-below c.args.lengths.now a n es c.requires.noted fewer)

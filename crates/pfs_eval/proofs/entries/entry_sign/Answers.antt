@@ -1,9 +1,9 @@
--- Answers of sign_at: what may not be there has no sign.
+-- Answers of entry_sign: what may not be there has no sign.
 use Rattle.std.proofs.Common.{ap, sym, ◌∙◌}
 use Rattle.std.specs.Option.{option_map}
 use Rattle.pfs_eval.specs.declared.entries.Mark.{Mark}
 use Rattle.pfs_eval.proofs.Known.{not-there}
-use Rattle.pfs_eval.proofs.entries.sign_at.Goals as goal
+use Rattle.pfs_eval.proofs.entries.entry_sign.Goals as goal
 
 pub returns-then-not-may_have : goal.returns-then-not-may_have
 returns-then-not-may_have c =
