@@ -177,6 +177,12 @@ class Fates(FolderCase):
                 seen,
             )
 
+    def test_drawn_that_differed(self) -> None:
+        """A kill between a cookie and the packet that brings it; a cookie of a connection that was let in elsewhere."""
+        for seed in (549, 1947):
+            with self.subTest(seed=seed):
+                self.assertIn("removed", self.check(seed))
+
     def test_a_port_of_udp_used_again(self) -> None:
         """After 4 minutes without a packet and without a state a packet begins another connection."""
         ends, back = "udp,198.51.100.1,5000,192.0.2.1,53,", "udp,192.0.2.1,53,198.51.100.1,5000,"
