@@ -357,7 +357,8 @@ class Connections:
         flow, word = pair.flow, reply.word
         side = (place[0] == "in") is is_low
         is_proxied = word == "proxy" and may_be_made(place[0], flags)
-        is_made = word == "proxy" and (is_proxied or side not in pair.states)  # by a SYN, or by what brought its cookie
+        # by a SYN, or by a packet that brought a cookie
+        is_made = is_proxied or word == "proxy" and place[0] == "in" and side not in pair.states
         if word not in ("state", "proxy", "cookie") or is_made or flow and flow.is_made_by(side, word, is_low):
             self._note_state(pair, side, reply, is_low)
         elif word == "state" and flow is not None and flow.is_answered and "S" not in flags:

@@ -206,7 +206,7 @@ class Reading:
         inner, outer = packet.way()
         mine = [it for it in self.states if (it.protocol, it.inner, it.outer) == (packet.protocol, inner, outer)]
         # what brings a cookie makes the state: it may have been taken for made at the SYN, and killed since
-        is_redeemed = packet.word == "proxy" and all(it.rule == "-" for it in mine)
+        is_redeemed = packet.word == "proxy" and packet.place[0] == "in" and all(it.rule == "-" for it in mine)
         if packet.word == "new" or packet.is_answered_by_pf() or is_redeemed:
             self.states = [it for it in self.states if it not in mine] + [
                 State(packet.protocol, inner, outer, packet.rule, packet.source[0])
