@@ -23,9 +23,8 @@ fn is_word_byte(b: u8) -> bool
     ensures { result ≡ is_word_byte b }
 {
     match b {
-        b'{' | b'}' | b'(' | b')' | b'<' | b'>' | b',' | b'!' | b'=' => false,
-        b'#' | b'"' | b'\\' => false,
-        33..=126 => true,
+        b']'..=b'z' | b'-'..=b';' | b'?'..=b'[' => true,
+        b'$'..=b'\'' | b'*' | b'+' | b'|' | b'~' => true,
         _ => false,
     }
 }

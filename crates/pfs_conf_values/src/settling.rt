@@ -16,54 +16,40 @@ pub fn settle_items(profile: Profile, items: &mut [Item])
     ensures { items.new ≡ settled_items profile items.old }
 {
     for item in items.iter_mut() {
-        *item = settled_item(profile, *item);
+        settle_item(profile, item);
     }
 }
 
-fn settled_item(profile: Profile, item: Item) -> Item
-    ensures { result ≡ settled_item profile item }
+fn settle_item(profile: Profile, item: &mut Item)
+    ensures { item.new ≡ settled_item profile item.old }
 {
-    Item {
-        what: settled_kind(profile, item.what),
-        ..item
-    }
+    settle_kind(profile, &mut item.what);
 }
 
-fn settled_kind(profile: Profile, what: ItemKind) -> ItemKind
-    ensures { result ≡ settled_kind profile what }
+fn settle_kind(profile: Profile, what: &mut ItemKind)
+    ensures { what.new ≡ settled_kind profile what.old }
 {
     match what {
-        ItemKind::Rule(rule) => ItemKind::Rule(Rule {
-            action: settled_action(profile, rule.action),
-            ..rule
-        }),
-        ItemKind::Anchor(anchor) => ItemKind::Anchor(anchor),
+        ItemKind::Rule(rule) => settle_action(profile, &mut rule.action),
+        ItemKind::Anchor(_) => {}
     }
 }
 
-fn settled_action(profile: Profile, action: Action) -> Action
-    ensures { result ≡ settled_action profile action }
+fn settle_action(profile: Profile, action: &mut Action)
+    ensures { action.new ≡ settled_action profile action.old }
 {
     match action {
-        Action::Match => Action::Match,
-        Action::Block => Action::Block,
-        Action::Pass => Action::Pass,
-        Action::Keep(options) => Action::Keep(settled_options(profile, options)),
+        Action::Match | Action::Block | Action::Pass => {}
+        Action::Keep(options) => settle_options(profile, options),
     }
 }
 
-fn settled_options(profile: Profile, options: StateOptions) -> StateOptions
-    ensures { result ≡ settled_options profile options }
+fn settle_options(profile: Profile, options: &mut StateOptions)
+    ensures { options.new ≡ settled_options profile options.old }
 {
     match profile {
-        Profile::Own => StateOptions {
-            sloppy: false,
-            ..options
-        },
-        Profile::OpenBsd74 => StateOptions {
-            timeouts: paired(options.max, options.timeouts),
-            ..options
-        },
+        Profile::Own => options.sloppy = false,
+        Profile::OpenBsd74 => options.timeouts = paired(options.max, options.timeouts),
     }
 }
 
