@@ -1,5 +1,5 @@
 -- The fields of a packet, and that its ports are 0 unless its protocol has ports.
-use Rattle.std.specs.Prelude.{ℕ, List, Option, Some, None, Bool, false, is_some, ◌≡◌}
+use Rattle.std.specs.Prelude.{ℕ, List, Option, Some, Bool, false, is_some, ◌≡◌}
 use Rattle.pfs_addr_values.specs.Protocols.{has_ports}
 use Rattle.pfs_addr_values.specs.declared.protocols.Proto.{Proto}
 use Rattle.pfs_addr_values.specs.declared.flag_sets.Flags.{Flags}

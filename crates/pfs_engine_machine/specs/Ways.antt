@@ -1,6 +1,6 @@
 -- The whole way of a record: with routes a packet is asked where it comes in, and, if that lets it go on, where it leaves. Each is one
 -- event of the machine. (pf(4) has a state at each interface; `set route` is own)
-use Rattle.std.specs.Prelude.{ℕ, ◌≡◌, ◌++◌, ◌⊎◌, Bool, if◌then◌else◌, Option, Some, None, option_map, List, [], ◌∷◌, true}
+use Rattle.std.specs.Prelude.{ℕ, ◌≡◌, ◌++◌, ◌⊎◌, if◌then◌else◌, Option, Some, None, option_map, List, [], ◌∷◌, true}
 use Rattle.std.specs.Option.{option_and_then}
 use Rattle.pfs_addr_values.specs.Keys.{key_of, under_key}
 use Rattle.pfs_addr_values.specs.Packets.{PacketView, through}

@@ -1,6 +1,6 @@
 -- The source nodes, each with the counts of its states, by rising number. (pf.conf(5), STATEFUL TRACKING OPTIONS; the
 -- counts are own)
-use Rattle.std.specs.Prelude.{◌≡◌, ℕ, ◌==◌, ◌&&◌, not, Bool, true, if◌then◌else◌, List, filter, length, map, slice_index}
+use Rattle.std.specs.Prelude.{◌≡◌, ℕ, ◌==◌, ◌&&◌, not, Bool, true, if◌then◌else◌, List, map, slice_index}
 use Rattle.std.specs.List.{IsDistinct, list_any}
 use Rattle.pfs_addr_values.specs.declared.addresses.Addr.{Addr}
 use Rattle.pfs_store_contract.specs.Counts.{is_node}
