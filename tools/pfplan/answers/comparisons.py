@@ -2,7 +2,7 @@
 
 import contextlib
 from collections import Counter
-from collections.abc import Callable, Iterator, Sequence
+from collections.abc import Callable, Collection, Iterator, Sequence
 from dataclasses import asdict, dataclass, field, replace
 from itertools import groupby
 from pathlib import Path
@@ -18,6 +18,7 @@ from pfplan.answers.timelines import Timeline, timeline_of
 from pfplan.common.networks import Network
 from pfplan.common.progress import Progress
 from pfplan.pf.reading_canonical_text import flushes_of, items_of
+from pfplan.pf.routes import Routes
 from pfplan.replays.runs import records_of, replayed, show_rules
 from pfplan.traces.entries import mark_of
 from pfplan.traces.insertions import HeldCounts, asking
@@ -294,14 +295,19 @@ def compare(
     found = Comparison(
         trace.name, users, list(names), measures, against, wanted.moments, lines, effects=pairs.effects
     )
-    found.doubts = of_routes(names, [it.routes for it in flushes])
-    seen = interfaces_in(trace)
-    for name, items, it in zip(names, rules, flushes):
-        doubts = [*of_interfaces(items, seen, (), it.routes.interfaces), *of_tags(items, it.routes)]
-        doubts += of_translation(items, seen, it.routes)
-        found.doubts += [f"{name}: {why}" for why in doubts]
+    routes = [it.routes for it in flushes]
+    found.doubts = [*of_routes(names, routes), *_doubts(names, rules, routes, interfaces_in(trace))]
     found.doubts += of_users(users, measures[0].connections)
     return found
+
+
+def _doubts(
+    names: Sequence[str], rules: Sequence[Sequence[str]], routes: Sequence[Routes], seen: Collection[str]
+) -> Iterator[str]:
+    """What is in doubt of each ruleset, by its name, where records are seen on these interfaces."""
+    for name, items, it in zip(names, rules, routes):
+        doubts = [*of_interfaces(items, seen, (), it.interfaces), *of_tags(items, it), *of_translation(items, seen, it)]
+        yield from (f"{name}: {why}" for why in doubts)
 
 
 def _against(pairs: Pairs, fates: Fates, lines_of: Sequence[Sequence[str]]) -> list[Against]:

@@ -55,11 +55,11 @@ def events(trace: Path, report: Path, wanted: Callable[[Record], bool]) -> Itera
             row += 1
             try:
                 record = read_record(line)
-                if not wanted(record):
-                    continue
-                answer = read_answer(text)
+                answer = read_answer(text) if wanted(record) else None
             except ValueError as error:
                 raise Trouble(f"{trace}: row {row}: {error}", Status.REFUSED) from None
+            if answer is None:
+                continue
             if isinstance(answer, End) or answer.row != row:
                 raise Trouble(
                     f"{report}: line {row}: no answer to the record of this row: it is not the report of {trace}",

@@ -188,10 +188,7 @@ def measure_margins(
     entries: Sequence[str] = (),
 ) -> Margins:
     """Replays the rules as they are and under each change. `names` are those of trace and rules in what is told, and
-    `entries` come by records.
-
-    Trouble as the program's.
-    """
+    `entries` come by records. Trouble as the program's."""
     text = RulesText(rules)
     subject = Subject(text, trace if is_scenario(trace) else None)
     if not where.is_here:

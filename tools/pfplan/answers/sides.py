@@ -83,14 +83,7 @@ def follow(
     picks = Picks(users)
     for lines in Traces(trace).blocks():
         for side in sides:
-            side.texts = side.answers.take(list(islice(side.report, len(lines))))
-            if len(side.texts) != len(lines):
-                raise Trouble(
-                    f"{trace}: row {row + len(side.texts) + 1}: the trace has more records than the report of "
-                    f"{side.name}",
-                    Status.REFUSED,
-                )
-            _note_limits(side, row, lines)
+            _take_answers(side, trace, row, lines)
         if users:
             last = _moment_of(lines[-1])
             for side in sides:
@@ -160,6 +153,17 @@ def common_text(network: Network) -> str:
 
 def _pass_over(begin: int, outcome: str) -> None:
     """Nothing is counted by moment here."""
+
+
+def _take_answers(side: Side, trace: Path, row: int, lines: Sequence[str]) -> None:
+    """Reads what the report says of the lines behind a row. Trouble where it ends before them."""
+    side.texts = side.answers.take(list(islice(side.report, len(lines))))
+    if len(side.texts) != len(lines):
+        raise Trouble(
+            f"{trace}: row {row + len(side.texts) + 1}: the trace has more records than the report of {side.name}",
+            Status.REFUSED,
+        )
+    _note_limits(side, row, lines)
 
 
 def _note_limits(side: Side, row: int, lines: Sequence[str]) -> None:

@@ -248,23 +248,26 @@ def summary_of(answers: Answers, moments: Moments | None, shown: list[str], want
     if wanted.users:
         summary.users = _users(moments, wanted.users)
     if rules:
-        named = {name for it in rules for name in _interfaces(it)}
-        if LOCAL in moments.onward:
-            moments.onward |= redirected_to(rules, routes_of(shown))
-        summary.interfaces = Interfaces(
-            sorted(named - moments.interfaces - moments.onward),
-            sorted(moments.interfaces - named) if named else [],
-        )
-        if not summary.has_routes:
-            summary.forwarding = forwarding_in(rules, moments.interfaces, wanted.origins.skipped)
-        summary.doubts += of_interfaces(rules, moments.interfaces, wanted.origins.skipped, moments.onward)
-        summary.doubts += of_directions(rules, moments.connections.begun)
-        summary.doubts += of_tags(rules, routes_of(shown))
-        summary.doubts += of_translation(rules, moments.interfaces, routes_of(shown))
-        summary.doubts += of_ways(moments.twice)
+        _hold_beside_rules(summary, moments, shown, wanted)
     if summary.users:
         summary.doubts += of_users(summary.users.of, summary.users.connections)
     return summary
+
+
+def _hold_beside_rules(summary: Summary, moments: Moments, shown: list[str], wanted: Wanted) -> None:
+    """Says of the summary where rules and records name other interfaces, what is forwarded, and what is in doubt."""
+    rules, routes, seen = summary.rules, routes_of(shown), moments.interfaces
+    named = {name for it in rules for name in _interfaces(it)}
+    if LOCAL in moments.onward:
+        moments.onward |= redirected_to(rules, routes)
+    summary.interfaces = Interfaces(sorted(named - seen - moments.onward), sorted(seen - named) if named else [])
+    if not summary.has_routes:
+        summary.forwarding = forwarding_in(rules, seen, wanted.origins.skipped)
+    summary.doubts += of_interfaces(rules, seen, wanted.origins.skipped, moments.onward)
+    summary.doubts += of_directions(rules, moments.connections.begun)
+    summary.doubts += of_tags(rules, routes)
+    summary.doubts += of_translation(rules, seen, routes)
+    summary.doubts += of_ways(moments.twice)
 
 
 def _users(moments: Moments, users: Sequence[Network]) -> Users:

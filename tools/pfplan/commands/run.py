@@ -77,6 +77,15 @@ def add_arguments(parser: Parser) -> None:
     )
     add_users(parser, "the networks of the users: says who of them was served")
     add_capture_words(parser)
+    _add_words_of_the_answer(parser)
+    parser.add_argument("--partial", action="store_true", help="takes a capture that is cut at its end, up to there")
+    add_check(parser, "fewer of the users are served than --want, an answer turns over (--margins), or is in doubt")
+    add_machine_words(parser)
+    add_rule_words(parser)
+
+
+def _add_words_of_the_answer(parser: Parser) -> None:
+    """What is told, and how much of it."""
     parser.add_argument(
         "--zero", action="store_true", help="moments of the capture count from that of its first record"
     )
@@ -100,10 +109,6 @@ def add_arguments(parser: Parser) -> None:
         metavar="SHARE",
         help="of the users' connections: with as many served the answer is a good one (99%%)",
     )
-    parser.add_argument("--partial", action="store_true", help="takes a capture that is cut at its end, up to there")
-    add_check(parser, "fewer of the users are served than --want, an answer turns over (--margins), or is in doubt")
-    add_machine_words(parser)
-    add_rule_words(parser)
 
 
 def run(arguments: argparse.Namespace) -> int:

@@ -51,6 +51,17 @@ def add_arguments(parser: Parser) -> None:
         "./pfsrc show prints it",
     )
     add_users(parser, "the networks of the users (with --trace)")
+    _add_words_of_the_answer(parser)
+    parser.add_argument("--json", action="store_true", help="for machines")
+    parser.add_argument(
+        "--partial", action="store_true", help="takes a report without its last line, as a fault in the trace leaves it"
+    )
+    parser.add_argument("--out", type=output, metavar="FILE", help="where the summary goes (standard output)")
+    add_rule_words(parser)
+
+
+def _add_words_of_the_answer(parser: Parser) -> None:
+    """How much is told."""
     parser.add_argument(
         "--held",
         type=number(1, 10_000),
@@ -68,12 +79,6 @@ def add_arguments(parser: Parser) -> None:
         help="seconds in a step of the series (so that there are at most 120)",
     )
     parser.add_argument("--top", type=number(1, 1000), metavar="N", default=5, help="how many sources are named (5)")
-    parser.add_argument("--json", action="store_true", help="for machines")
-    parser.add_argument(
-        "--partial", action="store_true", help="takes a report without its last line, as a fault in the trace leaves it"
-    )
-    parser.add_argument("--out", type=output, metavar="FILE", help="where the summary goes (standard output)")
-    add_rule_words(parser)
 
 
 def run(arguments: argparse.Namespace) -> int:

@@ -118,14 +118,18 @@ def run(arguments: argparse.Namespace) -> int:
         taken = ways.taken() if ways else None
         summaries = [_summary(it, arguments, account, taken) for it in watched]
         if arguments.into:
-            for it, summary, name in zip(watched, summaries, names, strict=True):
-                subject = Subject(str(it.path), TRACE, it.ruleset.leftovers, it.ruleset.notes)
-                write_answer(it.folder, summary, subject, arguments.into / name)
+            _write_answers(watched, summaries, [arguments.into / it for it in names])
     if not watch.is_unseen:
         _tell(arguments, watched, names, summaries)
     has_networks = any(it.has_networks for it in seen)
     account += [*by_networks(account, seen), *(taken.notes() if taken else [])]
     return _end(watch, account, trouble, has_inside=has_networks)
+
+
+def _write_answers(watched: Sequence[Watched], summaries: Sequence[Summary], places: Sequence[Path]) -> None:
+    """Writes the page and the summary of each ruleset, which will stand in these folders."""
+    for it, summary, place in zip(watched, summaries, places, strict=True):
+        write_answer(it.folder, summary, Subject(str(it.path), TRACE, it.ruleset.leftovers, it.ruleset.notes), place)
 
 
 def _ways(watched: Sequence[Watched], seen: Sequence[Seen]) -> Ways | None:

@@ -157,18 +157,7 @@ def page_of(found: Agreement, hider: Hider, differences: str, top: int) -> str:
     is_good = found.count(Verdict.DIFFERS) == 0 if found.compared else None
     counts = [f"{head}: {counted(found.count(verdict), 'packet')}" for verdict, head in HEADS.items()]
     heads = [tag("h1", title), soft(span(found)), soft(found.profile.told())]
-    parts: list[Child] = [*heads, answer(headline(found), is_good, bullets(counts))]
-    for verdict, head in HEADS.items():
-        rows = [row for kind, pairs in found.kinds(verdict).items() for row in _rows(kind, pairs)]
-        if rows:
-            parts.append(
-                section(f"{head.capitalize()}, by kind", table(["kind", "pf", "pfsrc", "packets"], rows, "tssn"))
-            )
-    refusals: list[Sequence[Child]] = [[pf, ours, f"{count:,}"] for (pf, ours), count in found.refusals().items()]
-    if refusals:
-        parts.append(
-            section("Refused by a limit, by one of the two", table(["pf", "pfsrc", "packets"], refusals, "ssn"))
-        )
+    parts: list[Child] = [*heads, answer(headline(found), is_good, bullets(counts)), *_tables(found)]
     if found.differences[:top]:
         parts.append(
             section(
@@ -193,6 +182,17 @@ def page_of(found: Agreement, hider: Hider, differences: str, top: int) -> str:
         tag("footer", "Made by pfplan, which is tested and not proved. The replay is that of the proved program pfsrc.")
     )
     return document(title, parts)
+
+
+def _tables(found: Agreement) -> Iterator[Child]:
+    """What was found, by kind, and what a limit refused."""
+    for verdict, head in HEADS.items():
+        rows = [row for kind, pairs in found.kinds(verdict).items() for row in _rows(kind, pairs)]
+        if rows:
+            yield section(f"{head.capitalize()}, by kind", table(["kind", "pf", "pfsrc", "packets"], rows, "tssn"))
+    refusals: list[Sequence[Child]] = [[pf, ours, f"{count:,}"] for (pf, ours), count in found.refusals().items()]
+    if refusals:
+        yield section("Refused by a limit, by one of the two", table(["pf", "pfsrc", "packets"], refusals, "ssn"))
 
 
 def _rows(kind: str, pairs: dict[tuple[str, str], int]) -> Iterator[Sequence[Child]]:

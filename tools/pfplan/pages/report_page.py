@@ -235,25 +235,7 @@ def missing_parts(subject: Subject) -> Iterator[Child]:
 
 def answer_of(summary: Summary, subject: Subject) -> Markup:
     """The answer: users served, refused and killed, by which limit, and when."""
-    points: list[Child] = list(fate_points(summary))
-    points.extend(limit_points(summary))
-    if does_fill_decide(summary):
-        points.append(TWO_STATES)
-    points.append(held_point(summary))
-    points.extend(way_lines(summary))
-    points.extend(skipped_lines(summary))
-    points.extend(removed_lines(summary))
-    points.extend(frame_lines(summary.frames) if summary.frames else ())
-    doubts = [it for it in subject.leftovers if it.changes_answer]
-    if doubts:
-        points.append(
-            join(
-                [
-                    tag("strong", f"{counted(len(doubts), 'thing')} left out of the pf.conf can change this answer"),
-                    "; see below.",
-                ]
-            )
-        )
+    points = list(answer_points(summary, subject))
     users = summary.users
     if users is None:
         return answer(
@@ -276,6 +258,23 @@ def answer_of(summary: Summary, subject: Subject) -> Markup:
     wanted = soft(f"Users: {users.of}; wanted: at least {float(100 * subject.want):g} % served")
     is_good = served >= subject.want * users.counted and not summary.doubts
     return answer(headline, is_good, bullets(points), wanted)
+
+
+def answer_points(summary: Summary, subject: Subject) -> Iterator[Child]:
+    """What stands below the headline of the answer."""
+    yield from fate_points(summary)
+    yield from limit_points(summary)
+    if does_fill_decide(summary):
+        yield TWO_STATES
+    yield held_point(summary)
+    yield from way_lines(summary)
+    yield from skipped_lines(summary)
+    yield from removed_lines(summary)
+    yield from frame_lines(summary.frames) if summary.frames else ()
+    doubts = [it for it in subject.leftovers if it.changes_answer]
+    if doubts:
+        told = f"{counted(len(doubts), 'thing')} left out of the pf.conf can change this answer"
+        yield join([tag("strong", told), "; see below."])
 
 
 def fate_points(summary: Summary) -> Iterator[Child]:

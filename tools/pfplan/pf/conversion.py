@@ -166,12 +166,7 @@ def convert_text(text: str, name: str, options: RuleOptions, records: Sequence[s
     `records` give tables their entries where the text is a rules text that was made before. Trouble where it says of
     such, and there are none.
     """
-    if marked(text) and not records:
-        raise Trouble(
-            f"{name}: a rules text whose tables get entries by records, from a file beside it: it is to be given by "
-            "its name",
-            Status.RULES,
-        )
+    _check_records(text, name, records)
     teller = Teller(options.strict)
     sources = NamedFiles(options.root)
     parsed = parse(text, name, dict(options.macros), sources)
@@ -201,6 +196,15 @@ def convert_text(text: str, name: str, options: RuleOptions, records: Sequence[s
     )  # fmt: skip
     _check_size(name, lines, ruleset, expander.settings.limits)
     return ruleset
+
+
+def _check_records(text: str, name: str, records: Sequence[str]) -> None:
+    if marked(text) and not records:
+        raise Trouble(
+            f"{name}: a rules text whose tables get entries by records, from a file beside it: it is to be given by "
+            "its name",
+            Status.RULES,
+        )
 
 
 def _by_records(lines: Sequence[str], expander: Expander, teller: Teller) -> tuple[list[str], list[str]]:

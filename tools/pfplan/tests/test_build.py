@@ -112,7 +112,7 @@ class Build(WithToolchain):
         self.assertEqual(self.asked(), ["pfsrc: all check --jobs N", "pfsrc: run -- --version"])
         self.assertRegex(
             done.err,
-            r"\Apfsrc: proves and builds 3 crates, \d+ at a time; the first time this takes 10 to 30 minutes\n"
+            r"\Apfsrc: proves and builds 3 crates, \d+ at a time; the first time this takes 15 to 40 minutes\n"
             r"pfsrc: an answer in 1 to 3 minutes, of a program that is not proved: `\./pfsrc --unproved WORD \.\.`\n"
             r"pfsrc: 1 of 3 crates, \d+ s; in work: mid \d+ s\n"
             r"pfsrc: 2 of 3 crates, \d+ s(; in work: .*)?\n"
