@@ -18,6 +18,7 @@ from typing import Protocol
 from pfplan.common.errors import Status, Trouble, reason_of
 from pfplan.common.inputs import HEADER
 from pfplan.common.repository import program
+from pfplan.plays.turns import Turns
 from pfplan.traces.records import End, read_answer
 
 PIPE = 1 << 20
@@ -64,16 +65,20 @@ class Pfsrc:
         self._rules = rules
         self._kept = kept
         self._errors = tempfile.TemporaryFile(prefix="pfplan-")  # noqa: SIM115 (closed by __exit__)
+        self._turns = Turns()
         words = [program(), "replay", "--line-buffered", str(rules), "-"]
         try:
+            self._turns.begin()
             self._process = subprocess.Popen(
                 words, stdin=subprocess.PIPE, stdout=subprocess.PIPE, stderr=self._errors, bufsize=0
             )
         except OSError as error:
+            self._turns.end()
             self._errors.close()
             raise Trouble(
                 f"{words[0]}: can't be run: {reason_of(error)} (PFSRC names the program)", Status.NOT_BUILT
             ) from None
+        self._turns.wait()
         assert self._process.stdin is not None and self._process.stdout is not None
         self._in, self._out = self._process.stdin.fileno(), self._process.stdout.fileno()
         self._most = max(1, min(_grown(self._in), _grown(self._out)) // LONGEST)
@@ -95,6 +100,7 @@ class Pfsrc:
             except BrokenPipeError:
                 pass
         self._process.wait()
+        self._turns.end()
         self._errors.close()
 
     def decide(self, texts: Sequence[str], second: str = "") -> list[str]:
@@ -132,14 +138,14 @@ class Pfsrc:
     def _read(self, count: int) -> list[str]:
         """So many lines.
 
-        The program writes line by line. To wait a little until it has written several costs less than to wake up for
-        each. (To give the processor away by sched_yield costs less still, but on a busy machine it comes back late:
-        Linux takes from who yields the rest of its turn.)
+        The program writes line by line. Where the two do not take turns on one processor, to wait a little until it
+        has written several costs less than to wake up for each. (To give the processor away by sched_yield costs less
+        still, but on a busy machine it comes back late: Linux takes from who yields the rest of its turn.)
         """
         whole = self._rest
         found = whole.count(b"\n")
         while found < count:
-            if count - found > FEW:
+            if count - found > FEW and not self._turns.is_waiting:
                 time.sleep((count - found) * SECONDS_A_LINE)
             part = os.read(self._out, (count - found) * LONGEST)
             if not part:

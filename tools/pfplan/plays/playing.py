@@ -6,6 +6,7 @@ import contextlib
 import gc
 import itertools
 import multiprocessing
+import os
 import signal
 import sys
 from collections.abc import Callable, Iterator, Mapping, Sequence
@@ -146,7 +147,9 @@ class _Sides:
     def __init__(self, most: int) -> None:
         self._most = most
         self._context = multiprocessing.get_context("fork")
-        self._going: dict[Connection, tuple[int, ForkProcess]] = {}
+        self._going: dict[Connection, tuple[int, int, ForkProcess]] = {}
+        # how many play on each processor
+        self._plays = dict.fromkeys(sorted(os.sched_getaffinity(0)), 0)
 
     def __enter__(self) -> "_Sides":
         return self
@@ -154,9 +157,9 @@ class _Sides:
     def __exit__(
         self, kind: type[BaseException] | None, error: BaseException | None, trace: TracebackType | None
     ) -> None:
-        for _, process in self._going.values():
+        for _, _, process in self._going.values():
             process.terminate()
-        for pipe, (_, process) in self._going.items():
+        for pipe, (_, _, process) in self._going.items():
             process.join(GRACE)
             if process.is_alive():
                 process.kill()
@@ -177,14 +180,16 @@ class _Sides:
 
     def _begin(self, at: int, task: Task) -> None:
         ours, theirs = self._context.Pipe(duplex=False)
-        process = self._context.Process(target=_play_there, args=(task, theirs))
-        self._going[ours] = at, process
+        processor = min(self._plays, key=self._plays.__getitem__)
+        self._plays[processor] += 1
+        process = self._context.Process(target=_play_there, args=(task, processor, theirs))
+        self._going[ours] = at, processor, process
         process.start()
         theirs.close()
 
     def _end(self, pipe: Connection) -> tuple[int, Played]:
         """What a process sends as it ends."""
-        at, process = self._going[pipe]
+        at, processor, process = self._going[pipe]
         try:
             sent = pipe.recv()
         except EOFError:
@@ -194,14 +199,17 @@ class _Sides:
             raise sent
         process.join()
         del self._going[pipe]
+        self._plays[processor] -= 1
         pipe.close()
         assert isinstance(sent, Played)
         return at, sent
 
 
-def _play_there(task: Task, pipe: Connection) -> None:
-    """A play in a process of its own: sends what came of it, or why nothing did. An interrupt, from the keyboard or as
-    the terminal goes, reaches it through the first process, which ends it."""
+def _play_there(task: Task, processor: int, pipe: Connection) -> None:
+    """A play in a process of its own, on a processor of its own while there are as many (see `Turns`): sends what came
+    of it, or why nothing did. An interrupt, from the keyboard or as the terminal goes, reaches it through the first
+    process, which ends it."""
+    os.sched_setaffinity(0, {processor})
     for it in (signal.SIGINT, signal.SIGHUP):
         signal.signal(it, signal.SIG_IGN)
     signal.signal(signal.SIGTERM, lambda number, frame: sys.exit(int(Status.INTERRUPTED)))
