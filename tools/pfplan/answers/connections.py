@@ -568,7 +568,7 @@ class Connections:
             is_without_state = flow.has_cookie and from_beginner and side is flow.proxied
             # pf's own SYN to the server, behind a handshake that it led itself
             is_own = flow.proxied is not None and from_beginner and side is not flow.proxied and is_first
-            if is_without_state or is_own or is_at_begin and place not in flow.places:
+            if is_without_state or (is_own or is_at_begin) and place not in flow.places:
                 self._refuse(pair, flow, reply, place)
             else:
                 flow.state = "cut"

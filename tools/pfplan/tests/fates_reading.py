@@ -296,7 +296,7 @@ def is_refused(packets: list[Packet]) -> bool:
     """
     refused = packets[0].word in BLOCKED
     through = [] if refused else [packets[0].place]
-    is_greeted = False
+    is_greeted = is_led = False
     for packet in packets[1:]:
         is_mine = packet.source == packets[0].source
         if packet.word == LOST:
@@ -309,7 +309,9 @@ def is_refused(packets: list[Packet]) -> bool:
                 refused = False
         if not refused and packet.word not in BLOCKED:
             through += [packet.place] if is_mine else []
-            is_greeted = is_greeted or greets(packet, packets[0])
+            # what a server says to pf before the client has answered pf is no answer
+            is_greeted = is_greeted or greets(packet, packets[0]) and (packet.word != "proxy" or is_led)
+            is_led = is_led or is_mine and is_plain_ack(packet)
     return refused
 
 
