@@ -12,6 +12,7 @@ from contextlib import ExitStack
 from dataclasses import dataclass, field
 from pathlib import Path
 
+from pfplan.answers.legs_apart import apart
 from pfplan.answers.sides import Side, follow, side_of
 from pfplan.common.errors import Status, Trouble
 from pfplan.common.networks import Network
@@ -56,17 +57,25 @@ class HeldStates:
         return self._answers.get(row)
 
     def find(self, rules: Path, trace: Path, entries: Sequence[str]) -> None:
-        """Asks the program all at once. Where the rules can't take one rule more, it stays unknown; and where they have
-        routes, as a packet that is asked would go on to its second interface, and change what is held there. Trouble as
-        the program's."""
-        if routes_of(show_rules(rules)):
+        """Asks the program all at once. It stays unknown where the rules can't take one rule more; and under routes
+        where they ask what a packet brings along from its first interface. Trouble as the program's."""
+        shown = show_rules(rules)
+        if not routes_of(shown):
+            self._ask(rules.read_bytes(), trace, entries, lambda row: row)
             return
+        # A packet that is asked would go on to its second interface, and change what is held there.
+        with apart(rules, shown, trace, entries) as legs:
+            if legs is not None:
+                self._ask(legs.rules, legs.trace, entries, legs.row)
+
+    def _ask(self, rules: bytes, trace: Path, entries: Sequence[str], row_of: Callable[[int], int]) -> None:
+        """The same of rules without routes; the row of a question is this one of the trace."""
         interface = _free_name(rules, trace)
         questions = sorted(self._questions.items())
-        before = {row: it.packets(interface) for row, it in questions}
+        before = {row_of(row): it.packets(interface) for row, it in questions}
         with ExitStack() as stack:
             text = stack.enter_context(tempfile.NamedTemporaryFile(prefix="pfplan-"))
-            text.write(f"block quick on {interface} all\n".encode() + rules.read_bytes())
+            text.write(f"block quick on {interface} all\n".encode() + rules)
             text.flush()
             asked = stack.enter_context(asking(trace, 0, entries, before))
             heard = _Answers(Path(text.name), ())
@@ -96,11 +105,10 @@ class _Answers(Heard):
         self.are_held += [it.split(" ")[1] in ("state", "proxy") for it in lines if " add - " not in it]
 
 
-def _free_name(rules: Path, trace: Path) -> str:
+def _free_name(text: bytes, trace: Path) -> str:
     """A name of an interface that neither the rules nor the trace have."""
     number = 0
     name = b"ask0"
-    text = rules.read_bytes()
     with open(trace, "rb") as file:
         last = b""
         while block := file.read(_BLOCK):

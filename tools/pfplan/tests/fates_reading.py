@@ -296,7 +296,7 @@ def is_refused(packets: list[Packet]) -> bool:
     """
     refused = packets[0].word in BLOCKED
     through = [] if refused else [packets[0].place]
-    is_greeted = is_led = False
+    is_greeted, asking = False, packets[0] if packets[0].is_answered_by_pf() else None
     for packet in packets[1:]:
         is_mine = packet.source == packets[0].source
         if packet.word == LOST:
@@ -309,10 +309,18 @@ def is_refused(packets: list[Packet]) -> bool:
                 refused = False
         if not refused and packet.word not in BLOCKED:
             through += [packet.place] if is_mine else []
-            # what a server says to pf before the client has answered pf is no answer
-            is_greeted = is_greeted or greets(packet, packets[0]) and (packet.word != "proxy" or is_led)
-            is_led = is_led or is_mine and is_plain_ack(packet)
+            is_greeted = is_greeted or asking is None and greets(packet, packets[0])
+            asking = packet if is_mine and packet.is_answered_by_pf() else still_asking(asking, packet)
     return refused
+
+
+def still_asking(syn: Packet | None, packet: Packet) -> Packet | None:
+    """The SYN that pf has answered itself, while its client has not answered pf and its state is not gone. What a
+    server says until then is no answer to it."""
+    if syn is None or packet.source == syn.source and is_plain_ack(packet):
+        return None
+    is_gone = packet.way() == syn.way() and packet.word not in ("state", "proxy", "cookie", REDEEMED, LOST, *BLOCKED)
+    return None if is_gone else syn
 
 
 def greets(packet: Packet, first: Packet) -> bool:

@@ -12,6 +12,7 @@ from collections import Counter
 from collections.abc import Iterator
 from pathlib import Path
 
+from pfplan.answers.connections import Key
 from pfplan.answers.held_states import states_held
 from pfplan.answers.measures import measure
 from pfplan.answers.sides import follow, side_of
@@ -135,12 +136,15 @@ class Drawer:
         repeated = self.random.randint(1, 3) if self.chance(0.3) else 0
         for at, (ends, flags) in enumerate([(there, "S")] * repeated + steps):
             moment += self.random.choice((1, 2, 4, 8, 300)) if at < repeated else self.random.choice((0, 0, 1, 1, 3))
-            direction, interface = ("in", "em0") if (ends is there) != is_out else ("out", "em0")
-            hops = [(direction, interface)]
-            if is_forwarded:
-                hops = [("in", "em0"), ("out", "em1")] if ends is there else [("in", "em1"), ("out", "em0")]
+            hops = self.hops(ends, ends is there, is_forwarded, is_out)
             for hop in hops:
                 yield moment, f"{moment},{','.join(hop)},{protocol},{ends},{flags if protocol == 'tcp' else ''}"
+
+    def hops(self, ends: str, is_there: bool, is_forwarded: bool, is_out: bool) -> list[tuple[str, str]]:
+        """Where a packet between these ends has a record: its directions and interfaces."""
+        if is_forwarded:
+            return [("in", "em0"), ("out", "em1")] if is_there else [("in", "em1"), ("out", "em0")]
+        return [("in" if is_there != is_out else "out", "em0")]
 
     def addresses(self) -> tuple[str, str]:
         """Who begins a connection, and the other end: a user, somebody else, or a server; of either family."""
@@ -159,7 +163,47 @@ class Drawer:
         return f"00{port}" if self.chance(0.2) else port
 
 
-class Fates(FolderCase):
+def drawn(drawer: Drawer, seed: int, profile: Profile) -> tuple[str, dict[str, str], list[str], list[str]]:
+    """A rules text, its rules that flush, the records of a trace, and the networks of users."""
+    text, flushes = drawer.ruleset()
+    text = "".join(f"{it}\n" for it in profile.lines()) + text
+    if seed % 4 == 1:
+        text = re.sub("keep state", lambda _: drawer.random.choice(("keep state", "synproxy state")), text)
+    if seed % 8 in (3, 5):
+        text += drawer.random.choice(("set syncookies always\n", "set syncookies adaptive (start 1%, end 0%)\n"))
+    records = drawer.with_kills(drawer.trace(), seed)
+    return text, flushes, records, drawer.random.choice(USERS)
+
+
+class FatesCase(FolderCase):
+    """Replays, and what pfplan says of their connections."""
+
+    def replay(self, rules: Path, records: list[str], report: Path) -> list[str]:
+        """The lines of the report of some records."""
+        run_replay(Replay(rules, self.trace(records, f"{report.name}.trace"), report))
+        return report.read_text("latin-1").splitlines()
+
+    def texts(self, rules: Path, records: list[str]) -> list[str]:
+        """What a replay of its own answers to some records."""
+        return [it.partition(" ")[2] for it in self.replay(rules, records, self.folder / "asked")[:-1]]
+
+    def fates(self, rules: Path, trace: Path, lines: list[str], users: list[str]) -> list[tuple[Key, int, str]]:
+        """Each connection, the row of its first packet, and its fate."""
+        found: list[tuple[Key, int, str]] = []
+        named, told = networks(",".join(users)), flushes_of(show_rules(rules))
+        side = side_of(
+            "rules",
+            iter(lines),
+            named,
+            lambda key, row, fate: found.append((key, row, fate)),
+            flushes=told,
+            holding=states_held(rules, trace, named, told, []),
+        )
+        follow(trace, [side], named)
+        return sorted(found)
+
+
+class Fates(FatesCase):
     """Fates of drawn connections."""
 
     def test_drawn(self) -> None:
@@ -199,35 +243,17 @@ class Fates(FolderCase):
 
     def check(self, seed: int) -> list[str]:
         """One ruleset with one trace. Answers the fates."""
-        drawer = Drawer(seed)
-        text, flushes = drawer.ruleset()
         profile = Profile.OPENBSD if seed % 2 else Profile.OWN
-        text = "".join(f"{it}\n" for it in profile.lines()) + text
-        if seed % 4 == 1:
-            text = re.sub("keep state", lambda _: drawer.random.choice(("keep state", "synproxy state")), text)
-        if seed % 8 in (3, 5):
-            text += drawer.random.choice(("set syncookies always\n", "set syncookies adaptive (start 1%, end 0%)\n"))
-        records = drawer.with_kills(drawer.trace(), seed)
-        users = drawer.random.choice(USERS)
+        text, flushes, records, users = drawn(Drawer(seed), seed, profile)
         rules, trace, report = self.write("rules", text), self.trace(records), self.folder / "report"
         lines = self.replay(rules, records, report)
         reading = Reading(users, flushes, lambda some: self.texts(rules, some), profile is Profile.OPENBSD)
         wanted = reading.read(records, [it.partition(" ")[2] for it in lines[:-1]])
-        found: list[tuple[tuple[str, ...], int, str]] = []
+        found = self.fates(rules, trace, lines, users)
         named = networks(",".join(users))
-        told = flushes_of(show_rules(rules))
-        side = side_of(
-            "rules",
-            iter(lines),
-            named,
-            lambda key, row, fate: found.append((key, row, fate)),
-            flushes=told,
-            holding=states_held(rules, trace, named, told, []),
-        )
-        follow(trace, [side], networks(",".join(users)))
         shown = "\n".join([text, *(f"{record}   {line}" for record, line in zip(records, lines, strict=False))])
-        self.assertEqual(sorted(found), wanted, shown)
-        counted = summarize(report, Wanted(trace, networks(",".join(users)), rules)).users
+        self.assertEqual(found, wanted, shown)
+        counted = summarize(report, Wanted(trace, named, rules)).users
         assert counted is not None
         self.assertEqual(
             {kind: number for kind, number in counted.outcomes.items() if number},
@@ -238,15 +264,6 @@ class Fates(FolderCase):
         measured = measure(rules, trace, named, 0)
         self.assertEqual(measured.outcomes, counted.outcomes, shown)
         return [fate for _, _, fate in wanted]
-
-    def replay(self, rules: Path, records: list[str], report: Path) -> list[str]:
-        """The lines of the report of some records."""
-        run_replay(Replay(rules, self.trace(records, f"{report.name}.trace"), report))
-        return report.read_text("latin-1").splitlines()
-
-    def texts(self, rules: Path, records: list[str]) -> list[str]:
-        """What a replay of its own answers to some records."""
-        return [it.partition(" ")[2] for it in self.replay(rules, records, self.folder / "asked")[:-1]]
 
 
 if __name__ == "__main__":
