@@ -302,12 +302,15 @@ class Routed(FolderCase):
             seen |= {*one.answers.by_rule}
         self.assertLessEqual({"new", "state", "block", "drop:max", "drop:max-src-states", "kill:max-src-conn"}, seen)
 
-    def test_held_states_are_not_asked(self) -> None:
-        """A packet that is asked would go on to its second interface: which states are held stays unknown."""
+    def test_held_states_are_asked_apart(self) -> None:
+        """Both states of a forwarded packet are held, and no other; a packet that is asked goes on to no interface."""
+        call = forwarded(0, "198.51.100.7,1000", "192.0.2.9,80", True, "S")[0]
+        records, ends = [call, own_packet(1)], "tcp,198.51.100.7,1000,192.0.2.9,80"
+        states = [f"in,{ends}", f"out,{ends}", "in,tcp,198.51.100.7,1,192.0.2.9,80"]
         holding = HeldStates()
-        self.assertIsNone(holding.held(1, 0, ["in,tcp,198.51.100.7,1,192.0.2.9,80"]))
-        holding.find(self.rules, self.trace(own_packet(0).splitlines()), ())
-        self.assertIsNone(holding.held(1, 0, ["in,tcp,198.51.100.7,1,192.0.2.9,80"]))
+        self.assertIsNone(holding.held(2, 1, states))
+        holding.find(self.rules, self.trace(records), ())
+        self.assertEqual(holding.held(2, 1, states), frozenset(states[:2]))
 
 
 CONF = """block
