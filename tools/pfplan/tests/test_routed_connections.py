@@ -90,6 +90,17 @@ class RoutedFates(FatesCase):
         with apart(rules, show_rules(rules), trace, ()) as found:
             self.assertIsNone(found)
 
+    def test_a_row_is_that_of_its_last_leg(self) -> None:
+        """A kill on the way out is asked about behind what the packet did where it came in."""
+        rules = self.write("rules", f"set profile openbsd-7.4\n{TEXT}pass in\npass out\n")
+        ends = "tcp,198.51.100.1,1000,192.0.2.1,80"
+        records = [f"1,in,em0,{ends},S", "2,kill,,,198.51.100.1,,,,", f"3,in,em0,{ends},S"]
+        with apart(rules, show_rules(rules), self.trace(records), ()) as found:
+            assert found is not None
+            self.assertEqual([found.row(it) for it in (1, 2, 3)], [2, 3, 5])
+            way = f"1,in,em0,{ends},S\n1,out,em1,{ends},S\n2,kill"
+            self.assertIn(way, found.trace.read_text("latin-1"))
+
     def check(self, seed: int) -> list[str]:
         """One ruleset with one trace. Answers the fates."""
         text, flushes, records, users = drawn(RoutedDrawer(seed), seed, Profile.OPENBSD)
