@@ -9,7 +9,7 @@ from pathlib import Path
 from typing import Any
 
 from pfplan.answers.connections import Key
-from pfplan.answers.doubts import of_interfaces, of_routes, of_tags, of_translation, of_users
+from pfplan.answers.doubts import of_interfaces, of_kills, of_routes, of_tags, of_translation, of_users
 from pfplan.answers.held_states import states_held
 from pfplan.answers.measures import Measure, measure_of, most_of
 from pfplan.answers.sides import Side, follow, side_of
@@ -297,6 +297,7 @@ def compare(
     )
     routes = [it.routes for it in flushes]
     found.doubts = [*of_routes(names, routes), *_doubts(names, rules, routes, interfaces_in(trace))]
+    found.doubts += [f"{name}: {why}" for name, it in zip(names, measures) for why in of_kills(it.kills_guessed)]
     found.doubts += of_users(users, measures[0].connections)
     return found
 

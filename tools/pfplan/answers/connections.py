@@ -327,6 +327,7 @@ class Connections:
         self._most_open = most_open
         self._most = 2 * remembered
         self.forgotten = 0  # those that were open
+        self.kills_guessed = 0  # kills of which it is a guess which states they took
         self.last = 0  # the moment of the last record so far, of users or not
 
     @property
@@ -653,6 +654,7 @@ class Connections:
             held = self._holding.held(row, moment, asked)
             if held is not None:
                 return [asked[it] for it in held if it in asked]
+        self.kills_guessed += 1
         return sorted(flushed, key=lambda it: -it.pair.flow.seen if it.pair.flow else 0)[:count]
 
     def _end(self, pair: _Pair) -> None:

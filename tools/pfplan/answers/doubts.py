@@ -92,6 +92,16 @@ def of_users(users: str, connections: int) -> list[str]:
     return [] if connections or not users else [f"no connection of the users {users} is in the trace"]
 
 
+def of_kills(guessed: int) -> list[str]:
+    """That of so many kills it is a guess which states they took."""
+    if not guessed:
+        return []
+    return [
+        f"before {counted(guessed, 'kill')} it is not known which states of the source had run out: those quiet the "
+        "longest are taken to have, so another connection of that source may be told as killed or removed, and not more"
+    ]
+
+
 def of_directions(items: Sequence[str], begun: Mapping[tuple[str, str], int]) -> list[str]:
     """That inside and outside look swapped: most connections of users, by direction and port, go the way in which no
     rule is of their port, while a rule of the other way is."""

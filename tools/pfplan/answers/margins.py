@@ -8,7 +8,7 @@ from pathlib import Path
 from typing import Any
 
 from pfplan.answers.changed_rules import ADAPTIVE, Kind, Number, RulesText
-from pfplan.answers.doubts import of_replay, of_users
+from pfplan.answers.doubts import of_kills, of_replay, of_users
 from pfplan.answers.measures import Measure, from_json
 from pfplan.answers.plays_measured import Subject, users_text
 from pfplan.answers.sizes import serves
@@ -213,4 +213,5 @@ def measure_margins(
         for it, measure in zip(moves, moved)
     )
     doubts = of_replay(text.items(), trace, subject.scenario, text.routes) + of_users(who, base.connections)
+    doubts += of_kills(max(it.kills_guessed for it in [base, *moved]))
     return Margins(names[0], who, want, base, margins, doubts)

@@ -54,6 +54,7 @@ class Measure:
     end: End = End(0, 0, 0, 0)
     most_held: int | None = None
     refused: str = ""
+    kills_guessed: int = 0  # kills of which it is a guess which states they took
 
     @property
     def connections(self) -> int:
@@ -110,6 +111,7 @@ def measure_of(side: Side, most_held: int | None = None) -> Measure:
         refused_by={it: connections.refused_by[it] for it in WORDS if connections.refused_by[it]},
         end=answers.end or End(answers.rows, 0, 0, 0),
         most_held=most_held,
+        kills_guessed=connections.kills_guessed,
     )
 
 

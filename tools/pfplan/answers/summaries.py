@@ -11,6 +11,7 @@ from pfplan.answers.doubts import (
     of_directions,
     of_frames,
     of_interfaces,
+    of_kills,
     of_tags,
     of_translation,
     of_users,
@@ -251,6 +252,7 @@ def summary_of(answers: Answers, moments: Moments | None, shown: list[str], want
         _hold_beside_rules(summary, moments, shown, wanted)
     if summary.users:
         summary.doubts += of_users(summary.users.of, summary.users.connections)
+        summary.doubts += of_kills(moments.connections.kills_guessed) if rules else []
     return summary
 
 

@@ -11,7 +11,7 @@ from fractions import Fraction
 from pathlib import Path
 
 from pfplan.answers.changed_rules import RulesText
-from pfplan.answers.doubts import of_replay
+from pfplan.answers.doubts import of_kills, of_replay
 from pfplan.answers.maps import map_of
 from pfplan.answers.measures import Measure
 from pfplan.answers.plays_measured import Subject
@@ -105,12 +105,19 @@ def run(arguments: argparse.Namespace) -> int:
         name, users = arguments.trace.name, arguments.users
         wanted = Wanted(name, users, arguments.want, arguments.grid, arguments.runs, arguments.held)
         if len(arguments.vary) == 2:
-            border = replace(map_of(arguments.vary, subject, trace, where, entries, wanted), doubts=doubts)
+            border = map_of(arguments.vary, subject, trace, where, entries, wanted)
+            border = replace(border, doubts=[*doubts, *_of_kills(border.measures.values())])
             _check_connections(arguments.trace, border.users, border.measures.values(), "")
             return write_answer(arguments, border, map_texts.text_of, map_texts.page_of)
-        found = replace(size(arguments.vary[0], subject, trace, where, entries, wanted), doubts=doubts)
+        found = size(arguments.vary[0], subject, trace, where, entries, wanted)
+    found = replace(found, doubts=[*doubts, *_of_kills(found.measures.values())])
     _check_connections(arguments.trace, found.users, found.measures.values(), "; --users names their networks")
     return write_answer(arguments, found, size_texts.text_of, size_texts.page_of)
+
+
+def _of_kills(measures: Iterable[Measure]) -> list[str]:
+    """The doubt of whom kills took, of the run with the most such kills."""
+    return of_kills(max((it.kills_guessed for it in measures), default=0))
 
 
 def _check_connections(trace: Path, users: str, measures: Iterable[Measure], more: str) -> None:

@@ -9,6 +9,7 @@ from pfplan.answers.doubts import (
     of_directions,
     of_frames,
     of_interfaces,
+    of_kills,
     of_profiles,
     of_tags,
     of_translated_play,
@@ -84,6 +85,11 @@ class Pages(FolderCase):
     def test_entries_that_are_missing(self) -> None:
         rules = self.write("pf.conf", "pass in on em0 from any to (egress)\npass in on em0\n")
         self.check("missing that the rules need", "run", rules, self.trace(RECORDS), *USERS, text="summary.txt")
+
+    def test_kills(self) -> None:
+        self.assertEqual(of_kills(0), [])
+        (told,) = of_kills(2)
+        self.assertIn("before 2 kills it is not known which states of the source had run out", told)
 
     def test_tags_without_routes(self) -> None:
         """No route says where a packet came in that is seen on its way out, so rules do not know what it got there."""

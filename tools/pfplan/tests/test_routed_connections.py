@@ -10,7 +10,10 @@ import os
 import unittest
 from collections import Counter
 
+from pfplan.answers.comparisons import Asked, compare
+from pfplan.answers.doubts import of_kills
 from pfplan.answers.legs_apart import apart
+from pfplan.answers.measures import measure
 from pfplan.answers.summaries import Wanted, summarize
 from pfplan.commands.words import networks
 from pfplan.pf.profiles import Profile
@@ -25,6 +28,8 @@ ROUTES = {
     "192.0.2.0/24": "em1",
     "2001:db8:f::/64": "em1",
 }
+# Seeds, and of how many kills of each it has to be asked which states were held.
+KILLS = {6: 2, 128: 1}
 # the rule of TCP packets that leave
 OUT = "pass out proto tcp"
 TEXT = f"set route {{ {', '.join(f'{prefix} {name}' for prefix, name in ROUTES.items())} }}\n"
@@ -78,8 +83,8 @@ class RoutedFates(FatesCase):
             self.assertGreaterEqual({*seen}, {"served", "unanswered", "refused", "killed", "cut", "removed", "late"})
 
     def test_who_was_killed_is_known(self) -> None:
-        """Which states had run out before a kill by an administrator, where others of the source were quiet longer."""
-        for seed in (96, 126):
+        """Which states had run out before a kill, where others of the source were quiet longer: a guess differs."""
+        for seed in KILLS:
             with self.subTest(seed=seed):
                 self.check(seed)
 
@@ -89,6 +94,22 @@ class RoutedFates(FatesCase):
         trace = self.trace(["1,in,em0,tcp,198.51.100.1,1000,192.0.2.1,80,S"])
         with apart(rules, show_rules(rules), trace, ()) as found:
             self.assertIsNone(found)
+
+    def test_a_guess_is_told(self) -> None:
+        """The same kills are a guess where a rule gives a tag: that is said first."""
+        for seed, kills in KILLS.items():
+            text, _, records, given = drawn(RoutedDrawer(seed), seed, Profile.OPENBSD)
+            trace, users = self.trace(records), networks(",".join(given))
+            for rule, guessed in (("", 0), ("pass in on none0 tag A\n", kills)):
+                with self.subTest(seed=seed, rule=rule):
+                    rules, report = self.write("rules", f"{text}{TEXT}{rule}"), self.folder / "report"
+                    self.replay(rules, records, report)
+                    self.assertEqual(measure(rules, trace, users, 0).kills_guessed, guessed)
+                    doubts = summarize(report, Wanted(trace, users, rules)).doubts
+                    self.assertEqual([it for it in doubts if "had run out" in it], of_kills(guessed))
+                    doubts = compare(["one", "two"], [rules, rules], trace, [(), ()], Asked(users)).doubts
+                    told = [f"{name}: {it}" for name in ("one", "two") for it in of_kills(guessed)]
+                    self.assertEqual([it for it in doubts if "had run out" in it], told)
 
     def test_a_row_is_that_of_its_last_leg(self) -> None:
         """A kill on the way out is asked about behind what the packet did where it came in."""
