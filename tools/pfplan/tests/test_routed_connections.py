@@ -6,6 +6,7 @@ outcomes. PFPLAN_DRAWN says how many are drawn (60), PFPLAN_SEED which is the fi
 """
 
 import ipaddress
+import json
 import os
 import unittest
 from collections import Counter
@@ -19,6 +20,7 @@ from pfplan.commands.words import networks
 from pfplan.pf.profiles import Profile
 from pfplan.replays.runs import show_rules
 from pfplan.tests.fates_reading import Reading
+from pfplan.tests.support import pfplan
 from pfplan.tests.test_connections import Drawer, FatesCase, drawn
 
 ROUTES = {
@@ -110,6 +112,16 @@ class RoutedFates(FatesCase):
                     doubts = compare(["one", "two"], [rules, rules], trace, [(), ()], Asked(users)).doubts
                     told = [f"{name}: {it}" for name in ("one", "two") for it in of_kills(guessed)]
                     self.assertEqual([it for it in doubts if "had run out" in it], told)
+
+    def test_commands_tell_a_guess(self) -> None:
+        """Those that replay under changed rules too."""
+        text, _, records, given = drawn(RoutedDrawer(128), 128, Profile.OPENBSD)
+        rules, trace = self.write("rules", f"{text}{TEXT}pass in on none0 tag A\n"), self.trace(records)
+        for words in (("margins",), ("size", "--vary", "tcp.first=60..120", "--grid", 2, "--runs", 2)):
+            with self.subTest(words[0]):
+                done = pfplan(*words, rules, trace, "--users", ",".join(given), "--json")
+                self.assertEqual(done.status, 0, done.err)
+                self.assertEqual([it for it in json.loads(done.out)["doubts"] if "had run out" in it], of_kills(1))
 
     def test_a_row_is_that_of_its_last_leg(self) -> None:
         """A kill on the way out is asked about behind what the packet did where it came in."""
