@@ -61,7 +61,7 @@ class Pfsrc:
     """The program as a firewall. Leaving it ends the program."""
 
     def __init__(self, rules: Path, kept: PlayFiles) -> None:
-        """Trouble with status 70 where the program can't be run."""
+        """Trouble with status 70 where the program can't be run, and as its own where it ends at once."""
         self._rules = rules
         self._kept = kept
         self._errors = tempfile.TemporaryFile(prefix="pfplan-")  # noqa: SIM115 (closed by __exit__)
@@ -83,7 +83,11 @@ class Pfsrc:
         self._in, self._out = self._process.stdin.fileno(), self._process.stdout.fileno()
         self._most = max(1, min(_grown(self._in), _grown(self._out)) // LONGEST)
         self._rest = b""
-        self._write(f"{HEADER}\n".encode())
+        try:
+            self._write(f"{HEADER}\n".encode())
+        except Trouble:
+            self._leave()
+            raise
 
     def __enter__(self) -> "Pfsrc":
         return self
@@ -91,6 +95,10 @@ class Pfsrc:
     def __exit__(
         self, kind: type[BaseException] | None, error: BaseException | None, trace: TracebackType | None
     ) -> None:
+        self._leave()
+
+    def _leave(self) -> None:
+        """Ends the program, and goes on as before it."""
         assert self._process.stdin is not None and self._process.stdout is not None
         if self._process.poll() is None:
             self._process.terminate()

@@ -71,6 +71,15 @@ class TestTurns(unittest.TestCase):
                 os.environ["PFSRC"] = before
         self.assertEqual(told(), self.before)
 
+    def test_a_program_that_ends_at_once_leaves_them_too(self) -> None:
+        with tempfile.TemporaryDirectory() as name:
+            rules = Path(name, "rules")
+            rules.write_text("no rule\n", "utf-8")
+            with mock.patch("pfplan.plays.firewalls.os.write", side_effect=BrokenPipeError):
+                with self.assertRaisesRegex(Trouble, "line 1"):
+                    Pfsrc(rules, PlayFiles())
+        self.assertEqual(told(), self.before)
+
     def test_plays_side_by_side_have_a_processor_each(self) -> None:
         with mock.patch("pfplan.plays.playing.play", play_nothing):
             found = [it.last for it in play_all([NOTHING] * 4, 2)]
