@@ -64,7 +64,7 @@ class Pfsrc:
         """Trouble with status 70 where the program can't be run, and as its own where it ends at once."""
         self._rules = rules
         self._kept = kept
-        self._errors = tempfile.TemporaryFile(prefix="pfplan-")  # noqa: SIM115 (closed by __exit__)
+        self._errors = tempfile.TemporaryFile(prefix="pfplan-")  # noqa: SIM115 (closed by _leave)
         self._turns = Turns()
         words = [program(), "replay", "--line-buffered", str(rules), "-"]
         try:
@@ -85,7 +85,7 @@ class Pfsrc:
         self._rest = b""
         try:
             self._write(f"{HEADER}\n".encode())
-        except Trouble:
+        except BaseException:
             self._leave()
             raise
 
