@@ -7,6 +7,7 @@ use crate::pieces::push_not;
 use pfs_addr_values::NoMemory;
 use pfs_conf_values::{Came, Interface, TagName, Tagged};
 
+/// Appends what a rule says of tags and of how a packet came: `tag`, `tagged` and `received-on`, each behind a space.
 pub fn push_extras(out: &mut Vec<u8>, tag: Option<TagName>, came: Came) -> Result<(), NoMemory>
     ensures { OnOk result (out.new.items ≡ out.old.items ++ extras_text tag came) }
 {

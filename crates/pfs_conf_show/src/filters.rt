@@ -10,6 +10,7 @@ use pfs_addr_values::{Dir, NoMemory, Proto};
 use pfs_conf_values::{Config, Family, Filter, FlagTest, Host, Interface, Ports, Side, TableNo};
 use pfs_numbers::push_number;
 
+/// Appends what a rule or an anchor asks of a packet, from its direction to its flags, and `quick`, each word behind a space.
 pub fn push_parameters(
     out: &mut Vec<u8>,
     config: &Config,
@@ -135,6 +136,7 @@ fn push_host(out: &mut Vec<u8>, config: &Config, host: Host<TableNo>) -> Result<
     }
 }
 
+/// Appends ` port ` with a port or a range, where ports are asked for.
 pub fn push_ports(out: &mut Vec<u8>, ports: Option<Ports>) -> Result<(), NoMemory>
     ensures { OnOk result (out.new.items ≡ out.old.items ++ ports_text ports) }
 {

@@ -1,4 +1,6 @@
 //! The canonical text of a configuration: one text for each, that reads as the same configuration again.
+//!
+//! Each `push_..` appends to a text, for which it takes memory. `NoMemory` where that was refused; the text may then have a part of it.
 #![tactic(auto)]
 
 mod extras;

@@ -13,6 +13,7 @@ use pfs_addr_values::NoMemory;
 use pfs_conf_values::{Action, Config, Overload, Rate, RuleTimeouts, Scope, StateOptions};
 use pfs_numbers::push_number;
 
+/// Appends the end of a rule: how it keeps state, with its options, or ` no state`. Nothing for `match` and `block`.
 pub fn push_state(out: &mut Vec<u8>, config: &Config, action: &Action) -> Result<(), NoMemory>
     ensures { OnOk result (out.new.items ≡ out.old.items ++ state_text config.now.tables action.now) }
 {

@@ -8,6 +8,7 @@ use pfs_addr::push_addr;
 use pfs_addr_values::{NoMemory, Prefix};
 use pfs_numbers::push_number;
 
+/// Appends a word, a space, and a number in decimal.
 pub fn push_worded(out: &mut Vec<u8>, word: &[u8], n: u64) -> Result<(), NoMemory>
     ensures { OnOk result (out.new.items ≡ out.old.items ++ word_and_number word.now n) }
 {
@@ -17,6 +18,7 @@ pub fn push_worded(out: &mut Vec<u8>, word: &[u8], n: u64) -> Result<(), NoMemor
     Ok(())
 }
 
+/// Appends `!`, where what follows is negated.
 pub fn push_not(out: &mut Vec<u8>, negated: bool) -> Result<(), NoMemory>
     ensures { OnOk result (out.new.items ≡ out.old.items ++ not_text negated) }
 {
@@ -26,6 +28,7 @@ pub fn push_not(out: &mut Vec<u8>, negated: bool) -> Result<(), NoMemory>
     Ok(())
 }
 
+/// Appends a prefix: its address, and where not all bits of that count, a slash and how many do.
 pub fn push_prefix(out: &mut Vec<u8>, prefix: Prefix) -> Result<(), NoMemory>
     ensures { OnOk result (out.new.items ≡ out.old.items ++ prefix_text prefix) }
 {

@@ -54,6 +54,7 @@ pub fn timeout_word(name: TimeoutName) -> &'static [u8]
     }
 }
 
+/// Appends the line of `set limit`, with every limit.
 pub fn push_limits(out: &mut Vec<u8>, config: &Config) -> Result<(), NoMemory>
     ensures { OnOk result (out.new.items ≡ out.old.items ++ limits_text config.now.limits) }
 {
@@ -77,6 +78,7 @@ fn push_limit_list(out: &mut Vec<u8>, config: &Config) -> Result<(), NoMemory>
     )
 }
 
+/// Appends the line of `set timeout`, with every timeout.
 pub fn push_timeouts(out: &mut Vec<u8>, config: &Config) -> Result<(), NoMemory>
     ensures { OnOk result (out.new.items ≡ out.old.items ++ timeouts_text config.now.timeouts) }
 {
@@ -98,6 +100,7 @@ fn push_timeout_list(out: &mut Vec<u8>, config: &Config) -> Result<(), NoMemory>
     Ok(())
 }
 
+/// Appends the line of `set profile`. Nothing for the profile that holds without one.
 pub fn push_profile(out: &mut Vec<u8>, profile: Profile) -> Result<(), NoMemory>
     ensures { OnOk result (out.new.items ≡ out.old.items ++ profile_text profile) }
 {
@@ -110,6 +113,7 @@ pub fn push_profile(out: &mut Vec<u8>, profile: Profile) -> Result<(), NoMemory>
     }
 }
 
+/// Appends the line of `set syncookies`. Nothing where pf sends none.
 pub fn push_syncookies(out: &mut Vec<u8>, syncookies: Syncookies) -> Result<(), NoMemory>
     ensures { OnOk result (out.new.items ≡ out.old.items ++ syncookies_text syncookies) }
 {

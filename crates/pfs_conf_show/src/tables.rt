@@ -9,6 +9,7 @@ use crate::pieces::{push_closing, push_not, push_prefix, push_separator};
 use pfs_addr_values::{NoMemory, Prefix};
 use pfs_conf_values::{Config, Entries, TableDef, TableName, TableNo};
 
+/// Appends a line for each table, in the order of the text.
 pub fn push_tables(out: &mut Vec<u8>, config: &Config) -> Result<(), NoMemory>
     ensures { OnOk result (out.new.items ≡ out.old.items ++ flat_map table_text config.now.tables) }
 {

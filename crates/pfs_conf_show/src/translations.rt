@@ -9,6 +9,7 @@ use pfs_addr_values::NoMemory;
 use pfs_conf_values::{NatPorts, NatTo, RdrTo, Translation};
 use pfs_numbers::push_number;
 
+/// Appends `nat-to` and `rdr-to` of a rule, each behind a space, where it has them.
 pub fn push_translation(out: &mut Vec<u8>, translation: Translation) -> Result<(), NoMemory>
     ensures { OnOk result (out.new.items ≡ out.old.items ++ translation_text translation) }
 {

@@ -114,6 +114,7 @@ impl<S: Store> EngineContents<S> {
     }
 
     /// The state of a packet: of one that goes out from inside, that which has its key there; of others, that which has it on the wire.
+    #[inline(always)]
     pub(crate) fn find(&self, packet: &Packet) -> Option<StateHandle>
         ensures number { option_map (λ f. f.number) result ≡ option_map state_number (state_for self.now.held.world packet.now) }
         ensures rule { option_map (λ f. f.rule) result ≡ option_map state_rule (state_for self.now.held.world packet.now) }

@@ -351,6 +351,7 @@ impl<S: Store> Engine<S> {
     /// and nothing else has changed, but that a state has left which the packet does not meet, or that SYN cookies are on. All else
     /// takes no memory. (pf.conf(5), STATEFUL FILTERING and STATEFUL TRACKING OPTIONS;
     /// pfctl(8), "-T", "-k" and "-si")
+    #[inline(always)]
     #[tactic(auto, unfolding(pfs_engine_machine::specs::Machine::step))]
     pub fn step(&mut self, event: &Event) -> Result<Outcome, NoMemory>
         requires order { ForSome self.old.machine.last (λ m. m ≤ event.now.time) }

@@ -51,6 +51,7 @@ impl Meters {
 /// What a packet does: it gets a cookie, or it is one of a held state, or the rules decide on it, or on the SYN whose cookie it
 /// brings. `going` becomes the packet as it goes on, where it does, and there are routes. On an error what it meets is held, behind the guard that it meets.
 /// (pf.conf(5), STATEFUL FILTERING)
+#[inline(always)]
 pub(crate) fn answer_behind_guard<S: Store>(
     guard: &mut EngineGuard,
     held: &mut EngineContents<S>,

@@ -13,7 +13,9 @@ use crate::guard::EngineGuard;
 use crate::works::Work;
 use pfs_store_contract::{Purged, Store};
 
-/// All seconds due between the last moment and this one; none before the first event. It takes no memory.
+/// All seconds due between the last moment and this one; none before the first event. It takes no memory. Inlined: each record asks it,
+/// and mostly nothing is due.
+#[inline(always)]
 #[tactic(auto, using(crate::proofs::Due::none_due))]
 pub(crate) fn pass_due<S: Store>(
     guard: &mut EngineGuard,
